@@ -1,0 +1,3 @@
+-- A track's kind and its length size, L.
+pub mod Kinds
+pub mod Sizes

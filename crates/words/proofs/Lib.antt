@@ -1,0 +1,18 @@
+-- The laws of the words, each once, and the set of rules that tactics share.
+--
+--   Tests       tests from facts (`search tests`), cases of a computed value
+--   Refusals    chains of refusals taken apart and built; the first refusal of a list
+--   Lists       membership, order, joined lists
+--   Walks       entries of a table, and the place after them
+--   Positions   what stands in a list from a place on
+--   Bytes       numbers read and written, for any width
+--   Splices     parts and cuts of a list in which a part is replaced
+--   Buffers     written bytes
+pub mod Tests
+pub mod Refusals
+pub mod Lists
+pub mod Walks
+pub mod Positions
+pub mod Bytes
+pub mod Splices
+pub mod Buffers

@@ -1,0 +1,105 @@
+-- Chains of refusals taken apart and built, and the first refusal of a list. Assumes nothing.
+--
+--   if-none, if-some          a test that named a refusal: it failed where there is none; it held where there is one
+--   orElse-none               a chain without a refusal: none in either part
+--   orElse-here, orElse-on    by a function's result: its refusal is the chain's, or the chain goes on
+--   at-ok, at-refused         a number at a place, as a verdict
+--   and-ok                    a verdict and an answer that is no refusal
+--   by-verdict                cases of a verdict, with the equation
+--   firstOf-none, -cong, -map     the first refusal number of a list
+--   first-ok, first-cong      the first refusal of a list
+--   ok-same, ok-refused       two answers that are equal
+use Prim.Native.Nat.{ℕ, zero, suc}
+use mathlib.Core.Path.{_≡_, refl, ap, ap₂, sym, _∙_}
+use mathlib.Core.List.{List, [], _∷_, map, List·Memᴰ, List·Memᴰ·head, List·Memᴰ·tail, List·Memᴰ·not-nil, List·Memᴰ·cases-cons}
+use mathlib.Core.Bool.{Bool, true, false}
+use mathlib.Core.Logic.{_⊎_, inl, inr}
+use native.Mathlib.Omega.{arith}
+use Rattle.words.specs.Refusals.{_if_, _orElse_, firstOf, Answer, refused, ok, Verdict, _andThen_, _atPlace_, first}
+
+pub if-none : (n : ℕ) (b : Bool) → (suc n if b) ≡ 0 → b ≡ false
+if-none n true e = absurd (omega arith)
+if-none n false e = refl
+
+pub if-some : (n m : ℕ) (b : Bool) → (suc n if b) ≡ suc m → b ≡ true
+if-some n m true e = refl
+if-some n m false e = absurd (omega arith)
+
+pub orElse-none : (n m : ℕ) → (n orElse m) ≡ 0 → (n ≡ 0) × (m ≡ 0)
+orElse-none zero m e = (refl, e)
+orElse-none (suc n) m e = absurd (omega arith)
+
+-- by a function's result r, which is the number n
+pub orElse-here : {r n : ℕ} (m : ℕ) → r ≡ n → (r ≡ 0 → ⊥) → r ≡ (n orElse m)
+orElse-here {r} m e f = rw (← e) (go r f)
+  where
+    go : (r : ℕ) → (r ≡ 0 → ⊥) → r ≡ (r orElse m)
+    go zero f = absurd (f refl)
+    go (suc r) f = refl
+
+pub orElse-on : {r n : ℕ} (m : ℕ) → r ≡ n → r ≡ 0 → (n orElse m) ≡ m
+orElse-on m e z = rw (sym e ∙ z)
+
+pub at-ok : (n p : ℕ) → n atPlace p ≡ ok tt → n ≡ 0
+at-ok zero p e = refl
+at-ok (suc n) p e = let z : _≡_ {A = ℕ} 0 1 = cc in absurd (omega arith)
+
+pub at-none : {n : ℕ} (p : ℕ) → n ≡ 0 → n atPlace p ≡ ok tt
+at-none p e = rw e
+
+pub at-refused : {r n : ℕ} (p : ℕ) → r ≡ n → (r ≡ 0 → ⊥) → n atPlace p ≡ refused r p
+at-refused {r} p e f = rw (← e) (go r f)
+  where
+    go : (r : ℕ) → (r ≡ 0 → ⊥) → r atPlace p ≡ refused r p
+    go zero f = absurd (f refl)
+    go (suc r) f = refl
+
+pub and-ok : {A : Type 0} {a : A} (v : Verdict) (w : Answer A) → (v andThen w) ≡ ok a → (v ≡ ok tt) × (w ≡ ok a)
+and-ok (refused n p) w e = let z : _≡_ {A = ℕ} 0 1 = cc in absurd (omega arith)
+and-ok (ok u) w e = (refl, e)
+
+pub by-verdict : {G : Type 0} (v : Verdict) → ((n p : ℕ) → v ≡ refused n p → G) → (v ≡ ok tt → G) → G
+by-verdict (refused n p) f g = f n p refl
+by-verdict (ok u) f g = g refl
+
+module _ {A : Type 0} where
+  pub ok-same : {a b : A} → ok a ≡ ok b → a ≡ b
+  ok-same e = cc
+
+  pub ok-refused : {G : Type 0} {a : A} {n p : ℕ} → refused n p ≡ ok a → G
+  ok-refused e = let z : _≡_ {A = ℕ} 0 1 = cc in absurd (omega arith)
+
+-- the first refusal number of a list
+pub firstOf-none : (f : ℕ → ℕ) {p : ℕ} (ps : List ℕ) → firstOf f ps ≡ 0 → List·Memᴰ p ps → f p ≡ 0
+unfolding firstOf
+firstOf-none f [] e m = absurd (List·Memᴰ·not-nil m)
+firstOf-none f {p} (q ∷ ps) e m = go (firstOf-none f ps) (List·Memᴰ·cases-cons m)
+  where
+    go : (firstOf f ps ≡ 0 → List·Memᴰ p ps → f p ≡ 0) → (p ≡ q) ⊎ List·Memᴰ p ps → f p ≡ 0
+    go below (inl h) = ap f h ∙ orElse-none (f q) (firstOf f ps) e .0
+    go below (inr h) = below (orElse-none (f q) (firstOf f ps) e .1) h
+
+pub firstOf-cong : (f g : ℕ → ℕ) (ps : List ℕ) → ((p : ℕ) → List·Memᴰ p ps → f p ≡ g p) → firstOf f ps ≡ firstOf g ps
+unfolding firstOf
+firstOf-cong f g [] h = refl
+firstOf-cong f g (p ∷ ps) h = ap₂ _orElse_ (h p (List·Memᴰ·head refl)) (firstOf-cong f g ps (λ y m. h y (List·Memᴰ·tail m)))
+
+pub firstOf-map : (f g : ℕ → ℕ) (ps : List ℕ) → firstOf f (map g ps) ≡ firstOf (λ p. f (g p)) ps
+unfolding firstOf
+firstOf-map f g [] = refl
+firstOf-map f g (p ∷ ps) = ap (λ (n : ℕ). f (g p) orElse n) (firstOf-map f g ps)
+
+-- the first refusal of a list
+pub first-cong : (f g : ℕ → Verdict) (ps : List ℕ) → ((p : ℕ) → List·Memᴰ p ps → f p ≡ g p) → first f ps ≡ first g ps
+unfolding first
+first-cong f g [] h = refl
+first-cong f g (p ∷ ps) h = ap₂ _andThen_ (h p (List·Memᴰ·head refl)) (first-cong f g ps (λ y m. h y (List·Memᴰ·tail m)))
+
+pub first-ok : (f : ℕ → Verdict) {p : ℕ} (ps : List ℕ) → first f ps ≡ ok tt → List·Memᴰ p ps → f p ≡ ok tt
+unfolding first
+first-ok f [] e m = absurd (List·Memᴰ·not-nil m)
+first-ok f {p} (q ∷ ps) e m = go (first-ok f ps) (List·Memᴰ·cases-cons m)
+  where
+    go : (first f ps ≡ ok tt → List·Memᴰ p ps → f p ≡ ok tt) → (p ≡ q) ⊎ List·Memᴰ p ps → f p ≡ ok tt
+    go below (inl h) = ap f h ∙ and-ok (f q) (first f ps) e .0
+    go below (inr h) = below (and-ok (f q) (first f ps) e .1) h

@@ -1,0 +1,36 @@
+-- Tests from facts, and cases of a computed value. Assumes nothing.
+--
+--   tests                      `search tests` answers a return whose definition goes by tests, from the branches on the way
+--   by-bool, by-number         cases of a computed value, with the equation
+--   and-both                   two tests of which both hold
+--   and-true, and-false        the other way: from both, or from the one that does not hold
+--   true-false                 no test holds and does not
+use Prim.Native.Nat.{ℕ, zero, suc}
+use mathlib.Core.Path.{_≡_, refl}
+use mathlib.Core.Bool.{Bool, true, false, _&&_}
+use native.Mathlib.Omega.{arith}
+use borrow.Author.Tests.{lt-ltb, le-ltb, le-leb, lt-leb, eq-eqb, ne-eqb}
+
+pub ruleset tests = (lt-ltb, le-ltb, le-leb, lt-leb, eq-eqb, ne-eqb)
+
+module _ {G : Type 0} where
+  pub by-bool : (b : Bool) → (b ≡ true → G) → (b ≡ false → G) → G
+  by-bool true f g = f refl
+  by-bool false f g = g refl
+
+  pub by-number : (n : ℕ) → (n ≡ 0 → G) → ((k : ℕ) → n ≡ suc k → G) → G
+  by-number zero f g = f refl
+  by-number (suc k) f g = g k refl
+
+  pub true-false : (b : Bool) → b ≡ true → b ≡ false → G
+  true-false b t f = let z : _≡_ {A = ℕ} 0 1 = cc in absurd (omega arith)
+
+pub and-both : (a b : Bool) → (a && b) ≡ true → (a ≡ true) × (b ≡ true)
+and-both true b e = (refl, e)
+and-both false b e = true-false false e refl
+
+pub and-true : (a b : Bool) → a ≡ true → b ≡ true → (a && b) ≡ true
+and-true a b e f = rw (e, f)
+
+pub and-false : (a b : Bool) → a ≡ false → (a && b) ≡ false
+and-false a b e = rw e

@@ -1,0 +1,100 @@
+-- The refusal numbers of document 01, 'Numbers for no', by name. The code's table is crates/numbers/src/refusals.rt.
+use Prim.Native.Nat.{ℕ}
+
+-- the bundle
+abbrev pub bundleTooLong : ℕ
+bundleTooLong = 1
+
+abbrev pub bundleCut : ℕ
+bundleCut = 2
+
+abbrev pub countOutOfLimits : ℕ
+countOutOfLimits = 3
+
+abbrev pub unknownKind : ℕ
+unknownKind = 4
+
+abbrev pub badReference : ℕ
+badReference = 5
+
+abbrev pub badTrackOrTime : ℕ
+badTrackOrTime = 6
+
+abbrev pub badByteCount : ℕ
+badByteCount = 7
+
+-- a configuration record
+abbrev pub recordCut : ℕ
+recordCut = 8
+
+abbrev pub badVersion : ℕ
+badVersion = 9
+
+abbrev pub wrongFixedBits : ℕ
+wrongFixedBits = 10
+
+abbrev pub badLengthSize : ℕ
+badLengthSize = 11
+
+abbrev pub badSet : ℕ
+badSet = 12
+
+abbrev pub bytesAfterRecord : ℕ
+bytesAfterRecord = 13
+
+-- the units of a sample
+abbrev pub lengthFieldCut : ℕ
+lengthFieldCut = 14
+
+abbrev pub unitTooLong : ℕ
+unitTooLong = 15
+
+abbrev pub emptyUnit : ℕ
+emptyUnit = 16
+
+abbrev pub topBitSet : ℕ
+topBitSet = 17
+
+abbrev pub unitTooShort : ℕ
+unitTooShort = 18
+
+abbrev pub nestedAggregator : ℕ
+nestedAggregator = 19
+
+abbrev pub sliceInAvcAggregator : ℕ
+sliceInAvcAggregator = 20
+
+abbrev pub badAdditionalBytes : ℕ
+badAdditionalBytes = 21
+
+abbrev pub badExtractorSize : ℕ
+badExtractorSize = 22
+
+-- what an extractor names and copies
+abbrev pub badTrackRefIndex : ℕ
+badTrackRefIndex = 23
+
+abbrev pub noSampleNamed : ℕ
+noSampleNamed = 24
+
+abbrev pub namedIllFormed : ℕ
+namedIllFormed = 25
+
+abbrev pub badDataOffset : ℕ
+badDataOffset = 26
+
+abbrev pub badDataLength : ℕ
+badDataLength = 27
+
+abbrev pub extractorCopied : ℕ
+extractorCopied = 28
+
+-- what was asked for
+abbrev pub outputTooLong : ℕ
+outputTooLong = 29
+
+abbrev pub noSuchNumber : ℕ
+noSuchNumber = 30
+
+abbrev pub fieldsFitNoRecord : ℕ
+fieldsFitNoRecord = 31

@@ -1,0 +1,26 @@
+-- Tests of numbers, and choice by a test.
+--
+--   a <? b, a ≤? b, a =? b    tests of numbers
+--   pick t a b                a if the test t holds, else b
+--   n when t else m           the same, on numbers
+use Prim.Native.Nat.{ℕ}
+use mathlib.Core.Bool.{Bool, true, false}
+use lib.Dec.{ltb, leb, eqb}
+
+infix 50 _<?_ _≤?_ _=?_
+infixr 10 _when_else_
+abbrev pub _<?_ : ℕ → ℕ → Bool
+a <? b = ltb a b
+
+abbrev pub _≤?_ : ℕ → ℕ → Bool
+a ≤? b = leb a b
+
+abbrev pub _=?_ : ℕ → ℕ → Bool
+a =? b = eqb a b
+
+abbrev pub pick : {A : Type 0} → Bool → A → A → A
+pick true a b = a
+pick false a b = b
+
+abbrev pub _when_else_ : ℕ → Bool → ℕ → ℕ
+n when t else m = pick t n m

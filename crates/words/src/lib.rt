@@ -1,0 +1,1 @@
+// No code: the words in which every crate's definitions are written, and their laws.
