@@ -2,6 +2,8 @@
 use Prim.Native.Nat.{ℕ}
 use mathlib.Core.Bool.{Bool, true, false}
 use Rattle.words.specs.Tests.{_=?_, pick}
+use Rattle.words.specs.RefusalNumbers.{unknownKind}
+use Rattle.words.specs.Refusals.{Answer, refused}
 use Rattle.numbers.specs.declared.Kind.{Kind}
 use Rattle.numbers.specs.declared.Kind.the-variants.{Avc, Svc}
 use Rattle.numbers.specs.declared.MaybeKind.{MaybeKind}
@@ -13,6 +15,11 @@ kindOf n =
     pick (n =? 0) (Known Avc)
     (pick (n =? 1) (Known Svc)
     Unknown)
+
+-- 4 at 0, outside a bundle
+abbrev pub onKind : {A : Type 0} → MaybeKind → (Kind → Answer A) → Answer A
+onKind (Known k) call = call k
+onKind Unknown call = refused unknownKind 0
 
 abbrev pub isAvc : Kind → Bool
 isAvc Avc = true

@@ -3,7 +3,8 @@
 --   if-none, if-some          a test that named a refusal: it failed where there is none; it held where there is one
 --   orElse-none               a chain without a refusal: none in either part
 --   orElse-here, orElse-on    by a function's result: its refusal is the chain's, or the chain goes on
---   at-ok, at-refused         a number at a place, as a verdict
+--   orElse-assoc              a chain may be cut anywhere
+--   at-ok, at-none, at-refused         a number at a place, as a verdict
 --   and-ok                    a verdict and an answer that is no refusal
 --   by-verdict                cases of a verdict, with the equation
 --   firstOf-none, -cong, -map     the first refusal number of a list
@@ -28,6 +29,10 @@ if-some n m false e = absurd (omega arith)
 pub orElse-none : (n m : ℕ) → (n orElse m) ≡ 0 → (n ≡ 0) × (m ≡ 0)
 orElse-none zero m e = (refl, e)
 orElse-none (suc n) m e = absurd (omega arith)
+
+pub orElse-assoc : (a b c : ℕ) → ((a orElse b) orElse c) ≡ (a orElse b orElse c)
+orElse-assoc zero b c = refl
+orElse-assoc (suc a) b c = refl
 
 -- by a function's result r, which is the number n
 pub orElse-here : {r n : ℕ} (m : ℕ) → r ≡ n → (r ≡ 0 → ⊥) → r ≡ (n orElse m)

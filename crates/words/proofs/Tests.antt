@@ -4,11 +4,15 @@
 --   by-bool, by-number         cases of a computed value, with the equation
 --   and-both                   two tests of which both hold
 --   and-true, and-false        the other way: from both, or from the one that does not hold
+--   all-first                  tests that all hold: the first, and the others
+--   bool-same                  two tests that hold for the same
 --   true-false                 no test holds and does not
 use Prim.Native.Nat.{ℕ, zero, suc}
-use mathlib.Core.Path.{_≡_, refl}
+use mathlib.Core.Path.{_≡_, refl, sym}
 use mathlib.Core.Bool.{Bool, true, false, _&&_}
+use mathlib.Core.List.{List, [], _∷_}
 use native.Mathlib.Omega.{arith}
+use Rattle.words.specs.Tests.{all}
 use borrow.Author.Tests.{lt-ltb, le-ltb, le-leb, lt-leb, eq-eqb, ne-eqb}
 
 pub ruleset tests = (lt-ltb, le-ltb, le-leb, lt-leb, eq-eqb, ne-eqb)
@@ -34,3 +38,12 @@ and-true a b e f = rw (e, f)
 
 pub and-false : (a b : Bool) → a ≡ false → (a && b) ≡ false
 and-false a b e = rw e
+
+pub all-first : (t : Bool) (ts : List Bool) → all (t ∷ ts) ≡ true → (t ≡ true) × (all ts ≡ true)
+unfolding all
+all-first t ts e = and-both t (all ts) e
+
+pub bool-same : (a b : Bool) → (a ≡ true → b ≡ true) → (b ≡ true → a ≡ true) → a ≡ b
+bool-same true b f g = sym (f refl)
+bool-same false true f g = g refl
+bool-same false false f g = refl

@@ -3,8 +3,10 @@
 --   a <? b, a ≤? b, a =? b    tests of numbers
 --   pick t a b                a if the test t holds, else b
 --   n when t else m           the same, on numbers
+--   all ts                    whether every test of a list holds
 use Prim.Native.Nat.{ℕ}
-use mathlib.Core.Bool.{Bool, true, false}
+use mathlib.Core.Bool.{Bool, true, false, _&&_}
+use mathlib.Core.List.{List, [], _∷_}
 use lib.Dec.{ltb, leb, eqb}
 
 infix 50 _<?_ _≤?_ _=?_
@@ -24,3 +26,7 @@ pick false a b = b
 
 abbrev pub _when_else_ : ℕ → Bool → ℕ → ℕ
 n when t else m = pick t n m
+
+unfoldable pub all : List Bool → Bool
+all [] = true
+all (t ∷ ts) = t && all ts

@@ -1,0 +1,1 @@
+// Writing decoder configuration records.

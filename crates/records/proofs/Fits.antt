@@ -1,0 +1,209 @@
+-- What fits a record: set by set, as the writer finds it; and every record that is read. Assumes nothing.
+--
+--   fitsByParts, fits-by-parts    `fits` without spelling the record: the numbers, the length size, each kind of set, the trailer
+--   Fitting, fitting              what fits, taken apart
+--   read-fits                     the fields and the parts of an accepted record fit
+use Prim.Native.Nat.{ℕ, _+_, _-_, _≤_, _<_}
+use mathlib.Core.Path.{_≡_, refl, ap, sym, _∙_}
+use mathlib.Core.Bool.{Bool, true, false, _&&_, not}
+use mathlib.Core.List.{List, [], _∷_, _++_}
+use native.Mathlib.Omega.{arith}
+use native.Mathlib.Nat.{add-zero}
+use borrow.Author.Tests.{eqb-true, eqb-false, eq-eqb, ne-eqb, not-true}
+use lib.ListN.{length, drop}
+use Rattle.words.specs.Tests.{_=?_, all}
+use Rattle.words.specs.RefusalNumbers.{badLengthSize}
+use Rattle.words.specs.Refusals.{_if_, _orElse_}
+use Rattle.words.specs.Bytes.{Bytes, byteAt, part}
+use Rattle.words.proofs.Tests.{by-bool, and-both, all-first, bool-same}
+use Rattle.words.proofs.Refusals.{if-none, orElse-none}
+use Rattle.words.proofs.Positions.{split-part, part-length}
+use Rattle.numbers.specs.declared.Kind.{Kind}
+use Rattle.sets.specs.Sets.{setsFault, setsEnd, exactly, setsFit}
+use Rattle.sets.specs.declared.SetTypes.{SetTypes}
+use Rattle.sets.proofs.Laws.{fit-true, fit-sets, sets-inside, sets-outside}
+use Rattle.records.specs.Layout.{layoutOf, valueIn, flagsIn, pictureTypes, extensionTypes, chromaShape, depthShape}
+use Rattle.records.specs.Read.{recordFault, lengthSize, sequenceCount, pictureCount, sequencesEnd, picturesEnd, trailerThere, trailerOf, trailerEnd, extensionsAt, recordEnd, highOf, fieldsOf, recordOf}
+use Rattle.records.specs.Spell.{spelled, numbersFit, trailerNumbersFit, trailerSetsFit, trailerBelongs, fits}
+use Rattle.records.specs.Answers.{partOf, respelled}
+use Rattle.records.specs.declared.Trailer.{Trailer}
+use Rattle.records.specs.declared.Trailer.the-variants.{Without, With}
+use Rattle.records.specs.declared.Fields.{Fields}
+use Rattle.records.proofs.Shapes.{row, value-below, flag-fits, sound-chroma, sound-depth}
+use Rattle.records.proofs.Parsed.{Parsed, parsed, Trailed}
+use Rattle.records.proofs.SpellsBack.{spells-back}
+use Rattle.records.proofs.Numbers.{Numbers, numbers, numbers-true, high-true}
+use Rattle.records.proofs.ReadsBack.{trailerSetsFault, spelled-fault}
+
+-- a trailer's sets are sets, and exactly the count
+abbrev pub trailerFits : Trailer → List ℕ → Bool
+trailerFits Without x = length x =? 0
+trailerFits (With t) x = setsFit extensionTypes x (t .extensions)
+
+unfoldable pub fitsByParts : Kind → Fields → List ℕ → List ℕ → List ℕ → Bool
+fitsByParts k f a b x =
+    all (numbersFit k f
+    ∷ not (f .size =? 3)
+    ∷ setsFit (layoutOf k .sequence) a (f .sequences)
+    ∷ setsFit pictureTypes b (f .pictures)
+    ∷ trailerBelongs k (f .profile) (f .trailer)
+    ∷ trailerFits (f .trailer) x
+    ∷ [])
+
+pub record Fitting (k : Kind) (f : Fields) (a b x : List ℕ) : Type 0 where
+  pub numbers : Numbers k f
+  pub sequences : exactly a (f .sequences) ≡ true
+  pub pictures : exactly b (f .pictures) ≡ true
+  pub extensions : trailerSetsFit (f .trailer) x ≡ true
+  pub belongs : trailerBelongs k (f .profile) (f .trailer) ≡ true
+  pub good : recordFault k (spelled k f a b x) ≡ 0
+
+pub fitting : (k : Kind) (f : Fields) (a b x : List ℕ) → fits k f a b x ≡ true → Fitting k f a b x
+unfolding fits
+fitting k f a b x e =
+    let c1 = all-first _ _ e in
+    let c2 = all-first _ _ (c1 .1) in
+    let c3 = all-first _ _ (c2 .1) in
+    let c4 = all-first _ _ (c3 .1) in
+    let c5 = all-first _ _ (c4 .1) in
+    record {
+      numbers = numbers k f (c1 .0);
+      sequences = c2 .0;
+      pictures = c3 .0;
+      extensions = c4 .0;
+      belongs = c5 .0;
+      good = eqb-true _ _ (all-first _ _ (c5 .1) .0);
+    }
+
+fits-true : (k : Kind) (f : Fields) (a b x : List ℕ) → Fitting k f a b x → fits k f a b x ≡ true
+unfolding fits all
+fits-true k f a b x w = rw (numbers-true k f (w .numbers), w .sequences, w .pictures, w .extensions, w .belongs, w .good)
+
+-- exact sets without a refusal
+exact-sets : (types : SetTypes) (s : List ℕ) (n : ℕ) → exactly s n ≡ true → setsFault types s n 0 ≡ 0 → setsFit types s n ≡ true
+unfolding exactly
+exact-sets types s n x e = fit-true types s n e (eqb-true _ _ x)
+
+sets-exact : (types : SetTypes) (s : List ℕ) (n : ℕ) → setsFit types s n ≡ true → (exactly s n ≡ true) × (setsFault types s n 0 ≡ 0)
+unfolding setsFit
+sets-exact types s n e = let w = and-both (setsFault types s n 0 =? 0) (exactly s n) e in (w .1, eqb-true _ _ (w .0))
+
+trailer-in : (t : Trailer) (x : List ℕ) → trailerSetsFit t x ≡ true → trailerSetsFault t x ≡ 0 → trailerFits t x ≡ true
+trailer-in Without x i e = i
+trailer-in (With t) x i e = exact-sets extensionTypes x (t .extensions) i e
+
+trailer-out : (t : Trailer) (x : List ℕ) → trailerFits t x ≡ true → (trailerSetsFit t x ≡ true) × (trailerSetsFault t x ≡ 0)
+trailer-out Without x e = (e, refl)
+trailer-out (With t) x e = sets-exact extensionTypes x (t .extensions) e
+
+parts-of : (k : Kind) (f : Fields) (a b x : List ℕ) → fits k f a b x ≡ true → fitsByParts k f a b x ≡ true
+unfolding fitsByParts all
+parts-of k f a b x e =
+    let w = fitting k f a b x e in
+    let z = sym (spelled-fault k f a b x (w .numbers) (w .sequences) (w .pictures) (w .extensions) (w .belongs)) ∙ w .good in
+    let c1 = orElse-none (badLengthSize if f .size =? 3 orElse 0) _ z in
+    let c2 = orElse-none (setsFault (layoutOf k .sequence) a (f .sequences) 0) _ (c1 .1) in
+    let c3 = orElse-none (setsFault pictureTypes b (f .pictures) 0) _ (c2 .1) in
+    let c4 = orElse-none (trailerSetsFault (f .trailer) x) 0 (c3 .1) in
+    let c5 = orElse-none (badLengthSize if f .size =? 3) 0 (c1 .0) in
+    rw (
+      numbers-true k f (w .numbers),
+      if-none _ (f .size =? 3) (c5 .0),
+      exact-sets (layoutOf k .sequence) a (f .sequences) (w .sequences) (c2 .0),
+      exact-sets pictureTypes b (f .pictures) (w .pictures) (c3 .0),
+      w .belongs,
+      trailer-in (f .trailer) x (w .extensions) (c4 .0),
+    )
+
+of-parts : (k : Kind) (f : Fields) (a b x : List ℕ) → fitsByParts k f a b x ≡ true → fits k f a b x ≡ true
+unfolding fitsByParts
+of-parts k f a b x e =
+    let c1 = all-first _ _ e in
+    let c2 = all-first _ _ (c1 .1) in
+    let c3 = all-first _ _ (c2 .1) in
+    let c4 = all-first _ _ (c3 .1) in
+    let c5 = all-first _ _ (c4 .1) in
+    let n = numbers k f (c1 .0) in
+    let a' = sets-exact (layoutOf k .sequence) a (f .sequences) (c3 .0) in
+    let b' = sets-exact pictureTypes b (f .pictures) (c4 .0) in
+    let x' = trailer-out (f .trailer) x (all-first _ _ (c5 .1) .0) in
+    fits-true k f a b x
+    (record {
+      numbers = n;
+      sequences = a' .0;
+      pictures = b' .0;
+      extensions = x' .0;
+      belongs = c5 .0;
+      good = spelled-fault k f a b x n (a' .0) (b' .0) (x' .0) (c5 .0) ∙ rw (not-true (f .size =? 3) (c2 .0), a' .1, b' .1, x' .1);
+    })
+
+pub fits-by-parts : (k : Kind) (f : Fields) (a b x : List ℕ) → fits k f a b x ≡ fitsByParts k f a b x
+fits-by-parts k f a b x = bool-same _ _ (parts-of k f a b x) (of-parts k f a b x)
+
+-- the sets of s from a to e, by themselves
+part-exact : (types : SetTypes) (s : List ℕ) (n a e : ℕ) → a ≤ e → e ≤ length s → setsEnd s n a ≡ e → exactly (part s a (e - a)) n ≡ true
+unfolding exactly
+part-exact types s n a e h l g =
+    let m : length (part s a (e - a)) ≡ e - a = part-length s a (e - a) (omega arith) in
+    let d = sym (split-part s a e h) in
+    let g' : setsEnd s n (a + 0) ≡ e = ap (setsEnd s n) (add-zero a) ∙ g in
+    let o = sets-outside types s a (part s a (e - a)) (drop e s) (omega arith) d n 0 (omega arith) in
+    let i = sets-inside types s a (part s a (e - a)) (drop e s) (omega arith) d n 0 o in
+    eq-eqb (setsEnd (part s a (e - a)) n 0) (length (part s a (e - a))) (omega (arith, i .1))
+
+module _ (k : Kind) (s : List ℕ) (g : Bytes s) (w : Parsed k s) where
+  trailer-numbers : trailerNumbersFit (trailerOf k s) ≡ true
+  trailer-numbers =
+      by-bool (trailerThere k s)
+      (λ t. rw t (high-true (highOf s (picturesEnd k s))
+      (record {
+        format = value-below chromaShape (byteAt s (picturesEnd k s)) sound-chroma;
+        luma = value-below depthShape (byteAt s (picturesEnd k s + 1)) sound-depth;
+        chroma = value-below depthShape (byteAt s (picturesEnd k s + 2)) sound-depth;
+        extensions = g (picturesEnd k s + 3);
+      })))
+      (λ t. rw t)
+
+  numbers-read : Numbers k (fieldsOf k s)
+  numbers-read =
+      record {
+        profile = g 1;
+        compatibility = g 2;
+        level = g 3;
+        flag = flag-fits (layoutOf k .complete) (flagsIn (layoutOf k .size) (byteAt s 4));
+        some = omega arith;
+        most = omega (arith, value-below (layoutOf k .size) (byteAt s 4) (row k .size), row k .low);
+        sequences = value-below (layoutOf k .count) (byteAt s 5) (row k .count);
+        pictures = g (sequencesEnd k s);
+        trailer = trailer-numbers;
+      }
+
+  trailer-sets : trailerSetsFit (trailerOf k s) (part s (extensionsAt k s) (recordEnd k s - extensionsAt k s)) ≡ true
+  trailer-sets =
+      by-bool (trailerThere k s)
+      (λ t. rw t (part-exact extensionTypes s (byteAt s (picturesEnd k s + 3)) (picturesEnd k s + 4) (trailerEnd s (picturesEnd k s)) (w .trailed t .after) (w .trailed t .within) refl))
+      (λ t. let z : picturesEnd k s - picturesEnd k s ≡ 0 = omega arith in rw (t, z))
+
+  trailer-there : trailerBelongs k (byteAt s 1) (trailerOf k s) ≡ true
+  trailer-there = by-bool (trailerThere k s) (λ t. rw (t, t)) (λ t. rw (t, t))
+
+  sequences-exact : exactly (part s 6 (sequencesEnd k s - 6)) (sequenceCount k s) ≡ true
+  unfolding sequencesEnd
+  sequences-exact = part-exact (layoutOf k .sequence) s (sequenceCount k s) 6 (sequencesEnd k s) (w .after) (omega (arith, w .count)) refl
+
+  pictures-exact : exactly (part s (sequencesEnd k s + 1) (picturesEnd k s - (sequencesEnd k s + 1))) (pictureCount k s) ≡ true
+  unfolding picturesEnd
+  pictures-exact = part-exact pictureTypes s (pictureCount k s) (sequencesEnd k s + 1) (picturesEnd k s) (omega (arith, w .later)) (w .within) refl
+
+pub read-fits : (k : Kind) (s : List ℕ) → Bytes s → recordFault k s ≡ 0 → fits k (fieldsOf k s) (partOf s (recordOf k s .sequences)) (partOf s (recordOf k s .pictures)) (partOf s (recordOf k s .extensions)) ≡ true
+read-fits k s g e =
+    let w = parsed k s e in
+    fits-true k (fieldsOf k s) _ _ _
+    (record {
+      numbers = numbers-read k s g w;
+      sequences = sequences-exact k s g w;
+      pictures = pictures-exact k s g w;
+      extensions = trailer-sets k s g w;
+      belongs = trailer-there k s g w;
+      good = ap (recordFault k) (spells-back k s g e) ∙ e;
+    })

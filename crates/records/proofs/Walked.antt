@@ -1,0 +1,121 @@
+-- Laws for the steps of the reader. Assumes nothing.
+--
+--   head-on               the bytes after the version
+--   walked                what a walk over sets has found
+--   cut-walk              a walk that is refused before its sets
+--   values-then, values-there    a trailer is its values, then its sets
+--   follow-none, follow-refused, follow-with    what follows the picture sets
+--   refused-head, -sequences, -pictures, -follow, -after, whole-record, accepted    the reader's answer, from its steps
+use Prim.Native.Nat.{ℕ, _+_, _≤_, _<_}
+use mathlib.Core.Path.{_≡_, refl, ap, sym, _∙_}
+use mathlib.Core.Bool.{Bool, true, false, not}
+use mathlib.Core.List.{List}
+use native.Mathlib.Omega.{arith}
+use borrow.Author.Tests.{lt-leb, eq-eqb, le-ltb, lt-ltb}
+use lib.ListN.{length}
+use Rattle.words.specs.Tests.{_<?_, _=?_, pick}
+use Rattle.words.specs.RefusalNumbers.{badLengthSize, bytesAfterRecord}
+use Rattle.words.specs.Refusals.{_if_, _orElse_, Answer, refused, ok}
+use Rattle.words.specs.Bytes.{byteAt}
+use Rattle.words.proofs.Refusals.{orElse-none, orElse-here, orElse-assoc, at-refused}
+use Rattle.numbers.specs.declared.Kind.{Kind}
+use Rattle.sets.specs.Sets.{setsFault, setsEnd, walkOf}
+use Rattle.sets.specs.declared.SetTypes.{SetTypes}
+use Rattle.sets.specs.declared.Walk.{Walk}
+use Rattle.sets.proofs.Laws.{walk-fault, walk-end}
+use Rattle.records.specs.Layout.{layoutOf, chromaShape, depthShape, extensionTypes}
+use Rattle.records.specs.Read.{missing, byteFault, trailerFault, trailerEnd, highOf, trailerThere, picturesEnd, headFault, lengthSize, sequencesFault, picturesFault, followFault, recordEnd, recordFault, recordOf, readAs}
+use Rattle.records.specs.Steps.{Walked, valuesFault, Followed}
+use Rattle.records.specs.declared.High.{High}
+use Rattle.records.specs.declared.Trailer.the-variants.{Without, With}
+use Rattle.records.specs.declared.Record.{Record}
+use Rattle.records.proofs.Parsed.{there}
+
+pub head-on : (k : Kind) (s : List ℕ) → 0 < length s → byteAt s 0 ≡ 1 → headFault k s ≡ (byteFault s (layoutOf k .size) 4 orElse badLengthSize if lengthSize k s =? 3 orElse byteFault s (layoutOf k .count) 5)
+unfolding headFault
+head-on k s h e = rw (lt-leb (length s) 0 h, eq-eqb (byteAt s 0) 1 e)
+
+-- a walk over sets
+pub walked : (types : SetTypes) (s : List ℕ) (n p : ℕ) (w : Walk) → w ≡ walkOf types s n p → Walked w (setsFault types s n p) (setsEnd s n p)
+walked types s n p w e =
+    let f : w .fault ≡ setsFault types s n p = ap (λ v. v .fault) e ∙ walk-fault types s n p in
+    record { refusal = f; place = λ z. ap (λ v. v .end) e ∙ walk-end types s n p (sym f ∙ z) }
+
+pub cut-walk : {r n q : ℕ} (m : ℕ) → r ≡ n → (r ≡ 0 → ⊥) → Walked (record { fault = r; end = 0 }) (n orElse m) q
+cut-walk m e f = record { refusal = orElse-here m e f; place = λ z. absurd (f z) }
+
+-- the trailer's values, then its sets
+pub values-then : (s : List ℕ) (q : ℕ) → trailerFault s q ≡ (valuesFault s q orElse setsFault extensionTypes s (byteAt s (q + 3)) (q + 4))
+unfolding trailerFault valuesFault
+values-then s q =
+    let x = setsFault extensionTypes s (byteAt s (q + 3)) (q + 4) in
+    let c = byteFault s depthShape (q + 2) orElse missing s (q + 3) in
+    rw (
+      orElse-assoc (byteFault s chromaShape q) (byteFault s depthShape (q + 1) orElse c) x,
+      orElse-assoc (byteFault s depthShape (q + 1)) c x,
+      orElse-assoc (byteFault s depthShape (q + 2)) (missing s (q + 3)) x,
+    )
+
+pub values-there : (s : List ℕ) (q : ℕ) → valuesFault s q ≡ 0 → q + 3 < length s
+unfolding valuesFault
+values-there s q e =
+    let a = orElse-none (byteFault s chromaShape q) _ e in
+    let b = orElse-none (byteFault s depthShape (q + 1)) _ (a .1) in
+    let c = orElse-none (byteFault s depthShape (q + 2)) _ (b .1) in
+    there s (q + 3) (c .1)
+
+-- what follows the picture sets, which end at q
+module _ (k : Kind) (s : List ℕ) (q : ℕ) (at-end : q ≡ picturesEnd k s) where
+  pub follow-none : trailerThere k s ≡ false → Followed k s (record { fault = 0; trailer = Without; start = q; end = q })
+  follow-none t = record { refusal = rw t; trailer = λ z. rw t; sets = λ z. rw t at-end; place = λ z. rw t at-end }
+
+  pub follow-refused : (w : Walk) → trailerThere k s ≡ true → Walked w (trailerFault s q) (trailerEnd s q) → (w .fault ≡ 0 → ⊥) → Followed k s (record { fault = w .fault; trailer = Without; start = 0; end = 0 })
+  follow-refused w t v f =
+      record {
+        refusal = rw (t, ← at-end) (v .refusal);
+        trailer = λ z. absurd (f z);
+        sets = λ z. absurd (f z);
+        place = λ z. absurd (f z);
+      }
+
+  pub follow-with : (w : Walk) (h : High) → trailerThere k s ≡ true → Walked w (trailerFault s q) (trailerEnd s q) → w .fault ≡ 0 → h ≡ highOf s q → Followed k s (record { fault = 0; trailer = With h; start = q + 4; end = w .end })
+  follow-with w h t v f e =
+      record {
+        refusal = rw (t, ← at-end) (sym f ∙ v .refusal);
+        trailer = λ z. rw (t, ← at-end, e);
+        sets = λ z. rw (t, ← at-end);
+        place = λ z. rw (t, ← at-end) (v .place f);
+      }
+
+-- the reader's answer, from the refusals of its steps
+module _ (k : Kind) (s : List ℕ) where
+  read-refused : {r : ℕ} → r ≡ recordFault k s → (r ≡ 0 → ⊥) → refused r 0 ≡ readAs k s
+  unfolding readAs
+  read-refused e f = rw (at-refused 0 e f)
+
+  pub refused-head : {r : ℕ} → r ≡ headFault k s → (r ≡ 0 → ⊥) → refused r 0 ≡ readAs k s
+  refused-head e f = read-refused (unfold recordFault in orElse-here _ e f) f
+
+  module _ (h : headFault k s ≡ 0) where
+    pub refused-sequences : {r : ℕ} → r ≡ sequencesFault k s → (r ≡ 0 → ⊥) → refused r 0 ≡ readAs k s
+    refused-sequences e f = read-refused (unfold recordFault in rw h (orElse-here _ e f)) f
+
+    module _ (a : sequencesFault k s ≡ 0) where
+      pub refused-pictures : {r : ℕ} → r ≡ picturesFault k s → (r ≡ 0 → ⊥) → refused r 0 ≡ readAs k s
+      refused-pictures e f = read-refused (unfold recordFault in rw (h, a) (orElse-here _ e f)) f
+
+      module _ (b : picturesFault k s ≡ 0) where
+        pub refused-follow : {r : ℕ} → r ≡ followFault k s → (r ≡ 0 → ⊥) → refused r 0 ≡ readAs k s
+        refused-follow e f = read-refused (unfold recordFault in rw (h, a, b) (orElse-here _ e f)) f
+
+        module _ (c : followFault k s ≡ 0) where
+          pub refused-after : recordEnd k s < length s → refused bytesAfterRecord 0 ≡ readAs k s
+          refused-after l = read-refused (unfold recordFault in rw (h, a, b, c, lt-ltb (recordEnd k s) (length s) l)) (λ z. omega arith)
+
+          pub whole-record : length s ≤ recordEnd k s → recordFault k s ≡ 0
+          unfolding recordFault
+          whole-record l = rw (h, a, b, c, le-ltb (recordEnd k s) (length s) l)
+
+pub accepted : (k : Kind) (s : List ℕ) (r : Record) → recordFault k s ≡ 0 → r ≡ recordOf k s → ok r ≡ readAs k s
+unfolding readAs
+accepted k s r e f = rw (e, f)

@@ -1,0 +1,12 @@
+-- Decoder configuration records. Read in this order.
+--
+--   Layout    the bytes of a record, and what the kinds differ in
+--   Read      the refusals 8 to 13, and what an accepted record means
+--   Spell     the bytes of given fields, and whether they fit a record
+--   Answers   what the code's answers say
+--   Steps     what the steps of the reader promise one another
+pub mod Layout
+pub mod Read
+pub mod Spell
+pub mod Answers
+pub mod Steps

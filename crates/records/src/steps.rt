@@ -1,0 +1,211 @@
+// The steps of reading a record, front to back.
+ghost use mathlib.Core.Path.{_≡_};
+ghost use Prim.Native.Nat.{_+_, _≤_, _<_};
+ghost use lib.ListN.{length};
+ghost use Rattle.words.specs.Refusals.{_orElse_};
+ghost use Rattle.words.specs.Bytes.{byteAt};
+ghost use Rattle.sets.specs.Sets.{setsFault, setsEnd};
+ghost use Rattle.records.specs.Layout.{Sound, layoutOf, flagsIn, valueIn, flagOf, pictureTypes};
+ghost use Rattle.records.specs.Read.{missing, byteFault, trailerFault, trailerEnd, highOf, headFault, sequencesFault, sequencesEnd, picturesEnd, fieldsOf, trailerOf};
+ghost use Rattle.records.specs.Steps.{Walked, valuesFault, Followed};
+use crate::Fields;
+use crate::Flag;
+use crate::Follow;
+use crate::High;
+use crate::Shape;
+use crate::Trailer;
+use crate::layouts;
+use numbers::Kind;
+use numbers::refusals;
+use sets::Walk;
+
+// The value of a byte.
+pub(crate) fn value_in(h: Shape, b: u8) -> usize
+    requires { ⌜ Sound h ⌝ }
+    ensures { λ r. ⌜ r ≡ valueIn h b ⌝ }
+{
+    b as usize % h.unit % h.low
+}
+
+// A byte that must be there, with its fixed bits: its refusal, or 0.
+pub(crate) fn byte_fault(s: &[u8], h: Shape, at: usize) -> u8
+    requires { ⌜ Sound h ⌝ }
+    ensures { λ r. ⌜ r ≡ byteFault (now (s .entry)) h at ⌝ }
+{
+    if s.len() <= at {
+        return refusals::RECORD_CUT;
+    }
+    if s[at] as usize % h.unit / h.low != h.fixed {
+        return refusals::WRONG_FIXED_BITS;
+    }
+    0
+}
+
+// The six bytes before the sequence sets: their refusal, or 0.
+pub(crate) fn head_fault(k: Kind, s: &[u8]) -> u8
+    ensures { λ r. ⌜ r ≡ headFault k (now (s .entry)) ⌝ }
+{
+    let l = layouts::layout_of(k);
+    let size = l.size;
+    let count = l.count;
+    if s.len() <= 0 {
+        return refusals::RECORD_CUT;
+    }
+    if s[0] != 1 {
+        return refusals::BAD_VERSION;
+    }
+    let fifth = byte_fault(s, size, 4);
+    if fifth != 0 {
+        return fifth;
+    }
+    if value_in(size, s[4]) + 1 == 3 {
+        return refusals::BAD_LENGTH_SIZE;
+    }
+    byte_fault(s, count, 5)
+}
+
+// The sequence sets, after the six bytes.
+pub(crate) fn walk_sequences(k: Kind, s: &[u8]) -> Walk
+    requires { ⌜ 5 < length (now s) ⌝ }
+    ensures { λ r. ⌜ Walked r (sequencesFault k (now (s .entry))) (sequencesEnd k (now (s .entry))) ⌝ }
+{
+    let l = layouts::layout_of(k);
+    let count = l.count;
+    let types = l.sequence;
+    let n = value_in(count, s[5]);
+    sets::walk_sets(types, s, n, 6)
+}
+
+// The number of picture sets at a place, and the sets.
+pub(crate) fn walk_pictures(s: &[u8], at: usize) -> Walk
+    ensures { λ r. ⌜ Walked r (missing (now (s .entry)) at orElse setsFault pictureTypes (now (s .entry)) (byteAt (now (s .entry)) at) (at + 1)) (setsEnd (now (s .entry)) (byteAt (now (s .entry)) at) (at + 1)) ⌝ }
+{
+    if s.len() <= at {
+        return Walk {
+            fault: refusals::RECORD_CUT,
+            end: 0,
+        };
+    }
+    let n = s[at] as usize;
+    sets::walk_sets(layouts::picture_types(), s, n, at + 1)
+}
+
+// The bytes of a trailer before its sets: their refusal, or 0.
+fn values_fault(s: &[u8], at: usize) -> u8
+    requires { ⌜ at ≤ length (now s) ⌝ }
+    ensures { λ r. ⌜ r ≡ valuesFault (now (s .entry)) at ⌝ }
+{
+    let format = byte_fault(s, layouts::chroma_shape(), at);
+    if format != 0 {
+        return format;
+    }
+    let luma = byte_fault(s, layouts::depth_shape(), at + 1);
+    if luma != 0 {
+        return luma;
+    }
+    let chroma = byte_fault(s, layouts::depth_shape(), at + 2);
+    if chroma != 0 {
+        return chroma;
+    }
+    if s.len() <= at + 3 {
+        return refusals::RECORD_CUT;
+    }
+    0
+}
+
+// A trailer at a place.
+pub(crate) fn walk_trailer(s: &[u8], at: usize) -> Walk
+    requires { ⌜ at ≤ length (now s) ⌝ }
+    ensures { λ r. ⌜ Walked r (trailerFault (now (s .entry)) at) (trailerEnd (now (s .entry)) at) ⌝ }
+{
+    let fault = values_fault(s, at);
+    if fault != 0 {
+        return Walk { fault, end: 0 };
+    }
+    let n = s[at + 3] as usize;
+    sets::walk_sets(layouts::extension_types(), s, n, at + 4)
+}
+
+// The values of a trailer at a place.
+fn high_of(s: &[u8], at: usize) -> High
+    requires { ⌜ at + 3 < length (now s) ⌝ }
+    ensures { λ r. ⌜ r ≡ highOf (now (s .entry)) at ⌝ }
+{
+    let format = value_in(layouts::chroma_shape(), s[at]);
+    let luma = value_in(layouts::depth_shape(), s[at + 1]);
+    let chroma = value_in(layouts::depth_shape(), s[at + 2]);
+    let extensions = s[at + 3] as usize;
+    High {
+        format,
+        luma,
+        chroma,
+        extensions,
+    }
+}
+
+// What follows the picture sets, which end at a place.
+pub(crate) fn follow_of(k: Kind, s: &[u8], at: usize) -> Follow
+    requires { ⌜ (1 < length (now s)) × (at ≤ length (now s)) × (at ≡ picturesEnd k (now s)) ⌝ }
+    ensures { λ r. ⌜ Followed k (now (s .entry)) r ⌝ }
+{
+    if !layouts::has_trailer(k, s[1] as usize) {
+        return Follow {
+            fault: 0,
+            trailer: Trailer::Without,
+            start: at,
+            end: at,
+        };
+    }
+    let w = walk_trailer(s, at);
+    if w.fault != 0 {
+        return Follow {
+            fault: w.fault,
+            trailer: Trailer::Without,
+            start: 0,
+            end: 0,
+        };
+    }
+    let high = high_of(s, at);
+    Follow {
+        fault: 0,
+        trailer: Trailer::With(high),
+        start: at + 4,
+        end: w.end,
+    }
+}
+
+// complete_representation, where a record has one.
+fn flag_of(has: bool, flags: usize) -> Flag
+    ensures { λ r. ⌜ r ≡ flagOf has flags ⌝ }
+{
+    if !has {
+        return Flag::Absent;
+    }
+    if flags == 0 {
+        return Flag::Clear;
+    }
+    Flag::Set
+}
+
+// The fields, with the number of picture sets at a place, and a trailer.
+pub(crate) fn fields_of(k: Kind, s: &[u8], at: usize, trailer: Trailer) -> Fields
+    requires { ⌜ (5 < length (now s)) × (at < length (now s)) × (at ≡ sequencesEnd k (now s)) × (trailer ≡ trailerOf k (now s)) ⌝ }
+    ensures { λ r. ⌜ r ≡ fieldsOf k (now (s .entry)) ⌝ }
+{
+    let l = layouts::layout_of(k);
+    let size = l.size;
+    let count = l.count;
+    let complete = flag_of(l.complete, s[4] as usize / size.unit);
+    let less_one = value_in(size, s[4]);
+    let sequences = value_in(count, s[5]);
+    Fields {
+        profile: s[1] as usize,
+        compatibility: s[2] as usize,
+        level: s[3] as usize,
+        complete,
+        size: less_one + 1,
+        sequences,
+        pictures: s[at] as usize,
+        trailer,
+    }
+}

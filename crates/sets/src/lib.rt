@@ -1,0 +1,76 @@
+// Parameter sets as a configuration record holds them: each after its 2-byte length.
+ghost use mathlib.Core.Path.{_≡_};
+ghost use Prim.Native.Nat.{_≤_};
+ghost use lib.ListN.{length};
+ghost use Rattle.sets.specs.Sets.{setFault, walkOf, setsFit};
+use numbers::refusals;
+
+// The one or two unit types that a set may have.
+pub struct SetTypes {
+    pub one: u8,
+    pub other: u8,
+}
+
+// A walk over sets: its first refusal, 0 for none, and where the sets end, 0 after a refusal.
+pub struct Walk {
+    pub fault: u8,
+    pub end: usize,
+}
+
+// The first refusal of the set at a place, or 0.
+fn set_fault(types: SetTypes, s: &[u8], at: usize) -> u8
+    ensures { λ r. ⌜ r ≡ setFault types (now (s .entry)) at ⌝ }
+{
+    if s.len() < at {
+        return refusals::RECORD_CUT;
+    }
+    if s.len() - at < 2 {
+        return refusals::RECORD_CUT;
+    }
+    let n = numbers::number(s, at, 2);
+    if n == 0 {
+        return refusals::BAD_SET;
+    }
+    if s.len() - at - 2 < n {
+        return refusals::RECORD_CUT;
+    }
+    let h = s[at + 2];
+    if 128 <= h {
+        return refusals::BAD_SET;
+    }
+    if h % 32 == types.one {
+        return 0;
+    }
+    if h % 32 == types.other {
+        return 0;
+    }
+    refusals::BAD_SET
+}
+
+// n sets from a place on.
+pub fn walk_sets(types: SetTypes, s: &[u8], n: usize, at: usize) -> Walk
+    ensures { λ r. ⌜ r ≡ walkOf types (now (s .entry)) n at ⌝ }
+{
+    let mut p = at;
+    let mut left = n;
+    while 0 < left {
+        let fault = set_fault(types, s, p);
+        if fault != 0 {
+            return Walk { fault, end: 0 };
+        }
+        p = p + 2 + numbers::number(s, p, 2);
+        left -= 1;
+    }
+    Walk { fault: 0, end: p }
+}
+
+// Whether the bytes are n sets and nothing else.
+pub fn are_sets(types: SetTypes, s: &[u8], n: usize) -> bool
+    ensures { λ r. ⌜ r ≡ setsFit types (now (s .entry)) n ⌝ }
+{
+    let w = walk_sets(types, s, n, 0);
+    if w.fault != 0 {
+        return false;
+    }
+    w.end == s.len()
+}
