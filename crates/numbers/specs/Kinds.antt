@@ -1,7 +1,7 @@
 -- The kind of a track (01, 'The bundle', 1). A new kind is one more line of `kindOf`.
 use Prim.Native.Nat.{ℕ}
 use mathlib.Core.Bool.{Bool, true, false}
-use Rattle.words.specs.Tests.{_=?_, pick}
+use Rattle.words.specs.Tests.{_≡?_, pick}
 use Rattle.words.specs.RefusalNumbers.{unknownKind}
 use Rattle.words.specs.Refusals.{Answer, refused}
 use Rattle.numbers.specs.declared.Kind.{Kind}
@@ -12,8 +12,8 @@ use Rattle.numbers.specs.declared.MaybeKind.the-variants.{Known, Unknown
 -- 0 is AVC, 1 is SVC
 abbrev pub kindOf : ℕ → MaybeKind
 kindOf n =
-    pick (n =? 0) (Known Avc)
-    (pick (n =? 1) (Known Svc)
+    pick (n ≡? 0) (Known Avc)
+    (pick (n ≡? 1) (Known Svc)
     Unknown)
 
 -- 4 at 0, outside a bundle

@@ -1,6 +1,6 @@
 -- L, the length size of a track in bytes, and the sizes that go with it (01, 'Units in a sample').
 use Prim.Native.Nat.{ℕ, _+_, _*_}
-use Rattle.words.specs.Tests.{_=?_, pick}
+use Rattle.words.specs.Tests.{_≡?_, pick}
 use Rattle.numbers.specs.declared.LengthSize.{LengthSize}
 use Rattle.numbers.specs.declared.LengthSize.the-variants.{One, Two, Four}
 use Rattle.numbers.specs.declared.MaybeLengthSize.{MaybeLengthSize}
@@ -14,9 +14,9 @@ inBytes Four = 4
 -- 1, 2 or 4
 abbrev pub lengthSizeOf : ℕ → MaybeLengthSize
 lengthSizeOf n =
-    pick (n =? 1) (Known One)
-    (pick (n =? 2) (Known Two)
-    (pick (n =? 4) (Known Four)
+    pick (n ≡? 1) (Known One)
+    (pick (n ≡? 2) (Known Two)
+    (pick (n ≡? 4) (Known Four)
     Unknown))
 
 -- the header of units of types 14, 20, 30 and 31

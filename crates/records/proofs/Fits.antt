@@ -1,8 +1,9 @@
 -- What fits a record: set by set, as the writer finds it; and every record that is read. Assumes nothing.
 --
---   fitsByParts, fits-by-parts    `fits` without spelling the record: the numbers, the length size, each kind of set, the trailer
---   Fitting, fitting              what fits, taken apart
---   read-fits                     the fields and the parts of an accepted record fit
+--   fits-by-parts     `fits` is `fitsByParts`
+--   Fitting, fitting  what fits, taken apart
+--   spelled-bytes     what fits spells bytes
+--   read-fits         the fields and the parts of an accepted record fit
 use Prim.Native.Nat.{ℕ, _+_, _-_, _≤_, _<_}
 use mathlib.Core.Path.{_≡_, refl, ap, sym, _∙_}
 use mathlib.Core.Bool.{Bool, true, false, _&&_, not}
@@ -11,44 +12,32 @@ use native.Mathlib.Omega.{arith}
 use native.Mathlib.Nat.{add-zero}
 use borrow.Author.Tests.{eqb-true, eqb-false, eq-eqb, ne-eqb, not-true}
 use lib.ListN.{length, drop}
-use Rattle.words.specs.Tests.{_=?_, all}
+use Rattle.words.specs.Tests.{_≡?_, all}
 use Rattle.words.specs.RefusalNumbers.{badLengthSize}
 use Rattle.words.specs.Refusals.{_if_, _orElse_}
 use Rattle.words.specs.Bytes.{Bytes, byteAt, part}
 use Rattle.words.proofs.Tests.{by-bool, and-both, all-first, bool-same}
 use Rattle.words.proofs.Refusals.{if-none, orElse-none}
 use Rattle.words.proofs.Positions.{split-part, part-length}
+use Rattle.words.proofs.Bytes.{Held, held-bytes, bytes-held, held-append}
+use lib.Dec.{lit<}
 use Rattle.numbers.specs.declared.Kind.{Kind}
 use Rattle.sets.specs.Sets.{setsFault, setsEnd, exactly, setsFit}
 use Rattle.sets.specs.declared.SetTypes.{SetTypes}
 use Rattle.sets.proofs.Laws.{fit-true, fit-sets, sets-inside, sets-outside}
 use Rattle.records.specs.Layout.{layoutOf, valueIn, flagsIn, pictureTypes, extensionTypes, chromaShape, depthShape}
 use Rattle.records.specs.Read.{recordFault, lengthSize, sequenceCount, pictureCount, sequencesEnd, picturesEnd, trailerThere, trailerOf, trailerEnd, extensionsAt, recordEnd, highOf, fieldsOf, recordOf}
-use Rattle.records.specs.Spell.{spelled, numbersFit, trailerNumbersFit, trailerSetsFit, trailerBelongs, fits}
+use Rattle.records.specs.Spell.{spelled, trailerBytes, numbersFit, trailerNumbersFit, trailerSetsFit, trailerBelongs, fits}
+use Rattle.records.specs.Parts.{trailerFits, fitsByParts}
 use Rattle.records.specs.Answers.{partOf, respelled}
 use Rattle.records.specs.declared.Trailer.{Trailer}
 use Rattle.records.specs.declared.Trailer.the-variants.{Without, With}
 use Rattle.records.specs.declared.Fields.{Fields}
-use Rattle.records.proofs.Shapes.{row, value-below, flag-fits, sound-chroma, sound-depth}
+use Rattle.records.proofs.Shapes.{row, value-below, plain-below, flagged-below, flag-fits, sound-chroma, sound-depth}
 use Rattle.records.proofs.Parsed.{Parsed, parsed, Trailed}
 use Rattle.records.proofs.SpellsBack.{spells-back}
-use Rattle.records.proofs.Numbers.{Numbers, numbers, numbers-true, high-true}
+use Rattle.records.proofs.Numbers.{Numbers, numbers, numbers-true, high-numbers, high-true}
 use Rattle.records.proofs.ReadsBack.{trailerSetsFault, spelled-fault}
-
--- a trailer's sets are sets, and exactly the count
-abbrev pub trailerFits : Trailer → List ℕ → Bool
-trailerFits Without x = length x =? 0
-trailerFits (With t) x = setsFit extensionTypes x (t .extensions)
-
-unfoldable pub fitsByParts : Kind → Fields → List ℕ → List ℕ → List ℕ → Bool
-fitsByParts k f a b x =
-    all (numbersFit k f
-    ∷ not (f .size =? 3)
-    ∷ setsFit (layoutOf k .sequence) a (f .sequences)
-    ∷ setsFit pictureTypes b (f .pictures)
-    ∷ trailerBelongs k (f .profile) (f .trailer)
-    ∷ trailerFits (f .trailer) x
-    ∷ [])
 
 pub record Fitting (k : Kind) (f : Fields) (a b x : List ℕ) : Type 0 where
   pub numbers : Numbers k f
@@ -79,6 +68,30 @@ fits-true : (k : Kind) (f : Fields) (a b x : List ℕ) → Fitting k f a b x →
 unfolding fits all
 fits-true k f a b x w = rw (numbers-true k f (w .numbers), w .sequences, w .pictures, w .extensions, w .belongs, w .good)
 
+-- the bytes of what fits
+trailer-bytes : (t : Trailer) (x : List ℕ) → trailerNumbersFit t ≡ true → Held x → Held (trailerBytes t x)
+trailer-bytes Without x n g = tt
+trailer-bytes (With t) x n g =
+    let v = high-numbers t n in (
+      plain-below chromaShape sound-chroma 0 (t .format) (v .format),
+      (
+        plain-below depthShape sound-depth 0 (t .luma) (v .luma),
+        (
+          plain-below depthShape sound-depth 0 (t .chroma) (v .chroma),
+          (v .extensions, g),
+        ),
+      ),
+    )
+
+pub spelled-bytes : (k : Kind) (f : Fields) (a b x : List ℕ) → Numbers k f → Bytes a → Bytes b → Bytes x → Bytes (spelled k f a b x)
+unfolding spelled
+spelled-bytes k f a b x n ga gb gx =
+    let rest = held-append b (trailerBytes (f .trailer) x) (bytes-held b gb) (trailer-bytes (f .trailer) x (n .trailer) (bytes-held x gx)) in
+    let size = flagged-below k (f .complete) (f .size - 1) (n .flag) (omega (arith, n .some, n .most)) in
+    let count = plain-below (layoutOf k .count) (row k .count) 0 (f .sequences) (n .sequences) in
+    let sets = held-append a (f .pictures ∷ (b ++ trailerBytes (f .trailer) x)) (bytes-held a ga) (n .pictures, rest) in
+    held-bytes (spelled k f a b x) (lit< tt, (n .profile, (n .compatibility, (n .level, (size, (count, sets))))))
+
 -- exact sets without a refusal
 exact-sets : (types : SetTypes) (s : List ℕ) (n : ℕ) → exactly s n ≡ true → setsFault types s n 0 ≡ 0 → setsFit types s n ≡ true
 unfolding exactly
@@ -86,7 +99,7 @@ exact-sets types s n x e = fit-true types s n e (eqb-true _ _ x)
 
 sets-exact : (types : SetTypes) (s : List ℕ) (n : ℕ) → setsFit types s n ≡ true → (exactly s n ≡ true) × (setsFault types s n 0 ≡ 0)
 unfolding setsFit
-sets-exact types s n e = let w = and-both (setsFault types s n 0 =? 0) (exactly s n) e in (w .1, eqb-true _ _ (w .0))
+sets-exact types s n e = let w = and-both (setsFault types s n 0 ≡? 0) (exactly s n) e in (w .1, eqb-true _ _ (w .0))
 
 trailer-in : (t : Trailer) (x : List ℕ) → trailerSetsFit t x ≡ true → trailerSetsFault t x ≡ 0 → trailerFits t x ≡ true
 trailer-in Without x i e = i
@@ -101,14 +114,14 @@ unfolding fitsByParts all
 parts-of k f a b x e =
     let w = fitting k f a b x e in
     let z = sym (spelled-fault k f a b x (w .numbers) (w .sequences) (w .pictures) (w .extensions) (w .belongs)) ∙ w .good in
-    let c1 = orElse-none (badLengthSize if f .size =? 3 orElse 0) _ z in
+    let c1 = orElse-none (badLengthSize if f .size ≡? 3 orElse 0) _ z in
     let c2 = orElse-none (setsFault (layoutOf k .sequence) a (f .sequences) 0) _ (c1 .1) in
     let c3 = orElse-none (setsFault pictureTypes b (f .pictures) 0) _ (c2 .1) in
     let c4 = orElse-none (trailerSetsFault (f .trailer) x) 0 (c3 .1) in
-    let c5 = orElse-none (badLengthSize if f .size =? 3) 0 (c1 .0) in
+    let c5 = orElse-none (badLengthSize if f .size ≡? 3) 0 (c1 .0) in
     rw (
       numbers-true k f (w .numbers),
-      if-none _ (f .size =? 3) (c5 .0),
+      if-none _ (f .size ≡? 3) (c5 .0),
       exact-sets (layoutOf k .sequence) a (f .sequences) (w .sequences) (c2 .0),
       exact-sets pictureTypes b (f .pictures) (w .pictures) (c3 .0),
       w .belongs,
@@ -134,7 +147,7 @@ of-parts k f a b x e =
       pictures = b' .0;
       extensions = x' .0;
       belongs = c5 .0;
-      good = spelled-fault k f a b x n (a' .0) (b' .0) (x' .0) (c5 .0) ∙ rw (not-true (f .size =? 3) (c2 .0), a' .1, b' .1, x' .1);
+      good = spelled-fault k f a b x n (a' .0) (b' .0) (x' .0) (c5 .0) ∙ rw (not-true (f .size ≡? 3) (c2 .0), a' .1, b' .1, x' .1);
     })
 
 pub fits-by-parts : (k : Kind) (f : Fields) (a b x : List ℕ) → fits k f a b x ≡ fitsByParts k f a b x

@@ -7,6 +7,7 @@
 --   Numbers      what numbers that fit say
 --   ReadsBack    fields and sets that fit are read back from the bytes that they spell
 --   Fits         what fits, set by set
+--   Refusals     every refusal is one of the table
 pub mod Shapes
 pub mod Parsed
 pub mod Walked
@@ -14,3 +15,4 @@ pub mod SpellsBack
 pub mod Numbers
 pub mod ReadsBack
 pub mod Fits
+pub mod Refusals

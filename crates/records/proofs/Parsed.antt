@@ -11,7 +11,7 @@ use mathlib.Core.List.{List}
 use native.Mathlib.Omega.{arith}
 use borrow.Author.Tests.{ltb-false, leb-false, eqb-true, eqb-false, not-false}
 use lib.ListN.{length}
-use Rattle.words.specs.Tests.{_<?_, _=?_, pick}
+use Rattle.words.specs.Tests.{_<?_, _≡?_, pick}
 use Rattle.words.specs.RefusalNumbers.{badVersion, badLengthSize, wrongFixedBits, bytesAfterRecord}
 use Rattle.words.specs.Refusals.{_if_, _orElse_}
 use Rattle.words.specs.Bytes.{byteAt}
@@ -44,9 +44,9 @@ pub head-good : (k : Kind) (s : List ℕ) → headFault k s ≡ 0 → Head k s
 unfolding headFault
 head-good k s e =
     let a = orElse-none (missing s 0) _ e in
-    let b = orElse-none (badVersion if not (byteAt s 0 =? 1)) _ (a .1) in
+    let b = orElse-none (badVersion if not (byteAt s 0 ≡? 1)) _ (a .1) in
     let c = orElse-none (byteFault s (layoutOf k .size) 4) _ (b .1) in
-    let d = orElse-none (badLengthSize if lengthSize k s =? 3) _ (c .1) in
+    let d = orElse-none (badLengthSize if lengthSize k s ≡? 3) _ (c .1) in
     let f = byte-good s (layoutOf k .size) 4 (c .0) in
     let g = byte-good s (layoutOf k .count) 5 (d .1) in
     record {

@@ -1,9 +1,9 @@
 -- Fields and sets are read back from the bytes that they spell, byte after byte. Assumes nothing.
 --
---   trailerHead, placed     the fields, and where their sets stand in the bytes that they spell
 --   Start, start            the first bytes that fields and sets spell
 --   spelled-fault           the refusal of spelled bytes: only a length size of 3, or a set
 --   spelled-record          what spelled bytes mean: the fields, and where the sets stand
+--   spelled-parts           the sets stand there
 use Prim.Native.Nat.{ℕ, zero, suc, _+_, _-_, _*_, _≤_, _<_}
 use mathlib.Core.Path.{_≡_, refl, ap, sym, _∙_}
 use mathlib.Core.Bool.{Bool, true, false, not}
@@ -12,18 +12,19 @@ use native.Mathlib.Omega.{arith}
 use native.Mathlib.Nat.{add-zero}
 use borrow.Author.Tests.{eqb-true, lt-leb, le-ltb, eq-eqb, not-true}
 use lib.ListN.{length, drop, length-append}
-use Rattle.words.specs.Tests.{_<?_, _=?_, pick}
+use Rattle.words.specs.Tests.{_<?_, _≡?_, pick}
 use Rattle.words.specs.RefusalNumbers.{badLengthSize}
 use Rattle.words.specs.Refusals.{_if_, _orElse_}
-use Rattle.words.specs.Bytes.{byteAt}
-use Rattle.words.proofs.Positions.{Append, at-append, Cons, at-cons, Four, at-four, at-end}
+use Rattle.words.specs.Bytes.{byteAt, part}
+use Rattle.words.proofs.Positions.{Append, at-append, Cons, at-cons, Four, at-four, at-end, part-here}
 use Rattle.numbers.specs.declared.Kind.{Kind}
 use Rattle.sets.specs.Sets.{setsFault, setsEnd, exactly}
 use Rattle.sets.specs.declared.SetTypes.{SetTypes}
 use Rattle.sets.proofs.Laws.{sets-inside}
 use Rattle.records.specs.Layout.{Sound, layoutOf, byteOf, flagsIn, fixedIn, valueIn, pictureTypes, extensionTypes, chromaShape, depthShape, hasTrailer, bit, flagOf}
 use Rattle.records.specs.Read.{missing, byteFault, trailerFault, trailerEnd, highOf, lengthSize, headFault, sequenceCount, sequencesFault, sequencesEnd, pictureCount, picturesFault, picturesEnd, trailerThere, followFault, trailerOf, extensionsAt, recordEnd, recordFault, fieldsOf, recordOf}
-use Rattle.records.specs.Spell.{headBytes, highHead, trailerBytes, spelled, trailerNumbersFit, trailerSetsFit, trailerBelongs}
+use Rattle.records.specs.Spell.{headBytes, highHead, trailerHead, trailerBytes, spelled, placed, trailerNumbersFit, trailerSetsFit, trailerBelongs}
+use Rattle.records.specs.Answers.{partOf}
 use Rattle.records.specs.declared.Shape.{Shape}
 use Rattle.records.specs.declared.High.{High}
 use Rattle.records.specs.declared.Trailer.{Trailer}
@@ -32,20 +33,6 @@ use Rattle.records.specs.declared.Fields.{Fields}
 use Rattle.records.specs.declared.Record.{Record}
 use Rattle.records.proofs.Shapes.{sound-chroma, sound-depth, row, flags-back, fixed-back, value-back, flag-back}
 use Rattle.records.proofs.Numbers.{Numbers, HighNumbers, high-numbers}
-
--- how many bytes a trailer has before its sets
-abbrev pub trailerHead : Trailer → ℕ
-trailerHead Without = 0
-trailerHead (With t) = 4
-
-abbrev pub placed : Fields → List ℕ → List ℕ → List ℕ → Record
-placed f a b x =
-    record {
-      fields = f;
-      sequences = record { start = record { 0 = 6 }; len = length a };
-      pictures = record { start = record { 0 = 6 + length a + 1 }; len = length b };
-      extensions = record { start = record { 0 = 6 + length a + 1 + length b + trailerHead (f .trailer) }; len = length x };
-    }
 
 -- the refusal of a trailer's sets
 abbrev pub trailerSetsFault : Trailer → List ℕ → ℕ
@@ -85,6 +72,12 @@ pub start : (k : Kind) (f : Fields) (a b x : List ℕ) → Start k f a b x (spel
 unfolding spelled
 start k f a b x =
     record { there = omega arith; version = refl; profile = refl; compatibility = refl; level = refl; size = refl; count = refl; next = refl }
+
+-- the sets of a trailer, where it stands at q
+trailer-part : (s : List ℕ) (q : ℕ) (t : Trailer) (x : List ℕ) → drop q s ≡ trailerBytes t x → trailerSetsFit t x ≡ true → part s (q + trailerHead t) (length x) ≡ x
+trailer-part s q Without [] e i = refl
+trailer-part s q Without (y ∷ x) e i = let z : length (y ∷ x) ≡ 0 = eqb-true _ _ i in absurd (omega arith)
+trailer-part s q (With t) x e i = part-here s (q + 4) x [] (at-four s q _ _ _ _ x e .next ∙ sym (append-nil x))
 
 -- what follows the picture sets, at q
 record Followed (k : Kind) (s : List ℕ) (q : ℕ) (t : Trailer) (x : List ℕ) : Type 0 where
@@ -148,7 +141,7 @@ module _ (k : Kind) (f : Fields) (a b x s : List ℕ) (w : Start k f a b x s) (n
   flags-read : flagOf (layoutOf k .complete) (flagsIn (layoutOf k .size) (byteAt s 4)) ≡ f .complete
   flags-read = rw (w .size, flags-back (layoutOf k .size) (row k .size) (bit (f .complete)) (f .size - 1) below) (flag-back (layoutOf k .complete) (f .complete) (n .flag))
 
-  head-fault : headFault k s ≡ (badLengthSize if f .size =? 3 orElse 0)
+  head-fault : headFault k s ≡ (badLengthSize if f .size ≡? 3 orElse 0)
   unfolding headFault
   head-fault =
       rw (
@@ -187,7 +180,7 @@ module _ (k : Kind) (f : Fields) (a b x s : List ℕ) (w : Start k f a b x s) (n
         rw (pictures-back .1)
         (followed k s (6 + length a + 1 + length b) (f .trailer) x (rest .within) (rest .next) (n .trailer) xx (rw (w .profile) belongs))
 
-    fault-back : recordFault k s ≡ ((badLengthSize if f .size =? 3 orElse 0) orElse setsFault (layoutOf k .sequence) a (f .sequences) 0 orElse setsFault pictureTypes b (f .pictures) 0 orElse trailerSetsFault (f .trailer) x orElse 0)
+    fault-back : recordFault k s ≡ ((badLengthSize if f .size ≡? 3 orElse 0) orElse setsFault (layoutOf k .sequence) a (f .sequences) 0 orElse setsFault pictureTypes b (f .pictures) 0 orElse trailerSetsFault (f .trailer) x orElse 0)
     unfolding recordFault
     fault-back = rw (head-fault, sequences-back .0, pictures-back .0, follows .fault, follows .end, le-ltb (length s) (length s) (omega arith))
 
@@ -198,9 +191,16 @@ module _ (k : Kind) (f : Fields) (a b x s : List ℕ) (w : Start k f a b x s) (n
         let d3 : length s - (6 + length a + 1 + length b + trailerHead (f .trailer)) ≡ length x = omega (arith, pictures-back .1, follows .count) in
         rw (follows .is, follows .sets, follows .end, w .profile, w .compatibility, w .level, flags-read, size-back, count-back, pictures-count, sequences-back .1, pictures-back .1, d1, d2, d3)
 
+    parts-back : (partOf s (placed f a b x .sequences) ≡ a) × (partOf s (placed f a b x .pictures) ≡ b) × (partOf s (placed f a b x .extensions) ≡ x)
+    parts-back =
+        (part-here s 6 a _ (w .next), part-here s (6 + length a + 1) b _ (after .next), trailer-part s (6 + length a + 1 + length b) (f .trailer) x (rest .next) xx)
+
 module _ (k : Kind) (f : Fields) (a b x : List ℕ) (n : Numbers k f) (xa : exactly a (f .sequences) ≡ true) (xb : exactly b (f .pictures) ≡ true) (xx : trailerSetsFit (f .trailer) x ≡ true) (belongs : trailerBelongs k (f .profile) (f .trailer) ≡ true) where
-  pub spelled-fault : recordFault k (spelled k f a b x) ≡ ((badLengthSize if f .size =? 3 orElse 0) orElse setsFault (layoutOf k .sequence) a (f .sequences) 0 orElse setsFault pictureTypes b (f .pictures) 0 orElse trailerSetsFault (f .trailer) x orElse 0)
+  pub spelled-fault : recordFault k (spelled k f a b x) ≡ ((badLengthSize if f .size ≡? 3 orElse 0) orElse setsFault (layoutOf k .sequence) a (f .sequences) 0 orElse setsFault pictureTypes b (f .pictures) 0 orElse trailerSetsFault (f .trailer) x orElse 0)
   spelled-fault = fault-back k f a b x (spelled k f a b x) (start k f a b x) n xa xb xx belongs
 
   pub spelled-record : recordOf k (spelled k f a b x) ≡ placed f a b x
   spelled-record = record-back k f a b x (spelled k f a b x) (start k f a b x) n xa xb xx belongs
+
+  pub spelled-parts : let s = spelled k f a b x in (partOf s (placed f a b x .sequences) ≡ a) × (partOf s (placed f a b x .pictures) ≡ b) × (partOf s (placed f a b x .extensions) ≡ x)
+  spelled-parts = parts-back k f a b x (spelled k f a b x) (start k f a b x) n xa xb xx belongs

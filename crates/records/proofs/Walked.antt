@@ -13,7 +13,7 @@ use mathlib.Core.List.{List}
 use native.Mathlib.Omega.{arith}
 use borrow.Author.Tests.{lt-leb, eq-eqb, le-ltb, lt-ltb}
 use lib.ListN.{length}
-use Rattle.words.specs.Tests.{_<?_, _=?_, pick}
+use Rattle.words.specs.Tests.{_<?_, _≡?_, pick}
 use Rattle.words.specs.RefusalNumbers.{badLengthSize, bytesAfterRecord}
 use Rattle.words.specs.Refusals.{_if_, _orElse_, Answer, refused, ok}
 use Rattle.words.specs.Bytes.{byteAt}
@@ -31,7 +31,7 @@ use Rattle.records.specs.declared.Trailer.the-variants.{Without, With}
 use Rattle.records.specs.declared.Record.{Record}
 use Rattle.records.proofs.Parsed.{there}
 
-pub head-on : (k : Kind) (s : List ℕ) → 0 < length s → byteAt s 0 ≡ 1 → headFault k s ≡ (byteFault s (layoutOf k .size) 4 orElse badLengthSize if lengthSize k s =? 3 orElse byteFault s (layoutOf k .count) 5)
+pub head-on : (k : Kind) (s : List ℕ) → 0 < length s → byteAt s 0 ≡ 1 → headFault k s ≡ (byteFault s (layoutOf k .size) 4 orElse badLengthSize if lengthSize k s ≡? 3 orElse byteFault s (layoutOf k .count) 5)
 unfolding headFault
 head-on k s h e = rw (lt-leb (length s) 0 h, eq-eqb (byteAt s 0) 1 e)
 

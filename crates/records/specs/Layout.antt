@@ -2,7 +2,7 @@
 -- A byte of a record is flags, fixed bits and a value, from the top. What the kinds differ in is one row of `layoutOf` each.
 use Prim.Native.Nat.{ℕ, _+_, _*_, _/_, _%_, _<_, _≤_}
 use mathlib.Core.Bool.{Bool, true, false, _||_, _&&_}
-use Rattle.words.specs.Tests.{_=?_, pick}
+use Rattle.words.specs.Tests.{_≡?_, pick}
 use Rattle.numbers.specs.declared.Kind.{Kind}
 use Rattle.numbers.specs.declared.Kind.the-variants.{Avc, Svc}
 use Rattle.sets.specs.declared.SetTypes.{SetTypes}
@@ -67,7 +67,7 @@ depthShape = record { unit = 256; fixed = 31; low = 8 }
 
 -- the profiles whose AVC record has a trailer
 abbrev pub isHigh : ℕ → Bool
-isHigh profile = (profile =? 100) || (profile =? 110) || (profile =? 122) || (profile =? 144)
+isHigh profile = (profile ≡? 100) || (profile ≡? 110) || (profile ≡? 122) || (profile ≡? 144)
 
 -- whether a trailer belongs to a record of a kind and a profile
 abbrev pub hasTrailer : Kind → ℕ → Bool
@@ -81,7 +81,7 @@ bit Set = 1
 
 abbrev pub flagOf : Bool → ℕ → Flag
 flagOf false flags = Absent
-flagOf true flags = pick (flags =? 0) Clear Set
+flagOf true flags = pick (flags ≡? 0) Clear Set
 
 abbrev pub flagFits : Bool → Flag → Bool
 flagFits false Absent = true

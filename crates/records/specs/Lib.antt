@@ -3,10 +3,12 @@
 --   Layout    the bytes of a record, and what the kinds differ in
 --   Read      the refusals 8 to 13, and what an accepted record means
 --   Spell     the bytes of given fields, and whether they fit a record
+--   Parts     the same, part by part, as the writer finds it
 --   Answers   what the code's answers say
 --   Steps     what the steps of the reader promise one another
 pub mod Layout
 pub mod Read
 pub mod Spell
+pub mod Parts
 pub mod Answers
 pub mod Steps

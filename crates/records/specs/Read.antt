@@ -4,7 +4,7 @@ use Prim.Native.Nat.{ℕ, _+_, _-_}
 use mathlib.Core.Bool.{Bool, not}
 use mathlib.Core.List.{List}
 use lib.ListN.{length}
-use Rattle.words.specs.Tests.{_<?_, _≤?_, _=?_, pick}
+use Rattle.words.specs.Tests.{_<?_, _≤?_, _≡?_, pick}
 use Rattle.words.specs.RefusalNumbers.{recordCut, badVersion, wrongFixedBits, badLengthSize, bytesAfterRecord}
 use Rattle.words.specs.Refusals.{_if_, _orElse_, Answer, ok, _atPlace_, _andThen_}
 use Rattle.words.specs.Bytes.{byteAt}
@@ -26,7 +26,7 @@ module _ (s : List ℕ) where
 
   -- a byte of a shape: it is there (8), with its fixed bits (10)
   unfoldable pub byteFault : Shape → ℕ → ℕ
-  byteFault h p = missing p orElse wrongFixedBits if not (fixedIn h (byteAt s p) =? h .fixed)
+  byteFault h p = missing p orElse wrongFixedBits if not (fixedIn h (byteAt s p) ≡? h .fixed)
 
   -- A trailer at q: three bytes of values, the number of its sets, the sets.
   unfoldable pub trailerFault : ℕ → ℕ
@@ -56,8 +56,8 @@ module _ (k : Kind) (s : List ℕ) where
 
   unfoldable pub headFault : ℕ
   headFault =
-      missing s 0 orElse badVersion if not (byteAt s 0 =? 1) orElse
-      byteFault s (layoutOf k .size) 4 orElse badLengthSize if lengthSize =? 3 orElse
+      missing s 0 orElse badVersion if not (byteAt s 0 ≡? 1) orElse
+      byteFault s (layoutOf k .size) 4 orElse badLengthSize if lengthSize ≡? 3 orElse
       byteFault s (layoutOf k .count) 5
 
   -- The sequence sets, the number of picture sets, and the picture sets.

@@ -1,10 +1,10 @@
 -- The bytes that given fields and sets spell, and whether these fit a record (31 otherwise; 01, 'Configuration records').
 -- The lent sets: a sequence sets, b picture sets, x the trailer's, each set after its 2-byte length.
-use Prim.Native.Nat.{ℕ, _+_, _-_, _/_}
+use Prim.Native.Nat.{ℕ, _+_, _-_}
 use mathlib.Core.Bool.{Bool, true, not}
 use mathlib.Core.List.{List, [], _∷_, _++_}
 use lib.ListN.{length}
-use Rattle.words.specs.Tests.{_<?_, _≤?_, _=?_, all}
+use Rattle.words.specs.Tests.{_<?_, _≤?_, _≡?_, all}
 use Rattle.numbers.specs.declared.Kind.{Kind}
 use Rattle.sets.specs.Sets.{exactly}
 use Rattle.records.specs.Layout.{layoutOf, byteOf, chromaShape, depthShape, hasTrailer, bit, flagFits}
@@ -13,6 +13,7 @@ use Rattle.records.specs.declared.High.{High}
 use Rattle.records.specs.declared.Trailer.{Trailer}
 use Rattle.records.specs.declared.Trailer.the-variants.{Without, With}
 use Rattle.records.specs.declared.Fields.{Fields}
+use Rattle.records.specs.declared.Record.{Record}
 
 -- the bytes of a trailer and of a record
 abbrev pub highHead : High → List ℕ
@@ -31,6 +32,21 @@ headBytes k f =
 
 unfoldable pub spelled : Kind → Fields → List ℕ → List ℕ → List ℕ → List ℕ
 spelled k f a b x = headBytes k f ++ (a ++ (f .pictures ∷ (b ++ trailerBytes (f .trailer) x)))
+
+-- how many bytes a trailer has before its sets
+abbrev pub trailerHead : Trailer → ℕ
+trailerHead Without = 0
+trailerHead (With t) = 4
+
+-- the fields, and where their sets stand in the bytes that they spell
+abbrev pub placed : Fields → List ℕ → List ℕ → List ℕ → Record
+placed f a b x =
+    record {
+      fields = f;
+      sequences = record { start = record { 0 = 6 }; len = length a };
+      pictures = record { start = record { 0 = 6 + length a + 1 }; len = length b };
+      extensions = record { start = record { 0 = 6 + length a + 1 + length b + trailerHead (f .trailer) }; len = length x };
+    }
 
 -- every number fits its bits, and the flag is given exactly where the kind has it
 abbrev pub highNumbersFit : High → Bool
@@ -55,7 +71,7 @@ numbersFit k f =
 
 -- the lent sets are exactly the count
 abbrev pub trailerSetsFit : Trailer → List ℕ → Bool
-trailerSetsFit Without x = length x =? 0
+trailerSetsFit Without x = length x ≡? 0
 trailerSetsFit (With t) x = exactly x (t .extensions)
 
 -- a trailer is given exactly where one belongs
@@ -72,5 +88,5 @@ fits k f a b x =
     ∷ exactly b (f .pictures)
     ∷ trailerSetsFit (f .trailer) x
     ∷ trailerBelongs k (f .profile) (f .trailer)
-    ∷ (recordFault k (spelled k f a b x) =? 0)
+    ∷ (recordFault k (spelled k f a b x) ≡? 0)
     ∷ [])

@@ -15,12 +15,12 @@ use native.Mathlib.Numerals.{sub-one}
 use native.Mathlib.Nat.{pos-of-ne-zero, add-zero}
 use borrow.Author.Tests.{ltb-false, eqb-true, eqb-false, leb-false, not-false, lt-leb, le-ltb, eq-eqb, ne-eqb}
 use lib.ListN.{length, drop}
-use Rattle.words.specs.Tests.{_<?_, _≤?_, _=?_, pick}
+use Rattle.words.specs.Tests.{_<?_, _≤?_, _≡?_, pick}
 use Rattle.words.specs.RefusalNumbers.{recordCut, badSet}
 use Rattle.words.specs.Refusals.{_if_, _orElse_, firstOf}
 use Rattle.words.specs.Walks.{entries, skip}
 use Rattle.words.specs.Bytes.{byteAt, big}
-use Rattle.words.proofs.Tests.{by-bool, and-both, and-true}
+use Rattle.words.proofs.Tests.{by-bool, and-both}
 use Rattle.words.proofs.Refusals.{if-none, orElse-none, orElse-here, orElse-on, firstOf-none, firstOf-cong, firstOf-map}
 use Rattle.words.proofs.Walks.{skip-grows, entries-end, entries-same, entries-shift, skip-shift}
 use Rattle.words.proofs.Positions.{Append, at-append, at-inside}
@@ -40,7 +40,7 @@ pub whole : (types : SetTypes) (s : List ℕ) (p : ℕ) → setFault types s p �
 unfolding setFault
 whole types s p h =
     let a = orElse-none (recordCut if length s <? p + 2) _ h in
-    let b = orElse-none (badSet if big s p 2 =? 0) _ (a .1) in
+    let b = orElse-none (badSet if big s p 2 ≡? 0) _ (a .1) in
     let c = orElse-none (recordCut if length s <? setEnd s p) _ (b .1) in
     let d = orElse-none (badSet if 128 ≤? byteAt s (p + 2)) _ (c .1) in
     record {
@@ -100,7 +100,7 @@ module _ (types : SetTypes) (s : List ℕ) where
   -- what a walk's answer says
   pub walk-fault : (n p : ℕ) → walkOf types s n p .fault ≡ setsFault types s n p
   unfolding walkOf
-  walk-fault n p = by-bool (setsFault types s n p =? 0) (λ t. rw t (sym (eqb-true _ _ t))) (λ t. rw t)
+  walk-fault n p = by-bool (setsFault types s n p ≡? 0) (λ t. rw t (sym (eqb-true _ _ t))) (λ t. rw t)
 
   pub walk-end : (n p : ℕ) → setsFault types s n p ≡ 0 → walkOf types s n p .end ≡ setsEnd s n p
   unfolding walkOf
@@ -133,7 +133,7 @@ module _ (types : SetTypes) (s : List ℕ) (p : ℕ) (b r : List ℕ) (h : p ≤
         le-ltb (length s) (setEnd s (p + q)) z,
         le-ltb (length b) (setEnd b q) l,
         m,
-      ) (by-bool (big b q 2 =? 0) (λ t. rw t) (λ t. rw (same-byte q (let n = eqb-false (big b q 2) 0 t in omega arith))))
+      ) (by-bool (big b q 2 ≡? 0) (λ t. rw t) (λ t. rw (same-byte q (let n = eqb-false (big b q 2) 0 t in omega arith))))
 
   pub sets-inside : (n q : ℕ) → setsEnd b n q ≤ length b → (setsFault types s n (p + q) ≡ setsFault types b n q) × (setsEnd s n (p + q) ≡ p + setsEnd b n q)
   sets-inside n q l =
@@ -155,7 +155,7 @@ module _ (types : SetTypes) (s : List ℕ) (p : ℕ) (b r : List ℕ) (h : p ≤
 -- what `setsFit` says
 pub fit-sets : (types : SetTypes) (s : List ℕ) (n : ℕ) → setsFit types s n ≡ true → (setsFault types s n 0 ≡ 0) × (setsEnd s n 0 ≡ length s)
 unfolding setsFit exactly
-fit-sets types s n e = let w = and-both (setsFault types s n 0 =? 0) _ e in (eqb-true _ _ (w .0), eqb-true _ _ (w .1))
+fit-sets types s n e = let w = and-both (setsFault types s n 0 ≡? 0) _ e in (eqb-true _ _ (w .0), eqb-true _ _ (w .1))
 
 pub fit-true : (types : SetTypes) (s : List ℕ) (n : ℕ) → setsFault types s n 0 ≡ 0 → setsEnd s n 0 ≡ length s → setsFit types s n ≡ true
 unfolding setsFit exactly

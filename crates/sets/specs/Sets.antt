@@ -12,7 +12,7 @@ use Prim.Native.Nat.{ℕ, _+_, _%_}
 use mathlib.Core.List.{List}
 use mathlib.Core.Bool.{Bool, true, false, _||_, _&&_, not}
 use lib.ListN.{length}
-use Rattle.words.specs.Tests.{_<?_, _≤?_, _=?_, pick}
+use Rattle.words.specs.Tests.{_<?_, _≤?_, _≡?_, pick}
 use Rattle.words.specs.RefusalNumbers.{recordCut, badSet}
 use Rattle.words.specs.Refusals.{_if_, _orElse_, firstOf}
 use Rattle.words.specs.Walks.{entries, skip}
@@ -21,7 +21,7 @@ use Rattle.sets.specs.declared.SetTypes.{SetTypes}
 use Rattle.sets.specs.declared.Walk.{Walk}
 
 abbrev pub oneOf : SetTypes → ℕ → Bool
-oneOf types t = (t =? types .one) || (t =? types .other)
+oneOf types t = (t ≡? types .one) || (t ≡? types .other)
 
 module _ (s : List ℕ) where
   abbrev pub setEnd : ℕ → ℕ
@@ -31,13 +31,13 @@ module _ (s : List ℕ) where
   setsEnd n p = skip setEnd n p
 
   unfoldable pub exactly : ℕ → Bool
-  exactly n = setsEnd n 0 =? length s
+  exactly n = setsEnd n 0 ≡? length s
 
 -- An empty set is 12 even where its bytes end; else all its bytes must be there before 12 is judged.
 unfoldable pub setFault : SetTypes → List ℕ → ℕ → ℕ
 setFault types s p =
     recordCut if length s <? p + 2 orElse
-    badSet if big s p 2 =? 0 orElse
+    badSet if big s p 2 ≡? 0 orElse
     recordCut if length s <? setEnd s p orElse
     badSet if 128 ≤? byteAt s (p + 2) orElse
     badSet if not (oneOf types (byteAt s (p + 2) % 32))
@@ -46,10 +46,10 @@ abbrev pub setsFault : SetTypes → List ℕ → ℕ → ℕ → ℕ
 setsFault types s n p = firstOf (setFault types s) (entries (setEnd s) n p)
 
 unfoldable pub setsFit : SetTypes → List ℕ → ℕ → Bool
-setsFit types s n = (setsFault types s n 0 =? 0) && exactly s n
+setsFit types s n = (setsFault types s n 0 ≡? 0) && exactly s n
 
 unfoldable pub walkOf : SetTypes → List ℕ → ℕ → ℕ → Walk
 walkOf types s n p =
-    pick (setsFault types s n p =? 0)
+    pick (setsFault types s n p ≡? 0)
     (record { fault = 0; end = setsEnd s n p })
     (record { fault = setsFault types s n p; end = 0 })

@@ -5,6 +5,8 @@
 --   write-write              two writes, one after the other, are one
 --   write-none, write-first, write-length    nothing written; a write at the start; the length stays
 --   put-fits, put-not, put-length            a write that fits, one that does not; the length stays
+--   put-next                 a write right after what was written from the start on
+--   within-room, within-not  an answer with room, and without
 --   refuse, accept           what a call did: refused, or wrote bytes that fit
 use Prim.Native.Nat.{ℕ, zero, suc, _+_, _-_, _≤_, _<_}
 use mathlib.Core.Path.{_≡_, refl, ap, sym, _∙_}
@@ -12,7 +14,7 @@ use mathlib.Core.List.{List, [], _∷_, _++_, append-assoc, append-nil}
 use native.Mathlib.Nat.{add-assoc, add-zero, zero-add}
 use native.Mathlib.Omega.{arith}
 use native.Mathlib.Numerals.{add-one}
-use borrow.Author.Tests.{le-leb, lt-leb, leb-true}
+use borrow.Author.Tests.{le-leb, lt-leb, leb-true, le-ltb, lt-ltb}
 use lib.Dec.{leb}
 use lib.ListN.{length, getD, take, drop, set, take-append-drop, length-append, length-take, length-drop}
 use lib.Seq.{paste, paste-suc, length-take-le, drop-drop, take-at, drop-at, take-length, set-at, take-suc}
@@ -75,6 +77,18 @@ module _ (o : List ℕ) (p : ℕ) (b : List ℕ) where
   put-length = by-bool (leb (p + length b) (length o))
       (λ t. rw t (write-length o p b (leb-true _ _ t)))
       (λ t. rw t)
+
+pub put-next : (o b c : List ℕ) (p : ℕ) → p ≡ length b → length b + length c ≤ length o → put (writeAt o 0 b) p c ≡ writeAt o 0 (b ++ c)
+put-next o b c p e h =
+    let n = write-length o 0 b (omega arith) in
+    let m : p ≡ 0 + length b = omega arith in
+    put-fits (writeAt o 0 b) p c (omega arith) ∙ ap (λ (q : ℕ). writeAt (writeAt o 0 b) q c) m ∙ write-write o 0 b c (omega arith)
+
+pub within-room : (room : ℕ) (out : List ℕ) → length out ≤ room → within room (ok out) ≡ ok out
+within-room room out h = rw (le-ltb room (length out) h)
+
+pub within-not : (room : ℕ) (out : List ℕ) → room < length out → within room (ok out) ≡ refused outputTooLong 0
+within-not room out h = rw (lt-ltb room (length out) h)
 
 -- what a call did
 pub refuse : {o : List ℕ} {n p : ℕ} {a : Answer (List ℕ)} → a ≡ refused n p → Wrote o o (refused n p) a

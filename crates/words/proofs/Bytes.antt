@@ -2,11 +2,12 @@
 --
 --   big-more, pow-more        one byte more
 --   big-below                 n bytes hold a number below 256 ^ n
---   word-below                a word holds 8 bytes
+--   pow-small                 fewer than 8 bytes
 --   big-inside                a number in a part is that number in the whole
---   bytes-length, bytes-are   v in n bytes is n bytes
+--   bytes-length              v in n bytes is n bytes
 --   big-bytes                 a number that was written is read back
 --   bytes-big                 a number that was read is written back
+--   Held, held-bytes, bytes-held, held-append    lists that hold bytes, element by element
 use Prim.Native.Nat.{ℕ, zero, suc, _+_, _*_, _/_, _%_, _^_, _≤_, _<_}
 use mathlib.Core.Path.{_≡_, refl, ap, ap₂, sym, _∙_}
 use mathlib.Core.List.{List, [], _∷_, _++_, append-assoc}
@@ -67,3 +68,21 @@ bytes-big s p (suc n) g h =
     let d : (big s p n * 256 + byteAt s (p + n)) / 256 ≡ big s p n = mul-add-div-right (lit< tt) (big s p n) (byteAt s (p + n)) ∙ ap (λ (x : ℕ). big s p n + x) (div-eq-of-lt b) ∙ add-zero (big s p n) in
     let m : (big s p n * 256 + byteAt s (p + n)) % 256 ≡ byteAt s (p + n) = mul-add-mod-self-right (big s p n) 256 (byteAt s (p + n)) ∙ mod-eq-of-lt b in
     rw (d, m, bytes-big s p n g (omega arith), take-suc (drop p s) n 0 l, getD-drop p s n 0)
+
+-- a list that holds bytes, element by element
+abbrev pub Held : List ℕ → Type 0
+Held [] = Unit {0}
+Held (y ∷ s) = (y < 256) × Held s
+
+pub held-bytes : (s : List ℕ) → Held s → Bytes s
+held-bytes [] h i = lit< tt
+held-bytes (y ∷ s) h zero = h .0
+held-bytes (y ∷ s) h (suc i) = held-bytes s (h .1) i
+
+pub bytes-held : (s : List ℕ) → Bytes s → Held s
+bytes-held [] g = tt
+bytes-held (y ∷ s) g = (g 0, bytes-held s (λ i. g (suc i)))
+
+pub held-append : (a b : List ℕ) → Held a → Held b → Held (a ++ b)
+held-append [] b g h = h
+held-append (y ∷ a) b g h = (g .0, held-append a b (g .1) h)

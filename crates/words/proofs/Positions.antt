@@ -3,6 +3,7 @@
 --     at-cons      drop p s ≡ y ∷ r: y stands at p, and r from p + 1 on
 --     at-append    drop p s ≡ b ++ r: r stands from p + length b on
 --     at-inside    drop p s ≡ b ++ r: what stands in b at i stands in s at p + i
+--     part-here    drop p s ≡ b ++ r: b is the part at p
 --     split-one    drop p s is the byte at p, and what stands from p + 1 on
 --     split-part   drop a s is the part from a to b, and what stands from b on
 use Prim.Native.Nat.{ℕ, zero, suc, _+_, _-_, _≤_, _<_}
@@ -12,7 +13,7 @@ use native.Mathlib.Omega.{arith}
 use native.Mathlib.Numerals.{add-one}
 use native.Mathlib.Nat.{add-zero}
 use lib.ListN.{length, getD, take, drop, take-append-drop, length-append, length-take, length-drop, List·getD-append}
-use lib.Seq.{drop-cons, drop-drop, getD-drop, drop-append-seam, length-take-le, take-all}
+use lib.Seq.{drop-cons, drop-drop, getD-drop, drop-append-seam, take-append-seam, length-take-le, take-all}
 use Rattle.words.specs.Bytes.{byteAt, part}
 
 pub record Cons (s : List ℕ) (p y : ℕ) (r : List ℕ) : Type 0 where
@@ -40,6 +41,9 @@ at-append s p b r h e =
 
 pub at-inside : (s : List ℕ) (p : ℕ) (b r : List ℕ) (i : ℕ) → drop p s ≡ b ++ r → i < length b → byteAt s (p + i) ≡ byteAt b i
 at-inside s p b r i e h = sym (getD-drop p s i 0) ∙ ap (λ (l : List ℕ). getD l i 0) e ∙ List·getD-append b r 0 i h
+
+pub part-here : (s : List ℕ) (p : ℕ) (b r : List ℕ) → drop p s ≡ b ++ r → part s p (length b) ≡ b
+part-here s p b r e = ap (take (length b)) e ∙ take-append-seam b r
 
 pub at-end : (s : List ℕ) (p : ℕ) → p ≤ length s → drop p s ≡ [] → p ≡ length s
 at-end s p h e = let n : length s - p ≡ 0 = sym (length-drop p s) ∙ ap length e in omega arith

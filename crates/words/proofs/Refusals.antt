@@ -7,6 +7,7 @@
 --   at-ok, at-none, at-refused         a number at a place, as a verdict
 --   and-ok                    a verdict and an answer that is no refusal
 --   by-verdict                cases of a verdict, with the equation
+--   if-every, orElse-every, firstOf-every    what holds of every number of a chain holds of the chain's
 --   firstOf-none, -cong, -map     the first refusal number of a list
 --   first-ok, first-cong      the first refusal of a list
 --   ok-same, ok-refused       two answers that are equal
@@ -73,6 +74,21 @@ module _ {A : Type 0} where
 
   pub ok-refused : {G : Type 0} {a : A} {n p : ℕ} → refused n p ≡ ok a → G
   ok-refused e = let z : _≡_ {A = ℕ} 0 1 = cc in absurd (omega arith)
+
+-- what holds of 0 and of every number of a chain
+module _ (P : ℕ → Type 0) (none : P 0) where
+  pub if-every : (n : ℕ) (b : Bool) → P n → P (n if b)
+  if-every n true h = h
+  if-every n false h = none
+
+  pub orElse-every : (n m : ℕ) → P n → P m → P (n orElse m)
+  orElse-every zero m h g = g
+  orElse-every (suc n) m h g = h
+
+  pub firstOf-every : (f : ℕ → ℕ) (ps : List ℕ) → ((p : ℕ) → P (f p)) → P (firstOf f ps)
+  unfolding firstOf
+  firstOf-every f [] h = none
+  firstOf-every f (p ∷ ps) h = orElse-every (f p) (firstOf f ps) (h p) (firstOf-every f ps h)
 
 -- the first refusal number of a list
 pub firstOf-none : (f : ℕ → ℕ) {p : ℕ} (ps : List ℕ) → firstOf f ps ≡ 0 → List·Memᴰ p ps → f p ≡ 0

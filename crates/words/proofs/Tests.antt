@@ -3,7 +3,6 @@
 --   tests                      `search tests` answers a return whose definition goes by tests, from the branches on the way
 --   by-bool, by-number         cases of a computed value, with the equation
 --   and-both                   two tests of which both hold
---   and-true, and-false        the other way: from both, or from the one that does not hold
 --   all-first                  tests that all hold: the first, and the others
 --   bool-same                  two tests that hold for the same
 --   true-false                 no test holds and does not
@@ -32,12 +31,6 @@ module _ {G : Type 0} where
 pub and-both : (a b : Bool) → (a && b) ≡ true → (a ≡ true) × (b ≡ true)
 and-both true b e = (refl, e)
 and-both false b e = true-false false e refl
-
-pub and-true : (a b : Bool) → a ≡ true → b ≡ true → (a && b) ≡ true
-and-true a b e f = rw (e, f)
-
-pub and-false : (a b : Bool) → a ≡ false → (a && b) ≡ false
-and-false a b e = rw e
 
 pub all-first : (t : Bool) (ts : List Bool) → all (t ∷ ts) ≡ true → (t ≡ true) × (all ts ≡ true)
 unfolding all

@@ -11,7 +11,7 @@ use Prim.Native.Nat.{ℕ, zero, suc, _+_}
 use mathlib.Core.List.{List, [], _∷_, _++_}
 use mathlib.Core.Bool.{Bool, true, false, _||_}
 use lib.ListN.{getD}
-use Rattle.words.specs.Tests.{_=?_, pick, _when_else_}
+use Rattle.words.specs.Tests.{_≡?_, pick, _when_else_}
 
 module _ {A : Type 0} where
   unfoldable pub keep : (A → Bool) → List A → List A
@@ -28,10 +28,10 @@ module _ {A : Type 0} where
 
   unfoldable pub lastThat : (A → Bool) → List A → ℕ
   lastThat t [] = 0
-  lastThat t (x ∷ xs) = let n = lastThat t xs in (1 when t x else 0) when n =? 0 else suc n
+  lastThat t (x ∷ xs) = let n = lastThat t xs in (1 when t x else 0) when n ≡? 0 else suc n
 
 abbrev pub has : ℕ → List ℕ → Bool
-has n ns = some (λ m. n =? m) ns
+has n ns = some (λ m. n ≡? m) ns
 
 unfoldable pub each : {A B : Type 0} → (A → List B) → List A → List B
 each f [] = []

@@ -1,6 +1,6 @@
 -- Tests of numbers, and choice by a test.
 --
---   a <? b, a ≤? b, a =? b    tests of numbers
+--   a <? b, a ≤? b, a ≡? b    tests of numbers
 --   pick t a b                a if the test t holds, else b
 --   n when t else m           the same, on numbers
 --   all ts                    whether every test of a list holds
@@ -9,7 +9,7 @@ use mathlib.Core.Bool.{Bool, true, false, _&&_}
 use mathlib.Core.List.{List, [], _∷_}
 use lib.Dec.{ltb, leb, eqb}
 
-infix 50 _<?_ _≤?_ _=?_
+infix 50 _<?_ _≤?_ _≡?_
 infixr 10 _when_else_
 abbrev pub _<?_ : ℕ → ℕ → Bool
 a <? b = ltb a b
@@ -17,8 +17,8 @@ a <? b = ltb a b
 abbrev pub _≤?_ : ℕ → ℕ → Bool
 a ≤? b = leb a b
 
-abbrev pub _=?_ : ℕ → ℕ → Bool
-a =? b = eqb a b
+abbrev pub _≡?_ : ℕ → ℕ → Bool
+a ≡? b = eqb a b
 
 abbrev pub pick : {A : Type 0} → Bool → A → A → A
 pick true a b = a

@@ -4,7 +4,7 @@ use native.Mathlib.Omega.{arith}
 use mathlib.Core.Path.{_≡_, sym, _∙_}
 use Rattle.records.proofs.steps.head_fault.Statement.{statement}
 use Rattle.words.specs.Refusals.{_if_, _orElse_}
-use Rattle.words.specs.Tests.{_=?_}
+use Rattle.words.specs.Tests.{_≡?_}
 use Rattle.words.specs.RefusalNumbers.{badLengthSize}
 use Rattle.words.specs.Bytes.{byteAt}
 use Rattle.words.proofs.Tests.{tests}
@@ -18,7 +18,7 @@ use borrow.Author.Tests.{eq-eqb, ne-eqb}
 use Rattle.records.proofs.steps.head_fault.Tie as tie
 
 -- what is left to judge once the version is known
-on : (c : tie.Else2) → headFault (c .before .before .before .before .before .before .before .args .k) (c .before .before .before .before .before .before .before .args .s .now) ≡ (byteFault (c .before .before .before .before .before .before .before .args .s .now) (layoutOf (c .before .before .before .before .before .before .before .args .k) .size) 4 orElse badLengthSize if lengthSize (c .before .before .before .before .before .before .before .args .k) (c .before .before .before .before .before .before .before .args .s .now) =? 3 orElse byteFault (c .before .before .before .before .before .before .before .args .s .now) (layoutOf (c .before .before .before .before .before .before .before .args .k) .count) 5)
+on : (c : tie.Else2) → headFault (c .before .before .before .before .before .before .before .args .k) (c .before .before .before .before .before .before .before .args .s .now) ≡ (byteFault (c .before .before .before .before .before .before .before .args .s .now) (layoutOf (c .before .before .before .before .before .before .before .args .k) .size) 4 orElse badLengthSize if lengthSize (c .before .before .before .before .before .before .before .args .k) (c .before .before .before .before .before .before .before .args .s .now) ≡? 3 orElse byteFault (c .before .before .before .before .before .before .before .args .s .now) (layoutOf (c .before .before .before .before .before .before .before .args .k) .count) 5)
 on c = head-on (c .before .before .before .before .before .before .before .args .k) (c .before .before .before .before .before .before .before .args .s .now) (omega arith) (c .if2 .left)
 
 -- the fifth byte's refusal

@@ -1,0 +1,171 @@
+-- The promises of reading and writing records. Assumes nothing.
+--
+--   writes-back       an accepted record, written again, gives the same bytes
+--   reads-back        what was written reads back as what was given
+--   misfits-exactly   31 arises exactly if no accepted record has those fields and sets
+--   read-refusals, write-refusals    every refusal is one of the table, at place 0
+use Prim.Native.Nat.{ℕ, zero, suc, _≤_, _<_}
+use mathlib.Core.Path.{_≡_, refl, ap, sym, _∙_, subst}
+use mathlib.Core.Bool.{Bool, true, false, not}
+use mathlib.Core.List.{List, [], _∷_, _++_, List·Memᴰ, List·Memᴰ·head, List·Memᴰ·tail, List·Memᴰ·cases-cons}
+use mathlib.Core.Logic.{_⊎_, inl, inr, ⊎-elim}
+use native.Mathlib.Omega.{arith}
+use lib.ListN.{length}
+use Rattle.words.specs.Tests.{_<?_}
+use Rattle.words.specs.RefusalNumbers.{unknownKind, fieldsFitNoRecord, outputTooLong}
+use Rattle.words.specs.Refusals.{_if_, Answer, refused, ok, _atPlace_, _andThen_}
+use Rattle.words.specs.Bytes.{Bytes}
+use Rattle.words.specs.Buffers.{within}
+use Rattle.words.proofs.Tests.{by-bool, by-number, true-false}
+use Rattle.words.proofs.Refusals.{ok-same, ok-refused}
+use Rattle.words.proofs.Buffers.{within-room, within-not}
+use Rattle.numbers.specs.Kinds.{kindOf, onKind}
+use Rattle.numbers.specs.declared.Kind.{Kind}
+use Rattle.numbers.specs.declared.MaybeKind.{MaybeKind}
+use Rattle.numbers.specs.declared.MaybeKind.the-variants.{Known, Unknown}
+use Rattle.records.specs.Read.{recordFault, recordOf, readAs, readRecord}
+use Rattle.records.specs.Spell.{spelled, placed, fits}
+use Rattle.records.specs.Answers.{partOf, respelled}
+use Rattle.records.specs.declared.Fields.{Fields}
+use Rattle.records.specs.declared.Record.{Record}
+use Rattle.records.proofs.SpellsBack.{spells-back}
+use Rattle.records.proofs.ReadsBack.{spelled-record, spelled-parts}
+use Rattle.records.proofs.Fits.{Fitting, fitting, spelled-bytes, read-fits}
+use Rattle.records.proofs.Refusals.{OfRecord, record-refusal}
+use Rattle.record_writer.specs.Write.{writeAs, writeRecord}
+use Rattle.record_writer.specs.Promise.{Holds, WritesBack, ReadsBack, MisfitsExactly, ReadRefusals, WriteRefusals}
+use Rattle.record_writer.proofs.Laws.{write-misfit, write-fits}
+
+-- cases of a kind's number
+by-kind : {G : Type 0} (m : MaybeKind) → ((k : Kind) → m ≡ Known k → G) → (m ≡ Unknown → G) → G
+by-kind (Known k) f g = f k refl
+by-kind Unknown f g = g refl
+
+-- an accepted record of a kind
+accepted-as : (k : Kind) (s : List ℕ) {r : Record} → readAs k s ≡ ok r → (recordFault k s ≡ 0) × (r ≡ recordOf k s)
+unfolding readAs
+accepted-as k s {r} e =
+    by-number (recordFault k s)
+    (λ z. (z, sym (ok-same (rw z at e))))
+    (λ n z. ok-refused (rw z at e))
+
+-- what reading and writing a kind says of the call with its number
+module _ (kind : ℕ) where
+  read-known : (k : Kind) (s : List ℕ) → kindOf kind ≡ Known k → readRecord kind s ≡ readAs k s
+  unfolding readRecord
+  read-known k s e = rw e
+
+  read-unknown : (s : List ℕ) → kindOf kind ≡ Unknown → readRecord kind s ≡ refused unknownKind 0
+  unfolding readRecord
+  read-unknown s e = rw e
+
+  write-known : (k : Kind) (f : Fields) (a b x : List ℕ) (room : ℕ) → kindOf kind ≡ Known k → writeRecord kind f a b x room ≡ within room (writeAs k f a b x)
+  unfolding writeRecord
+  write-known k f a b x room e = rw e
+
+  write-unknown : (f : Fields) (a b x : List ℕ) (room : ℕ) → kindOf kind ≡ Unknown → writeRecord kind f a b x room ≡ refused unknownKind 0
+  unfolding writeRecord
+  write-unknown f a b x room e = rw e
+
+-- what an accepted record holds fits, and spells its bytes
+held : (kind : ℕ) (k : Kind) (s : List ℕ) (f : Fields) (a b x : List ℕ) → kindOf kind ≡ Known k → Bytes s → Holds kind s f a b x → (fits k f a b x ≡ true) × (spelled k f a b x ≡ s)
+held kind k s f a b x q g h =
+    let e = accepted-as k s (sym (read-known kind k s q) ∙ h .read) in
+    let z = h .found in
+    rw (← h .fields, ← h .sequences, ← h .pictures, ← h .extensions, e .1) (read-fits k s g (e .0), spells-back k s g (e .0))
+
+pub writes-back : WritesBack
+writes-back kind s f a b x room g h l =
+    by-kind (kindOf kind)
+    (λ k q. let w = held kind k s f a b x q g h in
+    write-known kind k f a b x room q ∙ ap (within room) (write-fits k f a b x (w .0) ∙ ap ok (w .1)) ∙ within-room room s l)
+    (λ q. ok-refused (sym (read-unknown kind s q) ∙ h .read))
+
+-- an answer within its room
+within-ok : (room : ℕ) (v : Answer (List ℕ)) {s : List ℕ} → within room v ≡ ok s → v ≡ ok s
+within-ok room (refused n p) e = ok-refused e
+within-ok room (ok out) e =
+    by-bool (room <? length out)
+    (λ t. ok-refused (rw t at e))
+    (λ t. rw t at e)
+
+-- what is written fits, and is what the fields spell
+written : (k : Kind) (f : Fields) (a b x : List ℕ) {s : List ℕ} → writeAs k f a b x ≡ ok s → (fits k f a b x ≡ true) × (spelled k f a b x ≡ s)
+written k f a b x e =
+    by-bool (fits k f a b x)
+    (λ t. (t, ok-same (sym (write-fits k f a b x t) ∙ e)))
+    (λ t. ok-refused (sym (write-misfit k f a b x t) ∙ e))
+
+-- what fits is held by the bytes that it spells
+holds : (kind : ℕ) (k : Kind) (f : Fields) (a b x : List ℕ) → kindOf kind ≡ Known k → fits k f a b x ≡ true → Holds kind (spelled k f a b x) f a b x
+unfolding readAs
+holds kind k f a b x q t =
+    let w = fitting k f a b x t in
+    let p = spelled-parts k f a b x (w .numbers) (w .sequences) (w .pictures) (w .extensions) (w .belongs) in
+    record {
+      found = placed f a b x;
+      read = read-known kind k (spelled k f a b x) q ∙ rw (w .good, spelled-record k f a b x (w .numbers) (w .sequences) (w .pictures) (w .extensions) (w .belongs));
+      fields = refl;
+      sequences = p .0;
+      pictures = p .1;
+      extensions = p .2;
+    }
+
+pub reads-back : ReadsBack
+reads-back kind s f a b x room e =
+    by-kind (kindOf kind)
+    (λ k q. let w = written k f a b x (within-ok room (writeAs k f a b x) (sym (write-known kind k f a b x room q) ∙ e)) in
+    rw (w .1) at (holds kind k f a b x q (w .0)))
+    (λ q. ok-refused (sym (write-unknown kind f a b x room q) ∙ e))
+
+-- 31 is given exactly for what does not fit
+misfit : (room : ℕ) (k : Kind) (f : Fields) (a b x : List ℕ) → within room (writeAs k f a b x) ≡ refused fieldsFitNoRecord 0 → fits k f a b x ≡ false
+misfit room k f a b x e =
+    by-bool (fits k f a b x)
+    (λ t. by-bool (room <? length (spelled k f a b x))
+    (λ l. let z : _≡_ {A = Answer (List ℕ)} (refused outputTooLong 0) (refused fieldsFitNoRecord 0) = rw (write-fits k f a b x t, l) at e in let y : outputTooLong ≡ fieldsFitNoRecord = cc in absurd (omega arith))
+    (λ l. ok-refused (sym (rw (write-fits k f a b x t, l) at e))))
+    (λ t. t)
+
+pub misfits-exactly : MisfitsExactly
+misfits-exactly kind k f a b x room q ga gb gx = (
+  λ e s g h. true-false (fits k f a b x) (held kind k s f a b x q g h .0) (misfit room k f a b x (sym (write-known kind k f a b x room q) ∙ e)),
+  λ none. by-bool (fits k f a b x)
+      (λ t. absurd (none (spelled k f a b x) (spelled-bytes k f a b x (fitting k f a b x t .numbers) ga gb gx) (holds kind k f a b x q t)))
+      (λ t. write-known kind k f a b x room q ∙ ap (within room) (write-misfit k f a b x t)),
+)
+
+-- a refusal's number and place
+same-refusal : {A : Type 0} {n m p q : ℕ} → _≡_ {A = Answer A} (refused n p) (refused m q) → (n ≡ m) × (p ≡ q)
+same-refusal e = (cc, cc)
+
+at-zero : {A : Type 0} (n : ℕ) (a : A) {m p : ℕ} → (n atPlace 0 andThen ok a) ≡ refused m p → (m ≡ n) × (p ≡ 0) × (n ≡ 0 → ⊥)
+at-zero zero a e = ok-refused (sym e)
+at-zero (suc n) a e = let w = same-refusal e in (sym (w .0), sym (w .1), λ z. omega arith)
+
+pub read-refusals : ReadRefusals
+unfolding readAs
+read-refusals kind s n p e =
+    by-kind (kindOf kind)
+    (λ k q.
+    let w = at-zero (recordFault k s) (recordOf k s) (sym (read-known kind k s q) ∙ e) in
+    (w .1, ⊎-elim (λ z. absurd (w .2 (sym (w .0) ∙ z))) (λ m. List·Memᴰ·tail m) (List·Memᴰ·cases-cons (subst (λ (i : ℕ). OfRecord i) (sym (w .0)) (record-refusal k s)))))
+    (λ q. let w = same-refusal (sym (read-unknown kind s q) ∙ e) in (sym (w .1), List·Memᴰ·head (sym (w .0))))
+
+within-refused : (room : ℕ) (v : Answer (List ℕ)) {n p : ℕ} → within room v ≡ refused n p → (v ≡ refused n p) ⊎ ((n ≡ outputTooLong) × (p ≡ 0))
+within-refused room (refused m q) e = inl e
+within-refused room (ok out) e =
+    by-bool (room <? length out)
+    (λ t. let w = same-refusal (rw t at e) in inr (sym (w .0), sym (w .1)))
+    (λ t. ok-refused (sym (rw t at e)))
+
+pub write-refusals : WriteRefusals
+write-refusals kind f a b x room n p e =
+    by-kind (kindOf kind)
+    (λ k q. ⊎-elim
+    (λ r. by-bool (fits k f a b x)
+    (λ t. ok-refused (sym (sym (write-fits k f a b x t) ∙ r)))
+    (λ t. let w = same-refusal (sym (write-misfit k f a b x t) ∙ r) in (sym (w .1), List·Memᴰ·tail (List·Memᴰ·head (sym (w .0))))))
+    (λ r. (r .1, List·Memᴰ·tail (List·Memᴰ·tail (List·Memᴰ·head (r .0)))))
+    (within-refused room (writeAs k f a b x) (sym (write-known kind k f a b x room q) ∙ e)))
+    (λ q. let w = same-refusal (sym (write-unknown kind f a b x room q) ∙ e) in (sym (w .1), List·Memᴰ·head (sym (w .0))))
