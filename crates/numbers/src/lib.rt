@@ -120,10 +120,10 @@ impl LengthSize {
 pub fn byte(s: &[u8], at: usize) -> u8
     ensures { λ r. ⌜ r ≡ byteAt (now (s .entry)) at ⌝ }
 {
-    if at < s.len() {
-        return s[at];
+    if s.len() <= at {
+        return 0;
     }
-    0
+    s[at]
 }
 
 // The byte i bytes after a place, as a number; 0 past the end.

@@ -5,19 +5,20 @@
 --   misfits-exactly   31 arises exactly if no accepted record has those fields and sets
 --   read-refusals, write-refusals    every refusal is one of the table, at place 0
 use Prim.Native.Nat.{ℕ, zero, suc, _≤_, _<_}
-use mathlib.Core.Path.{_≡_, refl, ap, sym, _∙_, subst}
+use mathlib.Core.Path.{_≡_, refl, ap, sym, _∙_}
 use mathlib.Core.Bool.{Bool, true, false, not}
-use mathlib.Core.List.{List, [], _∷_, _++_, List·Memᴰ, List·Memᴰ·head, List·Memᴰ·tail, List·Memᴰ·cases-cons}
+use mathlib.Core.List.{List}
 use mathlib.Core.Logic.{_⊎_, inl, inr, ⊎-elim}
 use native.Mathlib.Omega.{arith}
+use native.Mathlib.Nat.{pos-of-ne-zero}
 use lib.ListN.{length}
 use Rattle.words.specs.Tests.{_<?_}
-use Rattle.words.specs.RefusalNumbers.{unknownKind, fieldsFitNoRecord, outputTooLong}
+use Rattle.words.specs.RefusalNumbers.{unknownKind, recordCut, bytesAfterRecord, fieldsFitNoRecord, outputTooLong}
 use Rattle.words.specs.Refusals.{_if_, Answer, refused, ok, _atPlace_, _andThen_}
 use Rattle.words.specs.Bytes.{Bytes}
 use Rattle.words.specs.Buffers.{within}
 use Rattle.words.proofs.Tests.{by-bool, by-number, true-false}
-use Rattle.words.proofs.Refusals.{ok-same, ok-refused}
+use Rattle.words.proofs.Refusals.{ok-same, ok-refused, within-some}
 use Rattle.words.proofs.Buffers.{within-room, within-not}
 use Rattle.numbers.specs.Kinds.{kindOf, onKind}
 use Rattle.numbers.specs.declared.Kind.{Kind}
@@ -31,7 +32,7 @@ use Rattle.records.specs.declared.Record.{Record}
 use Rattle.records.proofs.SpellsBack.{spells-back}
 use Rattle.records.proofs.ReadsBack.{spelled-record, spelled-parts}
 use Rattle.records.proofs.Fits.{Fitting, fitting, spelled-bytes, read-fits}
-use Rattle.records.proofs.Refusals.{OfRecord, record-refusal}
+use Rattle.records.proofs.Refusals.{record-refusal}
 use Rattle.record_writer.specs.Write.{writeAs, writeRecord}
 use Rattle.record_writer.specs.Promise.{Holds, WritesBack, ReadsBack, MisfitsExactly, ReadRefusals, WriteRefusals}
 use Rattle.record_writer.proofs.Laws.{write-misfit, write-fits}
@@ -149,8 +150,8 @@ read-refusals kind s n p e =
     by-kind (kindOf kind)
     (λ k q.
     let w = at-zero (recordFault k s) (recordOf k s) (sym (read-known kind k s q) ∙ e) in
-    (w .1, ⊎-elim (λ z. absurd (w .2 (sym (w .0) ∙ z))) (λ m. List·Memᴰ·tail m) (List·Memᴰ·cases-cons (subst (λ (i : ℕ). OfRecord i) (sym (w .0)) (record-refusal k s)))))
-    (λ q. let w = same-refusal (sym (read-unknown kind s q) ∙ e) in (sym (w .1), List·Memᴰ·head (sym (w .0))))
+    (w .1, inr (rw (w .0) (within-some recordCut bytesAfterRecord (record-refusal k s) (pos-of-ne-zero (w .2))))))
+    (λ q. let w = same-refusal (sym (read-unknown kind s q) ∙ e) in (sym (w .1), inl (sym (w .0))))
 
 within-refused : (room : ℕ) (v : Answer (List ℕ)) {n p : ℕ} → within room v ≡ refused n p → (v ≡ refused n p) ⊎ ((n ≡ outputTooLong) × (p ≡ 0))
 within-refused room (refused m q) e = inl e
@@ -165,7 +166,7 @@ write-refusals kind f a b x room n p e =
     (λ k q. ⊎-elim
     (λ r. by-bool (fits k f a b x)
     (λ t. ok-refused (sym (sym (write-fits k f a b x t) ∙ r)))
-    (λ t. let w = same-refusal (sym (write-misfit k f a b x t) ∙ r) in (sym (w .1), List·Memᴰ·tail (List·Memᴰ·head (sym (w .0))))))
-    (λ r. (r .1, List·Memᴰ·tail (List·Memᴰ·tail (List·Memᴰ·head (r .0)))))
+    (λ t. let w = same-refusal (sym (write-misfit k f a b x t) ∙ r) in (sym (w .1), inr (inl (sym (w .0))))))
+    (λ r. (r .1, inr (inr (r .0))))
     (within-refused room (writeAs k f a b x) (sym (write-known kind k f a b x room q) ∙ e)))
-    (λ q. let w = same-refusal (sym (write-unknown kind f a b x room q) ∙ e) in (sym (w .1), List·Memᴰ·head (sym (w .0))))
+    (λ q. let w = same-refusal (sym (write-unknown kind f a b x room q) ∙ e) in (sym (w .1), inl (sym (w .0))))

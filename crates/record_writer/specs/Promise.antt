@@ -2,9 +2,10 @@
 use Prim.Native.Nat.{ℕ, _≤_}
 use mathlib.Core.Path.{_≡_}
 use mathlib.Core.Bool.{true}
-use mathlib.Core.List.{List, [], _∷_, List·Memᴰ}
+use mathlib.Core.List.{List}
+use mathlib.Core.Logic.{_⊎_}
 use lib.ListN.{length}
-use Rattle.words.specs.RefusalNumbers.{unknownKind, recordCut, badVersion, wrongFixedBits, badLengthSize, badSet, bytesAfterRecord, outputTooLong, fieldsFitNoRecord}
+use Rattle.words.specs.RefusalNumbers.{unknownKind, recordCut, bytesAfterRecord, outputTooLong, fieldsFitNoRecord}
 use Rattle.words.specs.Refusals.{refused, ok}
 use Rattle.words.specs.Bytes.{Bytes}
 use Rattle.numbers.specs.Kinds.{kindOf}
@@ -42,13 +43,13 @@ MisfitsExactly =
     (writeRecord kind f a b x room ≡ refused fieldsFitNoRecord 0 → (s : List ℕ) → Bytes s → Holds kind s f a b x → ⊥)
     × (((s : List ℕ) → Bytes s → Holds kind s f a b x → ⊥) → writeRecord kind f a b x room ≡ refused fieldsFitNoRecord 0)
 
--- `read-refusals`, `write-refusals`: every refusal is one of the table, at place 0.
+-- `read-refusals`, `write-refusals`: every refusal is one of the table, at place 0: 4 or 8 to 13 of the reader; 4, 31 or 29 of the writer.
 abbrev pub ReadRefusals : Type 0
 ReadRefusals =
     (kind : ℕ) (s : List ℕ) (n p : ℕ) → readRecord kind s ≡ refused n p →
-    (p ≡ 0) × List·Memᴰ n (unknownKind ∷ recordCut ∷ badVersion ∷ wrongFixedBits ∷ badLengthSize ∷ badSet ∷ bytesAfterRecord ∷ [])
+    (p ≡ 0) × ((n ≡ unknownKind) ⊎ ((recordCut ≤ n) × (n ≤ bytesAfterRecord)))
 
 abbrev pub WriteRefusals : Type 0
 WriteRefusals =
     (kind : ℕ) (f : Fields) (a b x : List ℕ) (room : ℕ) (n p : ℕ) → writeRecord kind f a b x room ≡ refused n p →
-    (p ≡ 0) × List·Memᴰ n (unknownKind ∷ fieldsFitNoRecord ∷ outputTooLong ∷ [])
+    (p ≡ 0) × ((n ≡ unknownKind) ⊎ ((n ≡ fieldsFitNoRecord) ⊎ (n ≡ outputTooLong)))

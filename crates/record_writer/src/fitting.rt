@@ -92,7 +92,7 @@ fn trailer_fits(k: Kind, profile: usize, trailer: Trailer, x: &[u8]) -> bool
             if !has {
                 return false;
             }
-            sets::are_sets(layouts::extension_types(), x, t.extensions)
+            sets::are_sets(layouts::EXTENSION_TYPES, x, t.extensions)
         }
     }
 }
@@ -112,7 +112,7 @@ pub(crate) fn fit(k: Kind, f: Fields, a: &[u8], b: &[u8], x: &[u8]) -> bool
     if !sets::are_sets(types, a, f.sequences) {
         return false;
     }
-    if !sets::are_sets(layouts::picture_types(), b, f.pictures) {
+    if !sets::are_sets(layouts::PICTURE_TYPES, b, f.pictures) {
         return false;
     }
     let trailer = f.trailer;

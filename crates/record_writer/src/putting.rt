@@ -62,9 +62,9 @@ fn high_bytes(t: High) -> [u8; 4]
     requires { ⌜ highNumbersFit t ≡ true ⌝ }
     ensures { λ r. ⌜ r ≡ highHead t ⌝ }
 {
-    let format = byte_of(layouts::chroma_shape(), 0, t.format);
-    let luma = byte_of(layouts::depth_shape(), 0, t.luma);
-    let chroma = byte_of(layouts::depth_shape(), 0, t.chroma);
+    let format = byte_of(layouts::CHROMA, 0, t.format);
+    let luma = byte_of(layouts::DEPTH, 0, t.luma);
+    let chroma = byte_of(layouts::DEPTH, 0, t.chroma);
     [format, luma, chroma, t.extensions as u8]
 }
 

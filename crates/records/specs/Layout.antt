@@ -1,5 +1,13 @@
--- The layout of a decoder configuration record (5.2.4.1.1, A.4.4.1; 01, 'Configuration records'), shared by reading and writing.
+-- The layout of a decoder configuration record (5.2.4.1.1, A.5.2.2; 01, 'Configuration records'), shared by reading and writing.
 -- A byte of a record is flags, fixed bits and a value, from the top. What the kinds differ in is one row of `layoutOf` each.
+--
+--   flagsIn h b, fixedIn h b, valueIn h b    the parts of the byte b by the shape h
+--   byteOf h flags v                         the byte of flags and a value
+--   layoutOf k                               the row of kind k
+--   pictureTypes, extensionTypes             the types of picture sets and of sequence set extensions
+--   chromaShape, depthShape                  the bytes of a trailer's values
+--   hasTrailer k profile                     whether a trailer belongs there
+--   bit f, flagOf has flags, flagFits has f  complete_representation as a bit, as it is read, and whether it fits
 use Prim.Native.Nat.{ℕ, _+_, _*_, _/_, _%_, _<_, _≤_}
 use mathlib.Core.Bool.{Bool, true, false, _||_, _&&_}
 use Rattle.words.specs.Tests.{_≡?_, pick}
@@ -32,8 +40,8 @@ pub record Sound (h : Shape) : Type 0 where
   pub fixed : h .fixed * h .low + h .low ≤ h .unit
   pub byte : h .unit ≤ 256
 
--- six 1 bits and the length size less one, or complete_representation, five 1 bits and the same;
--- three 1 bits and the number of sequence sets, or one 0 bit and the same
+-- The length size less one stands after six 1 bits (63), or after complete_representation, whose bit counts 128, and five 1 bits (31); the number
+-- of sequence sets after three 1 bits (7), or after one 0 bit.
 abbrev pub layoutOf : Kind → Layout
 layoutOf Avc =
     record {

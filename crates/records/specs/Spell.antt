@@ -1,5 +1,10 @@
 -- The bytes that given fields and sets spell, and whether these fit a record (31 otherwise; 01, 'Configuration records').
 -- The lent sets: a sequence sets, b picture sets, x the trailer's, each set after its 2-byte length.
+--
+--   spelled k f a b x     the record's bytes
+--   placed f a b x        the fields, and where their sets stand in these bytes
+--   numbersFit k f        every number fits its bits
+--   fits k f a b x        none of the reasons for 31 holds
 use Prim.Native.Nat.{ℕ, _+_, _-_}
 use mathlib.Core.Bool.{Bool, true, not}
 use mathlib.Core.List.{List, [], _∷_, _++_}

@@ -1,10 +1,28 @@
 // What the bytes of a record hold, and what the kinds differ in.
 ghost use mathlib.Core.Path.{_≡_};
-ghost use Rattle.records.specs.Layout.{layoutOf, pictureTypes, extensionTypes, chromaShape, depthShape, hasTrailer};
+ghost use Rattle.records.specs.Layout.{layoutOf, hasTrailer};
 use crate::Layout;
 use crate::Shape;
 use numbers::Kind;
 use sets::SetTypes;
+
+pub const PICTURE_TYPES: SetTypes = SetTypes { one: 8, other: 8 };
+
+pub const EXTENSION_TYPES: SetTypes = SetTypes { one: 13, other: 13 };
+
+// The byte of a trailer with its chroma_format.
+pub const CHROMA: Shape = Shape {
+    unit: 256,
+    fixed: 63,
+    low: 4,
+};
+
+// The bytes of a trailer with a depth less 8.
+pub const DEPTH: Shape = Shape {
+    unit: 256,
+    fixed: 31,
+    low: 8,
+};
 
 // The row of a kind.
 pub fn layout_of(k: Kind) -> Layout
@@ -41,40 +59,6 @@ pub fn layout_of(k: Kind) -> Layout
             sequence: SetTypes { one: 7, other: 15 },
             trailer: false,
         },
-    }
-}
-
-pub fn picture_types() -> SetTypes
-    ensures { λ r. ⌜ r ≡ pictureTypes ⌝ }
-{
-    SetTypes { one: 8, other: 8 }
-}
-
-pub fn extension_types() -> SetTypes
-    ensures { λ r. ⌜ r ≡ extensionTypes ⌝ }
-{
-    SetTypes { one: 13, other: 13 }
-}
-
-// The byte of a trailer with its chroma_format.
-pub fn chroma_shape() -> Shape
-    ensures { λ r. ⌜ r ≡ chromaShape ⌝ }
-{
-    Shape {
-        unit: 256,
-        fixed: 63,
-        low: 4,
-    }
-}
-
-// The byte of a trailer with a depth less 8.
-pub fn depth_shape() -> Shape
-    ensures { λ r. ⌜ r ≡ depthShape ⌝ }
-{
-    Shape {
-        unit: 256,
-        fixed: 31,
-        low: 8,
     }
 }
 

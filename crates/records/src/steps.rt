@@ -87,7 +87,7 @@ pub(crate) fn walk_pictures(s: &[u8], at: usize) -> Walk
         };
     }
     let n = s[at] as usize;
-    sets::walk_sets(layouts::picture_types(), s, n, at + 1)
+    sets::walk_sets(layouts::PICTURE_TYPES, s, n, at + 1)
 }
 
 // The bytes of a trailer before its sets: their refusal, or 0.
@@ -95,15 +95,15 @@ fn values_fault(s: &[u8], at: usize) -> u8
     requires { ⌜ at ≤ length (now s) ⌝ }
     ensures { λ r. ⌜ r ≡ valuesFault (now (s .entry)) at ⌝ }
 {
-    let format = byte_fault(s, layouts::chroma_shape(), at);
+    let format = byte_fault(s, layouts::CHROMA, at);
     if format != 0 {
         return format;
     }
-    let luma = byte_fault(s, layouts::depth_shape(), at + 1);
+    let luma = byte_fault(s, layouts::DEPTH, at + 1);
     if luma != 0 {
         return luma;
     }
-    let chroma = byte_fault(s, layouts::depth_shape(), at + 2);
+    let chroma = byte_fault(s, layouts::DEPTH, at + 2);
     if chroma != 0 {
         return chroma;
     }
@@ -123,7 +123,7 @@ pub(crate) fn walk_trailer(s: &[u8], at: usize) -> Walk
         return Walk { fault, end: 0 };
     }
     let n = s[at + 3] as usize;
-    sets::walk_sets(layouts::extension_types(), s, n, at + 4)
+    sets::walk_sets(layouts::EXTENSION_TYPES, s, n, at + 4)
 }
 
 // The values of a trailer at a place.
@@ -131,9 +131,9 @@ fn high_of(s: &[u8], at: usize) -> High
     requires { ⌜ at + 3 < length (now s) ⌝ }
     ensures { λ r. ⌜ r ≡ highOf (now (s .entry)) at ⌝ }
 {
-    let format = value_in(layouts::chroma_shape(), s[at]);
-    let luma = value_in(layouts::depth_shape(), s[at + 1]);
-    let chroma = value_in(layouts::depth_shape(), s[at + 2]);
+    let format = value_in(layouts::CHROMA, s[at]);
+    let luma = value_in(layouts::DEPTH, s[at + 1]);
+    let chroma = value_in(layouts::DEPTH, s[at + 2]);
     let extensions = s[at + 3] as usize;
     High {
         format,

@@ -4,14 +4,14 @@
 --   orElse-none               a chain without a refusal: none in either part
 --   orElse-here, orElse-on    by a function's result: its refusal is the chain's, or the chain goes on
 --   orElse-assoc              a chain may be cut anywhere
---   at-ok, at-none, at-refused         a number at a place, as a verdict
+--   at-ok, at-none, at-from, at-refused         a number at a place, as a verdict
 --   and-ok                    a verdict and an answer that is no refusal
 --   by-verdict                cases of a verdict, with the equation
---   if-every, orElse-every, firstOf-every    what holds of every number of a chain holds of the chain's
+--   Within, within-if, within-orElse, within-firstOf, within-some    refusal numbers of a chain that lie from a to b
 --   firstOf-none, -cong, -map     the first refusal number of a list
---   first-ok, first-cong      the first refusal of a list
+--   first-ok, first-all, first-from, first-cong    the first refusal of a list
 --   ok-same, ok-refused       two answers that are equal
-use Prim.Native.Nat.{ℕ, zero, suc}
+use Prim.Native.Nat.{ℕ, zero, suc, _≤_, _<_}
 use mathlib.Core.Path.{_≡_, refl, ap, ap₂, sym, _∙_}
 use mathlib.Core.List.{List, [], _∷_, map, List·Memᴰ, List·Memᴰ·head, List·Memᴰ·tail, List·Memᴰ·not-nil, List·Memᴰ·cases-cons}
 use mathlib.Core.Bool.{Bool, true, false}
@@ -50,6 +50,10 @@ pub at-ok : (n p : ℕ) → n atPlace p ≡ ok tt → n ≡ 0
 at-ok zero p e = refl
 at-ok (suc n) p e = let z : _≡_ {A = ℕ} 0 1 = cc in absurd (omega arith)
 
+pub at-from : (m p : ℕ) {n q : ℕ} → m atPlace p ≡ refused n q → (m ≡ n) × (p ≡ q) × (0 < m)
+at-from zero p e = let z : _≡_ {A = ℕ} 0 1 = cc in absurd (omega arith)
+at-from (suc m) p e = (cc, cc, omega arith)
+
 pub at-none : {n : ℕ} (p : ℕ) → n ≡ 0 → n atPlace p ≡ ok tt
 at-none p e = rw e
 
@@ -75,20 +79,27 @@ module _ {A : Type 0} where
   pub ok-refused : {G : Type 0} {a : A} {n p : ℕ} → refused n p ≡ ok a → G
   ok-refused e = let z : _≡_ {A = ℕ} 0 1 = cc in absurd (omega arith)
 
--- what holds of 0 and of every number of a chain
-module _ (P : ℕ → Type 0) (none : P 0) where
-  pub if-every : (n : ℕ) (b : Bool) → P n → P (n if b)
-  if-every n true h = h
-  if-every n false h = none
+-- a refusal number that is none, or lies from a to b
+abbrev pub Within : ℕ → ℕ → ℕ → Type 0
+Within a b n = (n ≡ 0) ⊎ ((a ≤ n) × (n ≤ b))
 
-  pub orElse-every : (n m : ℕ) → P n → P m → P (n orElse m)
-  orElse-every zero m h g = g
-  orElse-every (suc n) m h g = h
+module _ (a b : ℕ) where
+  pub within-if : (n : ℕ) (t : Bool) → a ≤ n → n ≤ b → Within a b (n if t)
+  within-if n true h k = inr (h, k)
+  within-if n false h k = inl refl
 
-  pub firstOf-every : (f : ℕ → ℕ) (ps : List ℕ) → ((p : ℕ) → P (f p)) → P (firstOf f ps)
+  pub within-orElse : (n m : ℕ) → Within a b n → Within a b m → Within a b (n orElse m)
+  within-orElse zero m h k = k
+  within-orElse (suc n) m h k = h
+
+  pub within-firstOf : (f : ℕ → ℕ) (ps : List ℕ) → ((p : ℕ) → Within a b (f p)) → Within a b (firstOf f ps)
   unfolding firstOf
-  firstOf-every f [] h = none
-  firstOf-every f (p ∷ ps) h = orElse-every (f p) (firstOf f ps) (h p) (firstOf-every f ps h)
+  within-firstOf f [] h = inl refl
+  within-firstOf f (p ∷ ps) h = within-orElse (f p) (firstOf f ps) (h p) (within-firstOf f ps h)
+
+  pub within-some : {n : ℕ} → Within a b n → 0 < n → (a ≤ n) × (n ≤ b)
+  within-some (inl z) e = absurd (omega arith)
+  within-some (inr w) e = w
 
 -- the first refusal number of a list
 pub firstOf-none : (f : ℕ → ℕ) {p : ℕ} (ps : List ℕ) → firstOf f ps ≡ 0 → List·Memᴰ p ps → f p ≡ 0
@@ -124,3 +135,16 @@ first-ok f {p} (q ∷ ps) e m = go (first-ok f ps) (List·Memᴰ·cases-cons m)
     go : (first f ps ≡ ok tt → List·Memᴰ p ps → f p ≡ ok tt) → (p ≡ q) ⊎ List·Memᴰ p ps → f p ≡ ok tt
     go below (inl h) = ap f h ∙ and-ok (f q) (first f ps) e .0
     go below (inr h) = below (and-ok (f q) (first f ps) e .1) h
+
+pub first-all : (f : ℕ → Verdict) (ps : List ℕ) → ((p : ℕ) → List·Memᴰ p ps → f p ≡ ok tt) → first f ps ≡ ok tt
+unfolding first
+first-all f [] h = refl
+first-all f (p ∷ ps) h = rw (h p (List·Memᴰ·head refl), first-all f ps (λ q m. h q (List·Memᴰ·tail m)))
+
+-- the first refusal of a list is the refusal of one of its places
+pub first-from : (f : ℕ → Verdict) {n q : ℕ} (ps : List ℕ) → first f ps ≡ refused n q → (p : ℕ) × List·Memᴰ p ps × (f p ≡ refused n q)
+unfolding first
+first-from f [] e = let z : _≡_ {A = ℕ} 0 1 = cc in absurd (omega arith)
+first-from f {n} {q} (p ∷ ps) e = let below = first-from f {n = n} {q = q} ps in by-verdict (f p)
+    (λ m r t. (p, List·Memᴰ·head refl, t ∙ (rw t at e)))
+    (λ t. let b = below (rw t at e) in (b .0, List·Memᴰ·tail (b .1), b .2))

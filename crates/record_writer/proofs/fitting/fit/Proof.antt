@@ -1,12 +1,12 @@
 -- Part by part, by the law that what fits, fits by its parts. Assumes nothing.
 use borrow.Author.Needs.{needs}
 use Rattle.record_writer.proofs.fitting.fit.Statement.{statement}
-use borrow.Author.Tests.{not-true, not-false, ne-eqb}
+use mathlib.Core.Bool.{and-true}
+use borrow.Author.Tests.{ne-eqb, not-true, not-false}
 use Rattle.words.specs.Tests.{all}
 use Rattle.words.proofs.Tests.{tests}
 use Rattle.records.specs.Parts.{fitsByParts}
 use Rattle.records.proofs.Fits.{fits-by-parts}
-use mathlib.Core.Bool.{and-true}
 use Rattle.record_writer.proofs.fitting.fit.Tie as tie
 
 numbers-fit-requires : tie.Need-numbers-fit-requires
@@ -30,22 +30,19 @@ returns-3 : tie.Need-returns-3
 unfolding fitsByParts all
 returns-3 c = rw (fits-by-parts, ← c .before .before .before .before .before .before .before .numbers-fit .ensures, not-false (c .before .before .before .before .before .before .before .numbers-fit .result) (c .before .before .before .before .before .before .if1 .left), ← c .before .before .before .layout-of .ensures, ← c .before .are-sets .ensures, not-true (c .before .are-sets .result) (c .if3 .taken)) (search tests)
 
-picture-types-requires : tie.Need-picture-types-requires
-picture-types-requires c κs = search needs
-
 are-sets-requires-2 : tie.Need-are-sets-requires-2
 are-sets-requires-2 c κs = search needs
 
 returns-4 : tie.Need-returns-4
 unfolding fitsByParts all
-returns-4 c = rw (fits-by-parts, ← c .before .before .before .before .before .before .before .before .before .before .numbers-fit .ensures, not-false (c .before .before .before .before .before .before .before .before .before .before .numbers-fit .result) (c .before .before .before .before .before .before .before .before .before .if1 .left), ← c .before .before .before .before .before .before .layout-of .ensures, ← c .before .before .before .before .are-sets .ensures, not-false (c .before .before .before .before .are-sets .result) (c .before .before .before .if3 .left), ← c .before .before .picture-types .ensures, ← c .before .are-sets2 .ensures, not-true (c .before .are-sets2 .result) (c .if4 .taken)) (search tests)
+returns-4 c = rw (fits-by-parts, ← c .before .before .before .before .before .before .before .before .before .numbers-fit .ensures, not-false (c .before .before .before .before .before .before .before .before .before .numbers-fit .result) (c .before .before .before .before .before .before .before .before .if1 .left), ← c .before .before .before .before .before .layout-of .ensures, ← c .before .before .before .are-sets .ensures, not-false (c .before .before .before .are-sets .result) (c .before .before .if3 .left), ← c .before .are-sets2 .ensures, not-true (c .before .are-sets2 .result) (c .if4 .taken)) (search tests)
 
 trailer-fits-requires : tie.Need-trailer-fits-requires
 trailer-fits-requires c κs = search needs
 
 returns-5 : tie.Need-returns-5
 unfolding fitsByParts all
-returns-5 c = rw (fits-by-parts, ← c .before .before .before .before .before .before .before .before .before .before .before .numbers-fit .ensures, not-false (c .before .before .before .before .before .before .before .before .before .before .before .numbers-fit .result) (c .before .before .before .before .before .before .before .before .before .before .if1 .left), ← c .before .before .before .before .before .before .before .layout-of .ensures, ← c .before .before .before .before .before .are-sets .ensures, not-false (c .before .before .before .before .before .are-sets .result) (c .before .before .before .before .if3 .left), ← c .before .before .before .picture-types .ensures, ← c .before .before .are-sets2 .ensures, not-false (c .before .before .are-sets2 .result) (c .before .if4 .left), ne-eqb (c .before .before .before .before .before .before .before .before .before .before .before .before .before .before .before .args .f .size) 3 (c .before .before .before .before .before .before .before .before .if2 .left), and-true) (c .trailer-fits .ensures)
+returns-5 c = rw (fits-by-parts, ← c .before .before .before .before .before .before .before .before .before .before .numbers-fit .ensures, not-false (c .before .before .before .before .before .before .before .before .before .before .numbers-fit .result) (c .before .before .before .before .before .before .before .before .before .if1 .left), ← c .before .before .before .before .before .before .layout-of .ensures, ← c .before .before .before .before .are-sets .ensures, not-false (c .before .before .before .before .are-sets .result) (c .before .before .before .if3 .left), ← c .before .before .are-sets2 .ensures, not-false (c .before .before .are-sets2 .result) (c .before .if4 .left), ne-eqb (c .before .before .before .before .before .before .before .before .before .before .before .before .before .before .args .f .size) 3 (c .before .before .before .before .before .before .before .if2 .left), and-true) (c .trailer-fits .ensures)
 
 pub fit-spec : {M : Type 1} → statement M
 fit-spec =
@@ -57,7 +54,6 @@ fit-spec =
     layout-of-requires
     are-sets-requires
     returns-3
-    picture-types-requires
     are-sets-requires-2
     returns-4
     trailer-fits-requires

@@ -19,9 +19,6 @@ enum-known-trailer c = search needs
 returns-2 : tie.Need-returns-2
 returns-2 c = rw (c .before .before .trailer .given .1, ← c .before .before .before .before .has-trailer .ensures, not-true (c .before .before .before .before .has-trailer .result) (c .if2 .taken))
 
-extension-types-requires : tie.Need-extension-types-requires
-extension-types-requires c κs = search needs
-
 are-sets-requires : tie.Need-are-sets-requires
 are-sets-requires c κs = search needs
 
@@ -29,7 +26,7 @@ returns-3 : tie.Need-returns-3
 returns-3 c = rw (c .before .enum-told .given .1, ← c .before .before .before .has-trailer .ensures, c .if1 .left)
 
 returns-4 : tie.Need-returns-4
-returns-4 c = rw (c .before .before .before .before .trailer .given .1, ← c .before .before .before .before .before .before .has-trailer .ensures, not-false (c .before .before .before .before .before .before .has-trailer .result) (c .before .before .if2 .left), ← c .before .extension-types .ensures) (c .are-sets .ensures)
+returns-4 c = rw (c .before .before .before .trailer .given .1, ← c .before .before .before .before .before .has-trailer .ensures, not-false (c .before .before .before .before .before .has-trailer .result) (c .before .if2 .left)) (c .are-sets .ensures)
 
 pub trailer-fits-spec : {M : Type 1} → statement M
 trailer-fits-spec =
@@ -40,7 +37,6 @@ trailer-fits-spec =
     returns
     enum-known-trailer
     returns-2
-    extension-types-requires
     are-sets-requires
     returns-3
     returns-4)

@@ -1,5 +1,4 @@
 -- Each byte by its shape. Assumes nothing.
-use borrow.Author.Needs.{needs}
 use native.Mathlib.Omega.{arith}
 use Rattle.record_writer.proofs.putting.high_bytes.Statement.{statement}
 use Rattle.records.specs.Layout.{chromaShape, depthShape}
@@ -11,39 +10,21 @@ use Rattle.record_writer.proofs.putting.high_bytes.Tie as tie
 fit : (c : tie.Start) → HighNumbers (c .args .t)
 fit c = high-numbers (c .args .t) (c .pre)
 
-chroma-shape-requires : tie.Need-chroma-shape-requires
-chroma-shape-requires c κs = search needs
-
 byte-of-requires : tie.Need-byte-of-requires
-byte-of-requires c κs = rw (c .chroma-shape .ensures) (plain-below chromaShape sound-chroma 0 (c .before .args .t .format) (fit (c .before) .format))
-
-depth-shape-requires : tie.Need-depth-shape-requires
-depth-shape-requires c κs = search needs
+byte-of-requires c κs = plain-below chromaShape sound-chroma 0 (c .args .t .format) (fit c .format)
 
 byte-of-requires-2 : tie.Need-byte-of-requires-2
-byte-of-requires-2 c κs = rw (c .depth-shape .ensures) (plain-below depthShape sound-depth 0 (c .before .before .before .args .t .luma) (fit (c .before .before .before) .luma))
-
-depth-shape-requires-2 : tie.Need-depth-shape-requires-2
-depth-shape-requires-2 c κs = search needs
+byte-of-requires-2 c κs = plain-below depthShape sound-depth 0 (c .before .args .t .luma) (fit (c .before) .luma)
 
 byte-of-requires-3 : tie.Need-byte-of-requires-3
-byte-of-requires-3 c κs = rw (c .depth-shape2 .ensures) (plain-below depthShape sound-depth 0 (c .before .before .before .before .before .args .t .chroma) (fit (c .before .before .before .before .before) .chroma))
+byte-of-requires-3 c κs = plain-below depthShape sound-depth 0 (c .before .before .args .t .chroma) (fit (c .before .before) .chroma)
 
 cast-t6 : tie.Need-cast-t6
-cast-t6 c = let n = fit (c .before .before .before .before .before .before .before) in omega (arith, n .extensions)
+cast-t6 c = let n = fit (c .before .before .before .before) in omega (arith, n .extensions)
 
 returns : tie.Need-returns
-returns c = rw (c .before .before .before .before .before .byte-of .ensures, c .before .before .before .before .before .before .chroma-shape .ensures, c .before .before .before .byte-of2 .ensures, c .before .before .before .before .depth-shape .ensures, c .before .byte-of3 .ensures, c .before .before .depth-shape2 .ensures)
+returns c = rw (c .before .before .before .byte-of .ensures, c .before .before .byte-of2 .ensures, c .before .byte-of3 .ensures)
 
 pub high-bytes-spec : {M : Type 1} → statement M
 high-bytes-spec =
-    tie.close
-    (tie.spec
-    chroma-shape-requires
-    byte-of-requires
-    depth-shape-requires
-    byte-of-requires-2
-    depth-shape-requires-2
-    byte-of-requires-3
-    cast-t6
-    returns)
+    tie.close (tie.spec byte-of-requires byte-of-requires-2 byte-of-requires-3 cast-t6 returns)

@@ -6,17 +6,11 @@ use Rattle.records.proofs.steps.high_of.Statement.{statement}
 use Rattle.records.proofs.Shapes.{sound-chroma, sound-depth}
 use Rattle.records.proofs.steps.high_of.Tie as tie
 
-chroma-shape-requires : tie.Need-chroma-shape-requires
-chroma-shape-requires c κs = search needs
-
 shared-slice-read-value-in : tie.Need-shared-slice-read-value-in
 shared-slice-read-value-in c = search needs
 
 value-in-requires : tie.Need-value-in-requires
-value-in-requires c κs = rw (c .before .chroma-shape .ensures) sound-chroma
-
-depth-shape-requires : tie.Need-depth-shape-requires
-depth-shape-requires c κs = search needs
+value-in-requires c κs = sound-chroma
 
 add-value-in : tie.Need-add-value-in
 add-value-in c = search needs
@@ -25,10 +19,7 @@ shared-slice-read-value-in-2 : tie.Need-shared-slice-read-value-in-2
 shared-slice-read-value-in-2 c = search needs
 
 value-in-requires-2 : tie.Need-value-in-requires-2
-value-in-requires-2 c κs = rw (c .before .depth-shape .ensures) sound-depth
-
-depth-shape-requires-2 : tie.Need-depth-shape-requires-2
-depth-shape-requires-2 c κs = search needs
+value-in-requires-2 c κs = sound-depth
 
 add-value-in-2 : tie.Need-add-value-in-2
 add-value-in-2 c = search needs
@@ -37,7 +28,7 @@ shared-slice-read-value-in-3 : tie.Need-shared-slice-read-value-in-3
 shared-slice-read-value-in-3 c = search needs
 
 value-in-requires-3 : tie.Need-value-in-requires-3
-value-in-requires-3 c κs = rw (c .before .depth-shape2 .ensures) sound-depth
+value-in-requires-3 c κs = sound-depth
 
 add-extensions : tie.Need-add-extensions
 add-extensions c = search needs
@@ -46,31 +37,20 @@ shared-slice-read-extensions : tie.Need-shared-slice-read-extensions
 shared-slice-read-extensions c = search needs
 
 cast-extensions : tie.Need-cast-extensions
-cast-extensions c = omega (arith, c .shared-slice-known5 .given (c .before .before .before .before .before .before .before .before .before .before .before .args .at + 3))
+cast-extensions c = omega (arith, c .shared-slice-known5 .given (c .before .before .before .before .before .before .before .before .args .at + 3))
 
 returns : tie.Need-returns
-returns c =
-    rw (
-      c .before .before .before .before .before .before .before .value-in .ensures,
-      c .before .before .before .before .before .before .before .before .before .chroma-shape .ensures,
-      c .before .before .before .before .value-in2 .ensures,
-      c .before .before .before .before .before .before .depth-shape .ensures,
-      c .before .value-in3 .ensures,
-      c .before .before .before .depth-shape2 .ensures,
-    )
+returns c = rw (c .before .before .before .before .before .value-in .ensures, c .before .before .before .value-in2 .ensures, c .before .value-in3 .ensures)
 
 pub high-of-spec : {M : Type 1} → statement M
 high-of-spec =
     tie.close
     (tie.spec
-    chroma-shape-requires
     shared-slice-read-value-in
     value-in-requires
-    depth-shape-requires
     add-value-in
     shared-slice-read-value-in-2
     value-in-requires-2
-    depth-shape-requires-2
     add-value-in-2
     shared-slice-read-value-in-3
     value-in-requires-3

@@ -1,14 +1,14 @@
 -- The values, then the walk over the sets. Assumes nothing.
 use borrow.Author.Needs.{needs}
 use native.Mathlib.Omega.{arith}
-use mathlib.Core.Path.{sym, _∙_, _≡_}
+use mathlib.Core.Path.{_≡_, sym, _∙_}
 use Prim.Native.Nat.{_+_, _<_}
 use lib.ListN.{length}
 use Rattle.records.proofs.steps.walk_trailer.Statement.{statement}
 use Rattle.words.specs.Bytes.{byteAt}
 use Rattle.records.specs.Layout.{extensionTypes}
-use Rattle.records.proofs.Walked.{walked, cut-walk, values-then, values-there}
 use Rattle.records.specs.Steps.{valuesFault}
+use Rattle.records.proofs.Walked.{walked, cut-walk, values-then, values-there}
 use Rattle.records.proofs.steps.walk_trailer.Tie as tie
 
 -- the number of sets is there
@@ -30,20 +30,17 @@ shared-slice-read-n c = count-there (c .before)
 cast-n : tie.Need-cast-n
 cast-n c = omega (arith, c .shared-slice-known2 .given (c .before .before .before .before .args .at + 3))
 
-extension-types-requires : tie.Need-extension-types-requires
-extension-types-requires c κs = search needs
-
 add-walk-sets : tie.Need-add-walk-sets
-add-walk-sets c = let l = count-there (c .before .before) in omega arith
+add-walk-sets c = let l = count-there (c .before) in omega arith
 
 walk-sets-requires : tie.Need-walk-sets-requires
 walk-sets-requires c κs = search needs
 
 returns-2 : tie.Need-returns-2
 returns-2 c =
-    let a = c .before .before .before .before .before .before .args in
-    let e : valuesFault (a .s .now) (a .at) ≡ 0 = sym (c .before .before .before .before .values-fault .ensures) ∙ c .before .before .before .if1 .left in
-    rw (values-then (a .s .now) (a .at), e) (walked extensionTypes (a .s .now) (byteAt (a .s .now) (a .at + 3)) (a .at + 4) _ (rw (← c .before .extension-types .ensures) (c .walk-sets .ensures)))
+    let a = c .before .before .before .before .before .args in
+    let e : valuesFault (a .s .now) (a .at) ≡ 0 = sym (c .before .before .before .values-fault .ensures) ∙ c .before .before .if1 .left in
+    rw (values-then (a .s .now) (a .at), e) (walked extensionTypes (a .s .now) (byteAt (a .s .now) (a .at + 3)) (a .at + 4) _ (c .walk-sets .ensures))
 
 pub walk-trailer-spec : {M : Type 1} → statement M
 walk-trailer-spec =
@@ -54,7 +51,6 @@ walk-trailer-spec =
     add-n
     shared-slice-read-n
     cast-n
-    extension-types-requires
     add-walk-sets
     walk-sets-requires
     returns-2)

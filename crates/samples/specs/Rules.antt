@@ -1,0 +1,35 @@
+-- The rules of all units of a sample in plain facts, and which refusals there are. The laws are in proofs/Laws.
+--
+--   Rules              every unit's rules hold
+--   SampleRefusal      a refusal of the check: its number, and its place in the sample
+--   AloneRefusal       a refusal of the check outside a bundle
+use Prim.Native.Nat.{ℕ, _≤_, _<_}
+use mathlib.Core.Path.{_≡_}
+use mathlib.Core.List.{List, List·Memᴰ}
+use mathlib.Core.Bool.{true}
+use mathlib.Core.Logic.{_⊎_}
+use lib.ListN.{length}
+use Rattle.words.specs.RefusalNumbers.{unknownKind, badLengthSize, lengthFieldCut, badExtractorSize}
+use Rattle.numbers.specs.Sizes.{extractorSize}
+use Rattle.units.specs.Units.{Sample, size, next, isAggregator, isExtractor, topUnits, border}
+use Rattle.units.specs.Aggregators.{included, coverEnd}
+use Rattle.units.specs.Rules.{Wholes, Included, Clear}
+
+pub record Rules (x : Sample) : Type 0 where
+  -- 14 to 18 of the top-level units
+  pub tops : Wholes x
+  -- 14 to 20 and 22 of the included units
+  pub inside : (p q : ℕ) → List·Memᴰ p (topUnits x) → isAggregator x p ≡ true → List·Memᴰ q (included x p) → Included x (next x p) q
+  -- 21: what an aggregator covers ends on a border, and holds no aggregator
+  pub borders : (p : ℕ) → List·Memᴰ p (topUnits x) → isAggregator x p ≡ true → border x (coverEnd x p) ≡ true
+  pub clear : (p : ℕ) → List·Memᴰ p (topUnits x) → isAggregator x p ≡ true → Clear x (next x p) (coverEnd x p)
+  -- 22 of the top-level extractors
+  pub extractors : (p : ℕ) → List·Memᴰ p (topUnits x) → isExtractor x p ≡ true → size x p ≡ extractorSize (x .lengthSize)
+
+-- 14 to 22, at a place in the sample s
+abbrev pub SampleRefusal : List ℕ → ℕ → ℕ → Type 0
+SampleRefusal s n p = (lengthFieldCut ≤ n) × (n ≤ badExtractorSize) × (p < length s)
+
+-- or 4 or 11, both at 0
+abbrev pub AloneRefusal : List ℕ → ℕ → ℕ → Type 0
+AloneRefusal s n p = ((n ≡ unknownKind) × (p ≡ 0)) ⊎ (((n ≡ badLengthSize) × (p ≡ 0)) ⊎ SampleRefusal s n p)

@@ -1,0 +1,89 @@
+-- Each return is one test of the definition, over the numbers that were read. Assumes nothing.
+use borrow.Author.Needs.{needs}
+use native.Mathlib.Omega.{arith}
+use Prim.Native.Nat.{_-_}
+use Rattle.units.proofs.unit_fault.Statement.{statement}
+use Rattle.words.proofs.Tests.{tests}
+use borrow.Author.Tests.{lt-ltb}
+use Rattle.numbers.specs.Sizes.{inBytes}
+use Rattle.numbers.proofs.Laws.{L-some}
+use Rattle.units.specs.Units.{unitFault, size, type}
+use Rattle.units.proofs.unit_fault.Tie as tie
+
+bytes-requires : tie.Need-bytes-requires
+bytes-requires c κs = search needs
+
+returns : tie.Need-returns
+unfolding unitFault
+returns c =
+    let a = c .before .before .before .args in
+    rw (lt-ltb (a .end .0 - a .at .0) (inBytes (a .k .«length_size»)) (omega (arith, L-some (a .k .«length_size»))))
+
+sub-if2 : tie.Need-sub-if2
+sub-if2 c = search needs
+
+returns-2 : tie.Need-returns-2
+unfolding unitFault
+returns-2 c = rw (← c .before .before .bytes .ensures .0) (search tests)
+
+number-requires : tie.Need-number-requires
+number-requires c κs = search needs
+
+sub-if3 : tie.Need-sub-if3
+sub-if3 c = search needs
+
+sub-if3-2 : tie.Need-sub-if3-2
+sub-if3-2 c = search needs
+
+returns-3 : tie.Need-returns-3
+unfolding unitFault size
+returns-3 c = rw (← c .before .number .ensures, ← c .before .before .before .before .bytes .ensures .0) (search tests)
+
+returns-4 : tie.Need-returns-4
+unfolding unitFault size
+returns-4 c = rw (← c .before .before .number .ensures, ← c .before .before .before .before .before .bytes .ensures .0) (search tests)
+
+add-byte : tie.Need-add-byte
+add-byte c = search needs
+
+byte-requires : tie.Need-byte-requires
+byte-requires c κs = search needs
+
+returns-5 : tie.Need-returns-5
+unfolding unitFault size
+returns-5 c = rw (← c .before .before .before .before .number .ensures, ← c .before .before .before .before .before .before .before .bytes .ensures .0, ← c .before .byte .ensures) (search tests)
+
+least-size-requires : tie.Need-least-size-requires
+least-size-requires c κs = search needs
+
+returns-6 : tie.Need-returns-6
+unfolding unitFault size type
+returns-6 c =
+    let e = rw (← c .before .before .before .before .before .before .before .before .before .bytes .ensures .0) at (c .before .least-size .ensures) in
+    rw (← c .before .before .before .before .before .before .number .ensures, ← c .before .before .before .before .before .before .before .before .before .bytes .ensures .0, ← c .before .before .before .byte .ensures, ← e) (search tests)
+
+returns-7 : tie.Need-returns-7
+unfolding unitFault size type
+returns-7 c =
+    let e = rw (← c .before .before .before .before .before .before .before .before .before .bytes .ensures .0) at (c .before .least-size .ensures) in
+    rw (← c .before .before .before .before .before .before .number .ensures, ← c .before .before .before .before .before .before .before .before .before .bytes .ensures .0, ← c .before .before .before .byte .ensures, ← e) (search tests)
+
+pub unit-fault-spec : {M : Type 1} → statement M
+unit-fault-spec =
+    tie.close
+    (tie.spec
+    bytes-requires
+    returns
+    sub-if2
+    returns-2
+    number-requires
+    sub-if3
+    sub-if3-2
+    returns-3
+    returns-4
+    add-byte
+    byte-requires
+    returns-5
+    least-size-requires
+    returns-6
+    returns-7)

@@ -1,0 +1,248 @@
+// The units of a sample: what stands at a place, and what is wrong with it.
+ghost use mathlib.Core.Path.{_≡_};
+ghost use mathlib.Core.List.{[]};
+ghost use mathlib.Core.Bool.{_&&_};
+ghost use Rattle.numbers.specs.Kinds.{isAvc};
+ghost use Rattle.units.specs.Units.{sample, type, leastSize, unitFault};
+ghost use Rattle.units.specs.Extractors.{extractorFault};
+ghost use Rattle.units.specs.Aggregators.{isSlice, includedFault};
+ghost use Rattle.units.specs.Steps.{unitAt, aggregatorAt, extractorAt};
+use numbers::ByteOffset;
+use numbers::Kind;
+use numbers::LengthSize;
+use numbers::refusals;
+
+// The types of units that the check is about.
+pub const AGGREGATOR: u8 = 30;
+
+pub const EXTRACTOR: u8 = 31;
+
+// What a track says of its samples.
+pub struct Track {
+    pub kind: Kind,
+    pub length_size: LengthSize,
+}
+
+// A unit: its first byte, after the length field; its size; its type; where the next unit's length field starts.
+pub struct NalUnit {
+    pub start: ByteOffset,
+    pub size: usize,
+    pub nal_type: u8,
+    pub next: ByteOffset,
+}
+
+pub enum MaybeUnit {
+    Unit(NalUnit),
+    Nothing,
+}
+
+// An aggregator: where its included units start and end, its additional_bytes, and where what they cover ends.
+pub struct Aggregator {
+    pub included: ByteOffset,
+    pub end: ByteOffset,
+    pub additional_bytes: usize,
+    pub cover_end: ByteOffset,
+}
+
+pub enum MaybeAggregator {
+    Aggregator(Aggregator),
+    Nothing,
+}
+
+// The fields of an extractor. The sample_offset is the byte as it stands: 128 and more are negative.
+pub struct Extractor {
+    pub track_ref_index: u8,
+    pub sample_offset: u8,
+    pub data_offset: ByteOffset,
+    pub data_length: usize,
+}
+
+pub enum MaybeExtractor {
+    Extractor(Extractor),
+    Nothing,
+}
+
+// The type of the unit at a place; 0 where there is no byte.
+pub fn type_at(k: Track, s: &[u8], at: ByteOffset) -> u8
+    ensures { λ r. ⌜ r ≡ type (sample k (now (s .entry))) (at .0) ⌝ }
+{
+    let l = k.length_size;
+    let n = l.bytes();
+    let p = at.0;
+    if s.len() <= p {
+        return 0;
+    }
+    if s.len() - p <= n {
+        return 0;
+    }
+    s[p + n] % 32
+}
+
+// The least size of a unit of a type.
+fn least_size(k: Track, t: u8) -> usize
+    ensures { λ r. ⌜ r ≡ leastSize (sample k []) t ⌝ }
+{
+    let l = k.length_size;
+    if t == AGGREGATOR {
+        return l.least_aggregator();
+    }
+    if t == 14 {
+        return LengthSize::HEADER;
+    }
+    if t == 20 {
+        return LengthSize::HEADER;
+    }
+    if t == EXTRACTOR {
+        return LengthSize::HEADER;
+    }
+    1
+}
+
+// The first of 14 to 18 for the unit at a place, in what ends at an offset; 0 for none.
+pub fn unit_fault(k: Track, s: &[u8], at: ByteOffset, end: ByteOffset) -> u8
+    ensures { λ r. ⌜ r ≡ unitFault (sample k (now (s .entry))) (end .0) (at .0) ⌝ }
+{
+    let p = at.0;
+    let e = end.0;
+    let l = k.length_size;
+    let n = l.bytes();
+    if e <= p {
+        return refusals::LENGTH_FIELD_CUT;
+    }
+    if e - p < n {
+        return refusals::LENGTH_FIELD_CUT;
+    }
+    let size = l.number(s, p);
+    if e - p - n < size {
+        return refusals::UNIT_TOO_LONG;
+    }
+    if size == 0 {
+        return refusals::EMPTY_UNIT;
+    }
+    let head = numbers::byte(s, p + n);
+    if 128 <= head {
+        return refusals::TOP_BIT_SET;
+    }
+    if size < least_size(k, head % 32) {
+        return refusals::UNIT_TOO_SHORT;
+    }
+    0
+}
+
+// 22 for the unit at a place: an extractor of another size; 0 for none.
+pub fn extractor_fault(k: Track, s: &[u8], at: ByteOffset) -> u8
+    ensures { λ r. ⌜ r ≡ extractorFault (sample k (now (s .entry))) (at .0) ⌝ }
+{
+    if type_at(k, s, at) != EXTRACTOR {
+        return 0;
+    }
+    let l = k.length_size;
+    if l.number(s, at.0) == l.extractor_size() {
+        return 0;
+    }
+    refusals::BAD_EXTRACTOR_SIZE
+}
+
+// Whether an aggregator of a track of this kind may not include this type.
+fn barred(kind: Kind, t: u8) -> bool
+    ensures { λ r. ⌜ r ≡ isAvc kind && isSlice t ⌝ }
+{
+    match kind {
+        Kind::Avc => if 1 <= t { t <= 5 } else { false },
+        Kind::Svc => false,
+    }
+}
+
+// The first of 14 to 20 and 22 for the unit that an aggregator includes at a place and that ends at an offset; 0 for none.
+pub fn included_fault(k: Track, s: &[u8], at: ByteOffset, end: ByteOffset) -> u8
+    ensures { λ r. ⌜ r ≡ includedFault (sample k (now (s .entry))) (end .0) (at .0) ⌝ }
+{
+    let f = unit_fault(k, s, at, end);
+    if f != 0 {
+        return f;
+    }
+    let t = type_at(k, s, at);
+    if t == AGGREGATOR {
+        return refusals::NESTED_AGGREGATOR;
+    }
+    let kind = k.kind;
+    if barred(kind, t) {
+        return refusals::SLICE_IN_AVC_AGGREGATOR;
+    }
+    extractor_fault(k, s, at)
+}
+
+// The unit at a place, if it has none of 14 to 18 in what ends at an offset.
+pub fn unit_at(k: Track, s: &[u8], at: ByteOffset, end: ByteOffset) -> MaybeUnit
+    ensures { λ r. ⌜ r ≡ unitAt (sample k (now (s .entry))) (end .0) (at .0) ⌝ }
+{
+    if unit_fault(k, s, at, end) != 0 {
+        return MaybeUnit::Nothing;
+    }
+    let l = k.length_size;
+    let start = at.0 + l.bytes();
+    let size = l.number(s, at.0);
+    let next = start + size;
+    let t = type_at(k, s, at);
+    MaybeUnit::Unit(NalUnit {
+        start: ByteOffset(start),
+        size: size,
+        nal_type: t,
+        next: ByteOffset(next),
+    })
+}
+
+// The parts of the aggregator at a place, if it is one, has none of 14 to 18 and covers no more than what ends at an offset.
+pub fn aggregator_at(k: Track, s: &[u8], at: ByteOffset, end: ByteOffset) -> MaybeAggregator
+    ensures { λ r. ⌜ r ≡ aggregatorAt (sample k (now (s .entry))) (end .0) (at .0) ⌝ }
+{
+    if unit_fault(k, s, at, end) != 0 {
+        return MaybeAggregator::Nothing;
+    }
+    if type_at(k, s, at) != AGGREGATOR {
+        return MaybeAggregator::Nothing;
+    }
+    let l = k.length_size;
+    let n = l.bytes();
+    let p = at.0;
+    let next = p + n + l.number(s, p);
+    let head = p + n + LengthSize::HEADER;
+    let more = l.number(s, head);
+    if end.0 - next < more {
+        return MaybeAggregator::Nothing;
+    }
+    MaybeAggregator::Aggregator(Aggregator {
+        included: ByteOffset(head + n),
+        end: ByteOffset(next),
+        additional_bytes: more,
+        cover_end: ByteOffset(next + more),
+    })
+}
+
+// The fields of the extractor at a place, if it is one and has none of 14 to 18 and 22 in what ends at an offset.
+pub fn extractor_at(k: Track, s: &[u8], at: ByteOffset, end: ByteOffset) -> MaybeExtractor
+    ensures { λ r. ⌜ r ≡ extractorAt (sample k (now (s .entry))) (end .0) (at .0) ⌝ }
+{
+    if unit_fault(k, s, at, end) != 0 {
+        return MaybeExtractor::Nothing;
+    }
+    if type_at(k, s, at) != EXTRACTOR {
+        return MaybeExtractor::Nothing;
+    }
+    if extractor_fault(k, s, at) != 0 {
+        return MaybeExtractor::Nothing;
+    }
+    let l = k.length_size;
+    let n = l.bytes();
+    let fields = at.0 + n + LengthSize::HEADER;
+    let index = numbers::byte(s, fields);
+    let offset = numbers::byte(s, fields + 1);
+    let from = l.number(s, fields + 2);
+    let length = l.number(s, fields + 2 + n);
+    MaybeExtractor::Extractor(Extractor {
+        track_ref_index: index,
+        sample_offset: offset,
+        data_offset: ByteOffset(from),
+        data_length: length,
+    })
+}

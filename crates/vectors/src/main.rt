@@ -1,0 +1,61 @@
+// Answers requests from standard input, one line each. The form of a request is in tests/vectors/README.md.
+mod check;
+mod print;
+mod record;
+mod request;
+mod writerec;
+
+use libc::STDIN_FILENO;
+
+// Fewer requests than this are answered: a proved loop has to end, and nothing says that the input does.
+const REQUESTS: usize = 1000000;
+
+// Answers the request of n bytes at the start of the buffer: its kind, then its fields.
+fn answer(buffer: &[u8; 65536], n: usize) {
+    let s = request::part(buffer, 0, n);
+    let kind = numbers::byte(s, 0);
+    let fields = request::skip(s, 1);
+    match kind {
+        1 => record::answer(fields),
+        2 => writerec::answer(fields),
+        3 => check::answer(fields),
+        _ => print::line(b"unknown request"),
+    }
+}
+
+// Answers the next request, and says whether there may be one more.
+fn answer_next() -> bool {
+    let mut head = [0u8; 4];
+    let got = io::read_full(STDIN_FILENO, &mut head);
+    if got == 0 {
+        return false;
+    }
+    if got < 4 {
+        print::line(b"request cut");
+        return false;
+    }
+    let n = numbers::number(&head, 0, 4);
+    let mut buffer = [0u8; 65536];
+    if buffer.len() < n {
+        print::line(b"request too long");
+        return false;
+    }
+    let there = io::read_full(STDIN_FILENO, &mut buffer[0..n]);
+    if there < n {
+        print::line(b"request cut");
+        return false;
+    }
+    answer(&buffer, n);
+    true
+}
+
+fn main() {
+    let mut left = REQUESTS;
+    while 0 < left {
+        if !answer_next() {
+            return;
+        }
+        left -= 1;
+    }
+    print::line(b"too many requests");
+}
