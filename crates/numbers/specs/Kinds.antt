@@ -1,4 +1,4 @@
--- The kind of a track (01, 'The bundle', 1). A new kind is one more line of `kindOf`.
+-- The kind of a track (01, 'The bundle', 1). A new kind is one more line of `kindOf` and of `isAvc`.
 use Prim.Native.Nat.{ℕ}
 use mathlib.Core.Bool.{Bool, true, false}
 use Rattle.words.specs.Tests.{_≡?_, pick}

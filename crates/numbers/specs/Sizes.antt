@@ -1,6 +1,8 @@
 -- L, the length size of a track in bytes, and the sizes that go with it (01, 'Units in a sample').
 use Prim.Native.Nat.{ℕ, _+_, _*_}
 use Rattle.words.specs.Tests.{_≡?_, pick}
+use Rattle.words.specs.RefusalNumbers.{badLengthSize}
+use Rattle.words.specs.Refusals.{Answer, refused}
 use Rattle.numbers.specs.declared.LengthSize.{LengthSize}
 use Rattle.numbers.specs.declared.LengthSize.the-variants.{One, Two, Four}
 use Rattle.numbers.specs.declared.MaybeLengthSize.{MaybeLengthSize}
@@ -18,6 +20,11 @@ lengthSizeOf n =
     (pick (n ≡? 2) (Known Two)
     (pick (n ≡? 4) (Known Four)
     Unknown))
+
+-- 11 at 0, outside a bundle
+abbrev pub onLengthSize : {A : Type 0} → MaybeLengthSize → (LengthSize → Answer A) → Answer A
+onLengthSize (Known l) call = call l
+onLengthSize Unknown call = refused badLengthSize 0
 
 -- the header of units of types 14, 20, 30 and 31
 abbrev pub headerSize : ℕ

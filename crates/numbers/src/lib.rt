@@ -65,7 +65,7 @@ pub enum MaybeLengthSize {
 }
 
 impl LengthSize {
-    // The size of the header of an aggregator and of an extractor.
+    // The size of the header of units of types 14, 20, 30 (aggregator) and 31 (extractor).
     pub const HEADER: usize = 4;
 
     // The length size of a number: 1, 2 or 4.

@@ -1,4 +1,7 @@
-// The refusal numbers of document 01, 'Numbers for no', by name. The definitions' table is crates/words/specs/RefusalNumbers.antt.
+// The refusal numbers of document 01, 'Numbers for no', by name. The definitions' table is crates/words/specs/RefusalNumbers.antt;
+// `table` ties the two.
+ghost use mathlib.Core.Path.{_≡_};
+ghost use Rattle.words.specs.RefusalNumbers.{refusalNumbers};
 
 // the bundle
 pub const BUNDLE_TOO_LONG: u8 = 1;
@@ -66,3 +69,42 @@ pub const OUTPUT_TOO_LONG: u8 = 29;
 pub const NO_SUCH_NUMBER: u8 = 30;
 
 pub const FIELDS_FIT_NO_RECORD: u8 = 31;
+
+// All of them, in order.
+pub fn table() -> [u8; 31]
+    ensures { λ r. ⌜ r ≡ refusalNumbers ⌝ }
+{
+    [
+        BUNDLE_TOO_LONG,
+        BUNDLE_CUT,
+        COUNT_OUT_OF_LIMITS,
+        UNKNOWN_KIND,
+        BAD_REFERENCE,
+        BAD_TRACK_OR_TIME,
+        BAD_BYTE_COUNT,
+        RECORD_CUT,
+        BAD_VERSION,
+        WRONG_FIXED_BITS,
+        BAD_LENGTH_SIZE,
+        BAD_SET,
+        BYTES_AFTER_RECORD,
+        LENGTH_FIELD_CUT,
+        UNIT_TOO_LONG,
+        EMPTY_UNIT,
+        TOP_BIT_SET,
+        UNIT_TOO_SHORT,
+        NESTED_AGGREGATOR,
+        SLICE_IN_AVC_AGGREGATOR,
+        BAD_ADDITIONAL_BYTES,
+        BAD_EXTRACTOR_SIZE,
+        BAD_TRACK_REF_INDEX,
+        NO_SAMPLE_NAMED,
+        NAMED_ILL_FORMED,
+        BAD_DATA_OFFSET,
+        BAD_DATA_LENGTH,
+        EXTRACTOR_COPIED,
+        OUTPUT_TOO_LONG,
+        NO_SUCH_NUMBER,
+        FIELDS_FIT_NO_RECORD,
+    ]
+}

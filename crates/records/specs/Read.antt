@@ -1,4 +1,15 @@
 -- The refusals 8 to 13 of the bytes s of a record of kind k, front to back, and what an accepted record means.
+-- Stricter than 5.2.4.1: other types in an array are 12, bytes after the record 13, and the fixed bits are judged.
+--
+--   missing p, byteFault h p        a byte that must be there, and one with fixed bits
+--   trailerFault q, trailerEnd q, highOf q    a trailer at q
+--   headFault                       the six bytes before the sequence sets
+--   sequencesFault, sequencesEnd, picturesFault, picturesEnd    the sets
+--   trailerThere, followFault, trailerOf    what follows the picture sets
+--   recordEnd, recordFault          where the record ends, and its first refusal
+--   fieldsOf, recordOf              what an accepted record means
+--   readAs, readRecord              the answer
+--
 -- A byte is asked for (8) when the walk reaches it. Where sets end is said of any bytes; past a refusal it has no meaning and no use.
 use Prim.Native.Nat.{ℕ, _+_, _-_}
 use mathlib.Core.Bool.{Bool, not}

@@ -55,7 +55,7 @@ placed f a b x =
 
 -- every number fits its bits, and the flag is given exactly where the kind has it
 abbrev pub highNumbersFit : High → Bool
-highNumbersFit t = all ((t .format <? 4) ∷ (t .luma <? 8) ∷ (t .chroma <? 8) ∷ (t .extensions <? 256) ∷ [])
+highNumbersFit t = all ((t .format <? chromaShape .low) ∷ (t .luma <? depthShape .low) ∷ (t .chroma <? depthShape .low) ∷ (t .extensions <? 256) ∷ [])
 
 abbrev pub trailerNumbersFit : Trailer → Bool
 trailerNumbersFit Without = true

@@ -11,18 +11,15 @@ use mathlib.Core.List.{List}
 use mathlib.Core.Bool.{Bool}
 use Rattle.words.specs.Tests.{pick}
 use Rattle.words.specs.Refusals.{refused, ok, Verdict, _andThen_, _atPlace_, first, passed}
-use Rattle.words.specs.RefusalNumbers.{unknownKind, badLengthSize}
-use Rattle.numbers.specs.Kinds.{kindOf}
-use Rattle.numbers.specs.Sizes.{lengthSizeOf}
+use Rattle.numbers.specs.Kinds.{kindOf, onKind}
+use Rattle.numbers.specs.Sizes.{lengthSizeOf, onLengthSize}
 use Rattle.numbers.specs.declared.MaybeKind.{MaybeKind}
-use Rattle.numbers.specs.declared.MaybeKind.the-variants as kinds
 use Rattle.numbers.specs.declared.MaybeLengthSize.{MaybeLengthSize}
-use Rattle.numbers.specs.declared.MaybeLengthSize.the-variants as sizes
 use Rattle.units.specs.Units.{Sample, end, next, isAggregator, unitFault, topUnits}
 use Rattle.units.specs.Extractors.{extractorFault}
 use Rattle.units.specs.Aggregators.{included, includedFault, coverFault}
 use Rattle.samples.specs.declared.Checked.{Checked}
-use Rattle.samples.specs.declared.Checked.the-variants.{Good, Refused}
+use Rattle.samples.specs.declared.Checked.the-variants.{WellFormed, Refused}
 
 module _ (x : Sample) where
   -- What stands in a top-level unit: an aggregator's included units front to back, then its 21; an extractor's 22.
@@ -48,13 +45,11 @@ module _ (x : Sample) where
 
 -- Outside a bundle the kind and the length size come as numbers: 4 first, then 11, both at 0.
 abbrev pub checkOf : MaybeKind → MaybeLengthSize → List ℕ → Verdict
-checkOf kinds.Unknown l s = refused unknownKind 0
-checkOf (kinds.Known k) sizes.Unknown s = refused badLengthSize 0
-checkOf (kinds.Known k) (sizes.Known l) s = check (record { kind = k; lengthSize = l; content = s })
+checkOf kind size s = onKind kind (λ k. onLengthSize size (λ l. check (record { kind = k; lengthSize = l; content = s })))
 
 abbrev pub checkAlone : ℕ → ℕ → List ℕ → Verdict
 checkAlone kind l s = checkOf (kindOf kind) (lengthSizeOf l) s
 
 abbrev pub answerOf : Checked → Verdict
-answerOf Good = ok tt
+answerOf WellFormed = ok tt
 answerOf (Refused r) = refused (r .number) (r .place .0)

@@ -17,7 +17,7 @@ use units::Track;
 
 // A sample is well formed, or refused.
 pub enum Checked {
-    Good,
+    WellFormed,
     Refused(Refusal),
 }
 
@@ -38,7 +38,7 @@ fn check_top(k: Track, s: &[u8]) -> Checked
         }
         at = at + n + l.number(s, at);
     }
-    Checked::Good
+    Checked::WellFormed
 }
 
 // 21 of the aggregator at a top-level place: its additional_bytes end on no border, or cover an aggregator.
@@ -104,7 +104,7 @@ fn check_contents(k: Track, s: &[u8]) -> Checked
         at = end;
     }
     if number == 0 {
-        return Checked::Good;
+        return Checked::WellFormed;
     }
     Checked::Refused(Refusal {
         number: number,
@@ -118,7 +118,7 @@ pub fn check_sample(k: Track, s: &[u8]) -> Checked
 {
     let top = check_top(k, s);
     match top {
-        Checked::Good => check_contents(k, s),
+        Checked::WellFormed => check_contents(k, s),
         Checked::Refused(r) => Checked::Refused(r),
     }
 }

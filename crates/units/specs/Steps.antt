@@ -1,4 +1,4 @@
--- What the total functions for walks give, at any place p of any bytes, in what ends at e. In a well-formed sample `Nothing` does not come.
+-- What the total functions for walks give, at any place p of any bytes, in what ends at e. At the units of a well-formed sample `Nothing` does not come.
 --
 --   unitAt e p          the unit at p, if it has none of 14 to 18
 --   aggregatorAt e p    the parts of the aggregator at p, if it is one, has none of 14 to 18, and what it covers ends within e

@@ -153,7 +153,7 @@ fn barred(kind: Kind, t: u8) -> bool
     }
 }
 
-// The first of 14 to 20 and 22 for the unit that an aggregator includes at a place and that ends at an offset; 0 for none.
+// The first of 14 to 20 and 22 for the unit at a place in an aggregator that ends at an offset; 0 for none.
 pub fn included_fault(k: Track, s: &[u8], at: ByteOffset, end: ByteOffset) -> u8
     ensures { λ r. ⌜ r ≡ includedFault (sample k (now (s .entry))) (end .0) (at .0) ⌝ }
 {

@@ -9,7 +9,7 @@ pub(crate) fn answer(fields: &[u8]) {
     let s = request::bytes(request::skip_numbers(fields, 2));
     match samples::check(kind, length_size, s) {
         Checked::Refused(r) => print::refusal(r),
-        Checked::Good => print::text(b"OK"),
+        Checked::WellFormed => print::text(b"OK"),
     }
     print::end();
 }

@@ -1,4 +1,5 @@
 // Answers requests from standard input, one line each. The form of a request is in tests/vectors/README.md.
+mod bundle;
 mod check;
 mod print;
 mod record;
@@ -7,7 +8,7 @@ mod writerec;
 
 use libc::STDIN_FILENO;
 
-// Fewer requests than this are answered: a proved loop has to end, and nothing says that the input does.
+// At most this many requests are answered: a proved loop has to end, and nothing says that the input does.
 const REQUESTS: usize = 1000000;
 
 // Answers the request of n bytes at the start of the buffer: its kind, then its fields.
@@ -19,6 +20,7 @@ fn answer(buffer: &[u8; 65536], n: usize) {
         1 => record::answer(fields),
         2 => writerec::answer(fields),
         3 => check::answer(fields),
+        4 => bundle::answer(fields),
         _ => print::line(b"unknown request"),
     }
 }

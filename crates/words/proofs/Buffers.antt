@@ -7,9 +7,11 @@
 --   put-fits, put-not, put-length            a write that fits, one that does not; the length stays
 --   put-next                 a write right after what was written from the start on
 --   within-room, within-not  an answer with room, and without
+--   refused-leaves           a refusal's count is zero, and it leaves the buffer as it was
 --   refuse, accept           what a call did: refused, or wrote bytes that fit
 use Prim.Native.Nat.{ℕ, zero, suc, _+_, _-_, _≤_, _<_}
 use mathlib.Core.Path.{_≡_, refl, ap, sym, _∙_}
+use mathlib.Core.Bool.{false}
 use mathlib.Core.List.{List, [], _∷_, _++_, append-assoc, append-nil}
 use native.Mathlib.Nat.{add-assoc, add-zero, zero-add}
 use native.Mathlib.Omega.{arith}
@@ -19,9 +21,9 @@ use lib.Dec.{leb}
 use lib.ListN.{length, getD, take, drop, set, take-append-drop, length-append, length-take, length-drop}
 use lib.Seq.{paste, paste-suc, length-take-le, drop-drop, take-at, drop-at, take-length, set-at, take-suc}
 use Rattle.words.specs.RefusalNumbers.{outputTooLong}
-use Rattle.words.specs.Refusals.{Answer, refused, ok}
+use Rattle.words.specs.Refusals.{Answer, refused, ok, passed, countOf}
 use Rattle.words.specs.Buffers.{writeAt, overwrite, put, within, left, counted, Wrote}
-use Rattle.words.proofs.Tests.{by-bool}
+use Rattle.words.proofs.Tests.{by-bool, true-false}
 
 pub copy-step : (o s : List ℕ) (p i : ℕ) → p + i < length o → i < length s → set (paste o p s i) (p + i) (getD s i 0) ≡ paste o p s (i + 1)
 copy-step o s p i h k = rw (add-one i) (paste-suc o p s i 0 h k)
@@ -89,6 +91,11 @@ within-room room out h = rw (le-ltb room (length out) h)
 
 pub within-not : (room : ℕ) (out : List ℕ) → room < length out → within room (ok out) ≡ refused outputTooLong 0
 within-not room out h = rw (lt-ltb room (length out) h)
+
+-- demand 1: after a refusal the count is zero, and the buffer holds what it held before
+pub refused-leaves : {o o' : List ℕ} {r : Answer ℕ} {a : Answer (List ℕ)} → Wrote o o' r a → passed r ≡ false → (countOf r ≡ 0) × (o' ≡ o)
+refused-leaves {r = r} {a = refused n p} w f = (rw (w .answer), w .buffer)
+refused-leaves {r = r} {a = ok out} w f = true-false (passed r) (rw (w .answer)) f
 
 -- what a call did
 pub refuse : {o : List ℕ} {n p : ℕ} {a : Answer (List ℕ)} → a ≡ refused n p → Wrote o o (refused n p) a

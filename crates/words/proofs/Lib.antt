@@ -4,15 +4,19 @@
 --   Refusals    chains of refusals taken apart and built; the first refusal of a list
 --   Lists       membership, order, joined lists
 --   Walks       entries of a table, and the place after them
+--   Entries     a walk over entries, entry by entry; sums and maps
 --   Positions   what stands in a list from a place on
 --   Bytes       numbers read and written, for any width
 --   Splices     parts and cuts of a list in which a part is replaced
 --   Buffers     written bytes
+--   Rows        lists by number, written lists, rows of four numbers
 pub mod Tests
 pub mod Refusals
 pub mod Lists
 pub mod Walks
+pub mod Entries
 pub mod Positions
 pub mod Bytes
 pub mod Splices
 pub mod Buffers
+pub mod Rows

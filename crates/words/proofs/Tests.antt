@@ -2,7 +2,7 @@
 --
 --   tests                      `search tests` answers a return whose definition goes by tests, from the branches on the way
 --   by-bool, by-number         cases of a computed value, with the equation
---   and-both                   two tests of which both hold
+--   and-both, and-holds        two tests of which both hold, both ways
 --   all-first                  tests that all hold: the first, and the others
 --   bool-same                  two tests that hold for the same
 --   true-false                 no test holds and does not
@@ -31,6 +31,9 @@ module _ {G : Type 0} where
 pub and-both : (a b : Bool) → (a && b) ≡ true → (a ≡ true) × (b ≡ true)
 and-both true b e = (refl, e)
 and-both false b e = true-false false e refl
+
+pub and-holds : (a b : Bool) → a ≡ true → b ≡ true → (a && b) ≡ true
+and-holds a b e f = rw (e, f)
 
 pub all-first : (t : Bool) (ts : List Bool) → all (t ∷ ts) ≡ true → (t ≡ true) × (all ts ≡ true)
 unfolding all

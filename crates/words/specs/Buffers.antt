@@ -1,4 +1,4 @@
--- Bytes written over a lent buffer o, whose length stays.
+-- Bytes written over a lent buffer o. Where they fit, its length stays.
 --
 --   writeAt o p b           b over o from p on
 --   overwrite o b           b over the start of o

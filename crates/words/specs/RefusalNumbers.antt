@@ -1,5 +1,6 @@
 -- The refusal numbers of document 01, 'Numbers for no', by name. The code's table is crates/numbers/src/refusals.rt.
 use Prim.Native.Nat.{ℕ}
+use mathlib.Core.List.{List, [], _∷_}
 
 -- the bundle
 abbrev pub bundleTooLong : ℕ
@@ -98,3 +99,16 @@ noSuchNumber = 30
 
 abbrev pub fieldsFitNoRecord : ℕ
 fieldsFitNoRecord = 31
+
+-- all of them, in order
+abbrev pub refusalNumbers : List ℕ
+refusalNumbers =
+    bundleTooLong ∷ bundleCut ∷ countOutOfLimits ∷ unknownKind
+    ∷ badReference ∷ badTrackOrTime ∷ badByteCount ∷ recordCut
+    ∷ badVersion ∷ wrongFixedBits ∷ badLengthSize ∷ badSet
+    ∷ bytesAfterRecord ∷ lengthFieldCut ∷ unitTooLong ∷ emptyUnit
+    ∷ topBitSet ∷ unitTooShort ∷ nestedAggregator ∷ sliceInAvcAggregator
+    ∷ badAdditionalBytes ∷ badExtractorSize ∷ badTrackRefIndex ∷ noSampleNamed
+    ∷ namedIllFormed ∷ badDataOffset ∷ badDataLength ∷ extractorCopied
+    ∷ outputTooLong ∷ noSuchNumber ∷ fieldsFitNoRecord
+    ∷ []

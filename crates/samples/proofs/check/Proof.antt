@@ -28,10 +28,10 @@ returns : tie.Need-returns
 returns c = rw (← c .before .before .before .from-number .ensures, c .enum-told .given .1)
 
 returns-2 : tie.Need-returns-2
-returns-2 c = rw (← c .before .before .before .before .before .before .from-number .ensures, ← c .before .before .before .before .before .from-number2 .ensures, c .before .before .before .known-kind .given .1, c .enum-told2 .given .1)
+returns-2 c = rw (← c .before .before .before .before .before .before .from-number .ensures, c .before .before .before .known-kind .given .1, ← c .before .before .before .before .before .from-number2 .ensures, c .enum-told2 .given .1)
 
 returns-3 : tie.Need-returns-3
-returns-3 c = rw (← c .before .before .before .before .before .before .before .before .from-number .ensures, ← c .before .before .before .before .before .before .before .from-number2 .ensures, c .before .before .before .before .before .known-kind .given .1, c .before .before .known-size .given .1) (c .check-sample .ensures)
+returns-3 c = rw (← c .before .before .before .before .before .before .before .before .from-number .ensures, c .before .before .before .before .before .known-kind .given .1, ← c .before .before .before .before .before .before .before .from-number2 .ensures, c .before .before .known-size .given .1) (c .check-sample .ensures)
 
 pub check-spec : {M : Type 1} → statement M
 check-spec =

@@ -1,0 +1,18 @@
+-- The bundle. Read in this order.
+--
+--   Recordings   what a bundle means: tracks, references, samples with their bytes
+--   Limits       the limits, and refusals 2 and 3
+--   Tracks       section one
+--   References   section two
+--   Samples      section three
+--   Bundles      section four, and the whole
+--   Steps        what the steps of the check say to each other
+--   Answers      what the code's answers say
+pub mod Recordings
+pub mod Limits
+pub mod Tracks
+pub mod References
+pub mod Samples
+pub mod Bundles
+pub mod Steps
+pub mod Answers

@@ -1,0 +1,179 @@
+// The table of a bundle, filled row by row into lent numbers.
+ghost use mathlib.Core.Path.{_≡_};
+ghost use mathlib.Core.List.{[], _∷_};
+ghost use Prim.Native.Nat.{_+_, _*_, _≤_, _<_};
+ghost use lib.ListN.{length};
+ghost use Rattle.words.specs.Refusals.{ok};
+ghost use Rattle.words.specs.Buffers.{writeAt};
+ghost use Rattle.bundles.specs.Tracks.{trackCount, trackFault, sizeAt, referencesAt};
+ghost use Rattle.bundles.specs.References.{referenceCount};
+ghost use Rattle.bundles.specs.Samples.{entryCount, entriesAt};
+ghost use Rattle.bundles.specs.Bundles.{bundleVerdict};
+ghost use Rattle.tables.specs.Tables.{tableSize};
+ghost use Rattle.filling.specs.Filling.{samplesBefore, trackCells, referenceCells, sampleCells, writeRows, filling, tableAfter};
+use bundles::Checked;
+use numbers::Kind;
+use numbers::MaybeKind;
+use numbers::Refusal;
+
+// The rows of the counts, of the first track, of the first reference and of the first sample, as `tables` reads them. Row 80 + n is sample n's.
+const COUNTS_ROW: usize = 0;
+
+const FIRST_TRACK: usize = 1;
+
+const FIRST_REFERENCE: usize = 17;
+
+const FIRST_SAMPLE: usize = 81;
+
+const SAMPLE_ROW: usize = 80;
+
+// What filling a table answers.
+pub enum Filled {
+    // the bundle is refused, and the table as it was
+    Refused(Refusal),
+    // the table is too small, and as it was: how many numbers it needs
+    NoRoom(usize),
+    Done,
+}
+
+// Three numbers and a 0 over a row.
+fn put_row(t: &mut [u64], row: usize, first: usize, second: usize, third: usize)
+    requires { ⌜ (row ≤ 4176) × (row * 4 + 4 ≤ length (now t)) ⌝ }
+    ensures { λ _. ⌜ now (t .exit) ≡ writeAt (now (t .entry)) (row * 4) (first ∷ second ∷ third ∷ 0 ∷ []) ⌝ }
+{
+    let at = row * 4;
+    t[at] = first as u64;
+    t[at + 1] = second as u64;
+    t[at + 2] = third as u64;
+    t[at + 3] = 0;
+}
+
+// Where section two starts.
+fn references_at(b: &[u8]) -> usize
+    requires { ⌜ bundleVerdict (now b) ≡ ok tt ⌝ }
+    ensures { λ r. ⌜ r ≡ referencesAt (now (b .entry)) ⌝ }
+{
+    let n = numbers::number(b, 0, 1);
+    let mut p: usize = 1;
+    let mut i: usize = 0;
+    while i < n {
+        p = p + 3 + numbers::number(b, p + 1, 2);
+        i += 1;
+    }
+    p
+}
+
+// The length size of the track entry at a place: one byte of its record.
+fn length_size_at(b: &[u8], at: usize) -> usize
+    requires { ⌜ trackFault (now b) at ≡ 0 ⌝ }
+    ensures { λ r. ⌜ r ≡ sizeAt (now (b .entry)) at ⌝ }
+{
+    let known = Kind::from_number(numbers::byte(b, at) as u32);
+    match known {
+        MaybeKind::Known(k) => {
+            let layout = records::layouts::layout_of(k);
+            let size = layout.size;
+            numbers::number(b, at + 7, 1) % size.unit % size.low + 1
+        }
+        MaybeKind::Unknown => 1,
+    }
+}
+
+// How many samples the tracks before track k have, where it is known that it is at least some number.
+fn samples_before(b: &[u8], start: usize, total: usize, least: usize, k: usize) -> usize
+    requires { ⌜ (bundleVerdict (now b) ≡ ok tt) × (start ≡ entriesAt (now b)) × (total ≡ entryCount (now b)) × (least ≤ samplesBefore (now b) k) ⌝ }
+    ensures { λ r. ⌜ r ≡ samplesBefore (now (b .entry)) k ⌝ }
+{
+    let mut n = least;
+    while n < total {
+        if k <= numbers::number(b, start + n * 13, 1) {
+            return n;
+        }
+        n += 1;
+    }
+    n
+}
+
+// The rows of the tracks.
+fn fill_tracks(b: &[u8], t: &mut [u64], start: usize, total: usize)
+    requires { ⌜ (bundleVerdict (now b) ≡ ok tt) × (start ≡ entriesAt (now b)) × (total ≡ entryCount (now b)) × (tableSize total ≤ length (now t)) ⌝ }
+    ensures { λ _. ⌜ now (t .exit) ≡ writeRows (now (t .entry)) 1 (trackCells (now (b .entry))) (trackCount (now (b .entry))) ⌝ }
+{
+    let n = numbers::number(b, 0, 1);
+    let mut p: usize = 1;
+    let mut before: usize = 0;
+    let mut k: usize = 0;
+    while k < n {
+        before = samples_before(b, start, total, before, k + 1);
+        let kind = numbers::number(b, p, 1);
+        let size = length_size_at(b, p);
+        put_row(t, FIRST_TRACK + k, kind, size, before);
+        p = p + 3 + numbers::number(b, p + 1, 2);
+        k += 1;
+    }
+}
+
+// The rows of n references, the first of which stands at start.
+fn fill_references(b: &[u8], t: &mut [u64], start: usize, n: usize)
+    requires { ⌜ (bundleVerdict (now b) ≡ ok tt) × (start ≡ referencesAt (now b) + 1) × (n ≡ referenceCount (now b)) × (324 ≤ length (now t)) ⌝ }
+    ensures { λ _. ⌜ now (t .exit) ≡ writeRows (now (t .entry)) 17 (referenceCells (now (b .entry))) (referenceCount (now (b .entry))) ⌝ }
+{
+    let mut p = start;
+    let mut i: usize = 0;
+    while i < n {
+        let from = numbers::number(b, p, 1);
+        let to = numbers::number(b, p + 1, 1);
+        put_row(t, FIRST_REFERENCE + i, from, to, 0);
+        p += 2;
+        i += 1;
+    }
+}
+
+// The rows of n samples, the first of whose entries stands at start.
+fn fill_samples(b: &[u8], t: &mut [u64], start: usize, n: usize)
+    requires { ⌜ (bundleVerdict (now b) ≡ ok tt) × (start ≡ entriesAt (now b)) × (n ≡ entryCount (now b)) × (tableSize n ≤ length (now t)) ⌝ }
+    ensures { λ _. ⌜ now (t .exit) ≡ writeRows (now (t .entry)) 81 (sampleCells (now (b .entry))) (entryCount (now (b .entry))) ⌝ }
+{
+    let mut p = start;
+    let mut place = start + n * 13 + 4;
+    let mut i: usize = 0;
+    while i < n {
+        let time = numbers::number(b, p + 1, 8);
+        let size = numbers::number(b, p + 9, 4);
+        put_row(t, FIRST_SAMPLE + i, time, place, size);
+        place += size;
+        p += 13;
+        i += 1;
+    }
+}
+
+// The table of an accepted bundle, if there is room.
+fn fill_accepted(b: &[u8], t: &mut [u64]) -> Filled
+    requires { ⌜ bundleVerdict (now b) ≡ ok tt ⌝ }
+    ensures { λ r. ⌜ (r ≡ filling (now (b .entry)) (length (now (t .entry)))) × (now (t .exit) ≡ tableAfter (now (b .entry)) (now (t .entry))) ⌝ }
+{
+    let tracks = numbers::number(b, 0, 1);
+    let at = references_at(b);
+    let references = numbers::number(b, at, 1);
+    let samples_at = at + 1 + references * 2;
+    let samples = numbers::number(b, samples_at, 2);
+    let needed = (SAMPLE_ROW + (samples + 1)) * 4;
+    if t.len() < needed {
+        return Filled::NoRoom(needed);
+    }
+    put_row(t, COUNTS_ROW, tracks, references, samples);
+    fill_tracks(b, t, samples_at + 2, samples);
+    fill_references(b, t, at + 1, references);
+    fill_samples(b, t, samples_at + 2, samples);
+    Filled::Done
+}
+
+// The table of a bundle, filled in one more pass over its first three sections once it is accepted: see `Filled`.
+pub fn fill_table(b: &[u8], t: &mut [u64]) -> Filled
+    ensures { λ r. ⌜ (r ≡ filling (now (b .entry)) (length (now (t .entry)))) × (now (t .exit) ≡ tableAfter (now (b .entry)) (now (t .entry))) ⌝ }
+{
+    match bundles::check_bundle(b) {
+        Checked::Refused(r) => Filled::Refused(r),
+        Checked::Accepted => fill_accepted(b, t),
+    }
+}

@@ -1,0 +1,92 @@
+-- Flags: one is set without a change to what the table says. Assumes nothing.
+--
+--   set-beyond                   nothing is set past the end
+--   cell-kept                    every other number stays
+--   flagged-layout, flagged-spells    the table says and spells the same
+--   flag-set, flag-kept          the flag that was set, and every other
+use Prim.Native.Nat.{ℕ, zero, suc, _+_, _*_, _≤_, _<_}
+use mathlib.Core.Path.{_≡_, refl, ap, ap₂, sym, _∙_}
+use mathlib.Core.Bool.{Bool, true, false}
+use mathlib.Core.List.{List, [], _∷_, map, List·Memᴰ}
+use native.Mathlib.Omega.{arith}
+use borrow.Author.Tests.{eqb-false, ltb-true, ltb-false, ne-eqb, le-ltb}
+use lib.Dec.{eqb, ltb}
+use lib.ListN.{length, getD, set}
+use lib.Seq.{getD-set-same, getD-set-other}
+use Rattle.words.specs.Tests.{_<?_, _≡?_, pick}
+use Rattle.words.specs.Lists.{upto, lastThat}
+use Rattle.words.proofs.Tests.{by-bool}
+use Rattle.words.proofs.Lists.{map-cong, upto-from}
+use Rattle.bundles.specs.Recordings.{Layout, Recording}
+use Rattle.tables.specs.Tables.{atMost, sampleRow, cell, trackTotal, referenceTotal, sampleTotal, trackIn, referenceIn, beforeIn, ownerIn, entryIn, laidOut, contentIn, spelled, flagIn, flagged}
+use Rattle.words.proofs.Rows.{lastThat-cong}
+
+pub set-beyond : (l : List ℕ) (i a : ℕ) → length l ≤ i → set l i a ≡ l
+set-beyond [] i a h = refl
+set-beyond (x ∷ l) zero a h = absurd (omega arith)
+set-beyond (x ∷ l) (suc i) a h = ap (λ r. x ∷ r) (set-beyond l i a (omega arith))
+
+module _ (t : List ℕ) (n v : ℕ) where
+  abbrev marked : List ℕ
+  marked = set t (sampleRow n * 4 + 3) v
+
+  pub cell-kept : (r c : ℕ) → c < 4 → (r ≡ sampleRow n → c ≡ 3 → ⊥) → cell marked r c ≡ cell t r c
+  unfolding cell
+  cell-kept r c h o = getD-set-other t (sampleRow n * 4 + 3) (r * 4 + c) v 0 (λ e. o (omega arith) (omega arith))
+
+  other : (r c : ℕ) → c < 3 → cell marked r c ≡ cell t r c
+  other r c h = cell-kept r c (omega arith) (λ e f. omega arith)
+
+  track-total : trackTotal marked ≡ trackTotal t
+  track-total = rw (other 0 0 (omega arith))
+
+  reference-total : referenceTotal marked ≡ referenceTotal t
+  reference-total = rw (other 0 1 (omega arith))
+
+  sample-total : sampleTotal marked ≡ sampleTotal t
+  sample-total = rw (other 0 2 (omega arith))
+
+  owner-same : (m : ℕ) → ownerIn marked m ≡ ownerIn t m
+  owner-same m = rw track-total (lastThat-cong (λ k. beforeIn marked k <? m) (λ k. beforeIn t k <? m) (upto (trackTotal t)) (λ k q. rw (other k 2 (omega arith))))
+
+  marked-layout : laidOut marked ≡ laidOut t
+  unfolding laidOut
+  marked-layout =
+      rw (
+        track-total,
+        reference-total,
+        sample-total,
+        map-cong (trackIn marked) (trackIn t) (upto (trackTotal t)) (λ k m. rw (other k 0 (omega arith), other k 1 (omega arith))),
+        map-cong (referenceIn marked) (referenceIn t) (upto (referenceTotal t)) (λ i m. rw (other (16 + i) 0 (omega arith), other (16 + i) 1 (omega arith))),
+        map-cong (entryIn marked) (entryIn t) (upto (sampleTotal t)) (λ m q. rw (owner-same m, other (sampleRow m) 0 (omega arith))),
+      )
+
+  marked-spells : (b : List ℕ) → spelled b marked ≡ spelled b t
+  unfolding spelled
+  marked-spells b =
+      rw (
+        marked-layout,
+        sample-total,
+        map-cong (contentIn b marked) (contentIn b t) (upto (sampleTotal t)) (λ m q. rw (other (sampleRow m) 1 (omega arith), other (sampleRow m) 2 (omega arith))),
+      )
+
+  -- the table itself, or with a flag set
+  pub flagged-case : (P : List ℕ → Type 0) → P t → P marked → P (flagged t n v)
+  unfolding flagged
+  flagged-case P g h = by-bool (eqb n 0) (λ q. rw q g) (λ q. rw q (by-bool (ltb (sampleTotal t) n) (λ r. rw r g) (λ r. rw r h)))
+
+pub flagged-layout : (t : List ℕ) (n v : ℕ) → laidOut (flagged t n v) ≡ laidOut t
+flagged-layout t n v = flagged-case t n v (λ x. laidOut x ≡ laidOut t) refl (marked-layout t n v)
+
+pub flagged-spells : (b t : List ℕ) (n v : ℕ) → spelled b (flagged t n v) ≡ spelled b t
+flagged-spells b t n v = flagged-case t n v (λ x. spelled b x ≡ spelled b t) refl (marked-spells t n v b)
+
+-- the flag that was set
+pub flag-set : (t : List ℕ) (n v : ℕ) → 0 < n → n ≤ sampleTotal t → sampleRow n * 4 + 3 < length t → flagIn (flagged t n v) n ≡ v
+unfolding flagged flagIn
+flag-set t n v h l r =
+    rw (ne-eqb n 0 (λ z. omega arith), le-ltb (sampleTotal t) n l, sample-total t n v, le-ltb (sampleTotal t) n l) (unfold cell in getD-set-same t (sampleRow n * 4 + 3) v 0 r)
+
+-- every other flag stays
+pub flag-kept : (t : List ℕ) (n m v : ℕ) → (m ≡ n → ⊥) → flagIn (flagged t n v) m ≡ flagIn t m
+flag-kept t n m v h = flagged-case t n v (λ x. flagIn x m ≡ flagIn t m) refl (unfold flagIn in rw (sample-total t n v, cell-kept t n v (sampleRow m) 3 (omega arith) (λ e f. h (omega arith))))

@@ -1,0 +1,71 @@
+-- What a table says, number by number, for any table. Assumes nothing.
+--
+--   tracks-count, references-count, samples-count    the counts
+--   track-here, track-none, track-past               track k
+--   entry-here, entry-none, entry-past               sample n, but its bytes
+--   content-here, content-none, content-past         its bytes
+--   total-fits, total-most                           a count within its limit, and one beyond it
+use Prim.Native.Nat.{ℕ, zero, suc, _+_, _≤_, _<_}
+use mathlib.Core.Path.{_≡_, refl, ap, sym, _∙_}
+use mathlib.Core.List.{List, [], _∷_, map}
+use native.Mathlib.Omega.{arith}
+use borrow.Author.Tests.{le-leb, lt-leb}
+use lib.ListN.{length, length-map}
+use Rattle.words.specs.Tests.{pick}
+use Rattle.words.specs.Lists.{nth, upto}
+use Rattle.bundles.specs.Recordings.{Layout, Recording, noTrack, noEntry, sampleCount, contentOf}
+use Rattle.tables.specs.Tables.{atMost, trackTotal, referenceTotal, sampleTotal, trackIn, referenceIn, entryIn, contentIn, laidOut, spelled}
+use Rattle.words.proofs.Rows.{upto-length, nth-upto, nth-past, nth-none}
+
+pub total-fits : (most n : ℕ) → n ≤ most → atMost most n ≡ n
+total-fits most n h = rw (le-leb n most h)
+
+pub total-most : (most n : ℕ) → most < n → atMost most n ≡ most
+total-most most n h = rw (lt-leb n most h)
+
+module _ (t : List ℕ) where
+  pub tracks-count : length (laidOut t .tracks) ≡ trackTotal t
+  unfolding laidOut
+  tracks-count = length-map (upto (trackTotal t)) (trackIn t) ∙ upto-length (trackTotal t)
+
+  pub references-count : length (laidOut t .references) ≡ referenceTotal t
+  unfolding laidOut
+  references-count = length-map (upto (referenceTotal t)) (referenceIn t) ∙ upto-length (referenceTotal t)
+
+  pub samples-count : sampleCount (laidOut t) ≡ sampleTotal t
+  unfolding laidOut
+  samples-count = length-map (upto (sampleTotal t)) (entryIn t) ∙ upto-length (sampleTotal t)
+
+  pub track-here : (k : ℕ) → 0 < k → k ≤ trackTotal t → nth (laidOut t .tracks) k noTrack ≡ trackIn t k
+  unfolding laidOut
+  track-here k h l = nth-upto (trackIn t) (trackTotal t) k noTrack h l
+
+  pub track-none : (k : ℕ) → k ≡ 0 → nth (laidOut t .tracks) k noTrack ≡ noTrack
+  track-none k e = rw e (nth-none (laidOut t .tracks) noTrack)
+
+  pub track-past : (k : ℕ) → trackTotal t < k → nth (laidOut t .tracks) k noTrack ≡ noTrack
+  unfolding laidOut
+  track-past k h = nth-past (trackIn t) (trackTotal t) k noTrack h
+
+  pub entry-here : (n : ℕ) → 0 < n → n ≤ sampleTotal t → nth (laidOut t .entries) n noEntry ≡ entryIn t n
+  unfolding laidOut
+  entry-here n h l = nth-upto (entryIn t) (sampleTotal t) n noEntry h l
+
+  pub entry-none : (n : ℕ) → n ≡ 0 → nth (laidOut t .entries) n noEntry ≡ noEntry
+  entry-none n e = rw e (nth-none (laidOut t .entries) noEntry)
+
+  pub entry-past : (n : ℕ) → sampleTotal t < n → nth (laidOut t .entries) n noEntry ≡ noEntry
+  unfolding laidOut
+  entry-past n h = nth-past (entryIn t) (sampleTotal t) n noEntry h
+
+module _ (b t : List ℕ) where
+  pub content-here : (n : ℕ) → 0 < n → n ≤ sampleTotal t → contentOf (spelled b t) n ≡ contentIn b t n
+  unfolding spelled
+  content-here n h l = nth-upto (contentIn b t) (sampleTotal t) n [] h l
+
+  pub content-none : (n : ℕ) → n ≡ 0 → contentOf (spelled b t) n ≡ []
+  content-none n e = rw e (nth-none (spelled b t .contents) [])
+
+  pub content-past : (n : ℕ) → sampleTotal t < n → contentOf (spelled b t) n ≡ []
+  unfolding spelled
+  content-past n h = nth-past (contentIn b t) (sampleTotal t) n [] h
