@@ -1,34 +1,70 @@
 -- The marked cases of document 01, 'The bench bundle and its neighbours', as one table about the definitions, closed by computation.
--- Here so far: M7 and M8 as far as they are about the form of a sample, M10, M11 and M12.
+-- Rows are B0, M1 to M12, in order. M7 to M9 stand in B0 with the sample put into it.
 use Prim.Native.Nat.{ℕ}
 use mathlib.Core.Path.{_≡_, refl}
-use mathlib.Core.List.{List, [], _∷_, map}
-use Rattle.words.specs.Refusals.{firstOf, Verdict, refused, ok, Answer, first}
-use Rattle.words.specs.Lists.{keep, some}
+use mathlib.Core.List.{List, [], _∷_, _++_, map}
+use lib.ListN.{length}
+use Rattle.words.specs.Refusals.{firstOf, refused, ok, Answer, Verdict, first, _andThen_}
+use Rattle.words.specs.Lists.{keep, some, nth, lastThat, each, upto, sum}
 use Rattle.words.specs.Walks.{entries, skip}
-use Rattle.words.specs.Bytes.{big}
+use Rattle.words.specs.Bytes.{big, bytes, cuts}
 use Rattle.sets.specs.Sets.{setFault}
 use Rattle.records.specs.Read.{byteFault, trailerFault, headFault, sequencesEnd, picturesEnd, recordFault, readAs, readRecord}
 use Rattle.records.specs.declared.Record.{Record}
 use Rattle.units.specs.Units.{size, type, unitFault, placesFrom, topUnits, border, topBetween}
-use Rattle.units.specs.Aggregators.{coverFault, includedFault}
+use Rattle.units.specs.Aggregators.{coverFault, includedFault, withIncluded, units, extractors}
 use Rattle.samples.specs.Check.{contentVerdict, check, checkAlone}
+use Rattle.bundles.specs.Limits.{countFault}
+use Rattle.bundles.specs.Recordings.{referencesFrom, samplesIn}
+use Rattle.bundles.specs.Tracks.{sizeAt, trackFault, tracksVerdict, tracks, referencesAt}
+use Rattle.bundles.specs.References.{noSuchTrack, referenceFault, referencesVerdict, references, samplesAt}
+use Rattle.bundles.specs.Samples.{orderFault, entryFault, samplesVerdict, sampleEntries, lengths, bytesAt}
+use Rattle.bundles.specs.Bundles.{endFault, bytesVerdict, bundleVerdict, layoutOf, recordingOf, meaning}
+use Rattle.links.specs.Links.{linkFault, linkedTrack, base, sampleNamed, nameFault}
+use Rattle.copies.specs.Copies.{among, copyEnd, copied, borderFault, copyFault}
+use Rattle.resolution.specs.Resolving.{sampleOf, named, nameFaultAt, copyFaultAt, extractFault, copiedAt, deliveredAt, delivered, judged}
+use Rattle.resolution.specs.Calls.{written, output, numberFault, resolve, resolveCall}
 
--- an answer and what it should be
+-- an answer, without bytes where there are none to give, and what it should be
 record Row : Type 0 where
-  answer : Verdict
-  expected : Verdict
+  answer : Answer (List ℕ)
+  expected : Answer (List ℕ)
+
+gives : Answer (List ℕ) → List ℕ → Row
+gives a out = record { answer = a; expected = ok out }
 
 passes : Verdict → Row
-passes v = record { answer = v; expected = ok tt }
+passes v = record { answer = v andThen ok []; expected = ok [] }
 
-refuses : Verdict → ℕ → ℕ → Row
-refuses v n p = record { answer = v; expected = refused n p }
+refuses : Answer (List ℕ) → ℕ → ℕ → Row
+refuses a n p = record { answer = a; expected = refused n p }
+
+fails : Verdict → ℕ → ℕ → Row
+fails v n p = refuses (v andThen ok []) n p
 
 -- whether a record is accepted
 recordVerdict : Answer Record → Verdict
 recordVerdict (refused n p) = refused n p
 recordVerdict (ok r) = ok tt
+
+-- B0's layout, with a sample in the AVC track and one in the SVC track. B0 itself has `slice` and `extractor 1 0 0 0`.
+bundle : List ℕ → List ℕ → List ℕ
+bundle avc svc =
+    0x02
+    ∷ 0x00 ∷ 0x00 ∷ 0x07 ∷ 0x01 ∷ 0x42 ∷ 0x00 ∷ 0x1E ∷ 0xFC ∷ 0xE0 ∷ 0x00
+    ∷ 0x01 ∷ 0x00 ∷ 0x07 ∷ 0x01 ∷ 0x53 ∷ 0x00 ∷ 0x1E ∷ 0xFC ∷ 0x00 ∷ 0x00
+    ∷ 0x01 ∷ 0x02 ∷ 0x01
+    ∷ 0x00 ∷ 0x02
+    ∷ 0x01 ∷ bytes 8 0 ++ bytes 4 (length avc)
+    ++ 0x02 ∷ bytes 8 0 ++ bytes 4 (length svc)
+    ++ bytes 4 (length (avc ++ svc)) ++ avc ++ svc
+
+slice : List ℕ
+slice = 0x02 ∷ 0x65 ∷ 0x88 ∷ []
+
+-- track_ref_index, sample_offset, data_offset, data_length
+extractor : ℕ → ℕ → ℕ → ℕ → List ℕ
+extractor index offset start long = 0x08 ∷ 0x7F ∷ 0x80 ∷ 0x00 ∷ 0x03 ∷ index ∷ offset ∷ start ∷ long ∷ []
 
 -- an aggregator that includes a slice; one that covers a slice by n additional_bytes
 including : List ℕ
@@ -37,28 +73,71 @@ including = 0x08 ∷ 0x7E ∷ 0x80 ∷ 0x00 ∷ 0x03 ∷ 0x00 ∷ 0x02 ∷ 0x65 
 covering : ℕ → List ℕ
 covering n = 0x05 ∷ 0x7E ∷ 0x80 ∷ 0x00 ∷ 0x03 ∷ n ∷ 0x02 ∷ 0x65 ∷ 0x88 ∷ []
 
+-- what the slice is resolved to
+resolved : List ℕ
+resolved = 0x00 ∷ 0x00 ∷ 0x00 ∷ 0x02 ∷ 0x65 ∷ 0x88 ∷ []
+
+-- sample 2 of a bundle resolved, with enough room
+second : List ℕ → List ℕ → Answer (List ℕ)
+second avc svc = resolveCall (bundle avc svc) 2 100
+
 table : List Row
 table =
+    -- B0
+    gives (second slice (extractor 1 0 0 0)) resolved
+    -- M1, M2, M3
+    ∷ gives (second slice (extractor 1 0 0 3)) resolved
+    ∷ refuses (second slice (extractor 1 0 0 2)) 27 0
+    ∷ refuses (second slice (extractor 1 0 0 4)) 27 0
+    -- M4
+    ∷ refuses (second slice (extractor 1 0 1 0)) 26 0
+    ∷ refuses (second slice (extractor 1 0 1 9)) 26 0
+    -- M5
+    ∷ refuses (second slice (extractor 0 0 0 0)) 23 0
+    ∷ refuses (second slice (extractor 2 0 0 0)) 23 0
+    -- M6
+    ∷ refuses (second slice (extractor 1 1 0 0)) 24 0
+    ∷ refuses (second slice (extractor 1 255 0 0)) 24 0
     -- M7
-    passes (checkAlone 1 1 including)
-    ∷ refuses (checkAlone 0 1 including) 20 6
+    ∷ passes (checkAlone 1 1 including)
+    ∷ gives (second slice including) resolved
+    ∷ fails (checkAlone 0 1 including) 20 6
+    ∷ refuses (resolveCall (bundle including slice) 1 100) 20 6
     -- M8
     ∷ passes (checkAlone 1 1 (covering 3))
-    ∷ refuses (checkAlone 1 1 (covering 2)) 21 0
-    ∷ refuses (checkAlone 1 1 (covering 4)) 21 0
+    ∷ gives (second slice (covering 3)) resolved
+    ∷ fails (checkAlone 1 1 (covering 2)) 21 0
+    ∷ fails (checkAlone 1 1 (covering 4)) 21 0
+    ∷ refuses (second slice (covering 2)) 21 0
+    ∷ refuses (second slice (covering 4)) 21 0
+    -- M9
+    ∷ gives (second (covering 3) (extractor 1 0 0 0)) resolved
+    ∷ gives (second (covering 3) (extractor 1 0 0 6)) []
+    ∷ gives (second (covering 3) (extractor 1 0 0 9)) resolved
     -- M10
-    ∷ refuses (recordVerdict (readRecord 0 (0x01 ∷ 0x64 ∷ 0x00 ∷ 0x1E ∷ 0xFF ∷ 0xE0 ∷ 0x00 ∷ []))) 8 0
+    ∷ fails (recordVerdict (readRecord 0 (0x01 ∷ 0x64 ∷ 0x00 ∷ 0x1E ∷ 0xFF ∷ 0xE0 ∷ 0x00 ∷ []))) 8 0
     ∷ passes (recordVerdict (readRecord 0 (0x01 ∷ 0x64 ∷ 0x00 ∷ 0x1E ∷ 0xFF ∷ 0xE0 ∷ 0x00 ∷ 0xFD ∷ 0xF8 ∷ 0xF8 ∷ 0x00 ∷ [])))
     -- M11
-    ∷ refuses (recordVerdict (readRecord 0 (0x01 ∷ 0x42 ∷ 0x00 ∷ 0x1E ∷ 0xFE ∷ 0xE0 ∷ 0x00 ∷ []))) 11 0
+    ∷ fails (recordVerdict (readRecord 0 (0x01 ∷ 0x42 ∷ 0x00 ∷ 0x1E ∷ 0xFE ∷ 0xE0 ∷ 0x00 ∷ []))) 11 0
     -- M12
-    ∷ refuses (checkAlone 0 1 (0x00 ∷ [])) 16 0
-    ∷ refuses (checkAlone 0 1 (0x02 ∷ 0x65 ∷ [])) 15 0
-    ∷ refuses (checkAlone 0 1 (0x01 ∷ 0xE5 ∷ [])) 17 0
-    ∷ refuses (checkAlone 0 1 (0x03 ∷ 0x7F ∷ 0x80 ∷ 0x00 ∷ [])) 18 0
-    ∷ refuses (checkAlone 0 2 (0x00 ∷ [])) 14 0
+    ∷ fails (checkAlone 0 1 (0x00 ∷ [])) 16 0
+    ∷ fails (checkAlone 0 1 (0x02 ∷ 0x65 ∷ [])) 15 0
+    ∷ fails (checkAlone 0 1 (0x01 ∷ 0xE5 ∷ [])) 17 0
+    ∷ fails (checkAlone 0 1 (0x03 ∷ 0x7F ∷ 0x80 ∷ 0x00 ∷ [])) 18 0
+    ∷ fails (checkAlone 0 2 (0x00 ∷ [])) 14 0
     ∷ []
 
+-- B0 as document 01 spells it
+bench : List ℕ
+bench =
+    0x02 ∷ 0x00 ∷ 0x00 ∷ 0x07 ∷ 0x01 ∷ 0x42 ∷ 0x00 ∷ 0x1E ∷ 0xFC ∷ 0xE0 ∷ 0x00 ∷ 0x01 ∷ 0x00 ∷ 0x07 ∷ 0x01 ∷ 0x53 ∷ 0x00 ∷ 0x1E ∷ 0xFC ∷ 0x00 ∷ 0x00 ∷ 0x01 ∷ 0x02 ∷ 0x01 ∷ 0x00 ∷ 0x02
+    ∷ 0x01 ∷ 0x00 ∷ 0x00 ∷ 0x00 ∷ 0x00 ∷ 0x00 ∷ 0x00 ∷ 0x00 ∷ 0x00 ∷ 0x00 ∷ 0x00 ∷ 0x00 ∷ 0x03 ∷ 0x02 ∷ 0x00 ∷ 0x00 ∷ 0x00 ∷ 0x00 ∷ 0x00 ∷ 0x00 ∷ 0x00 ∷ 0x00 ∷ 0x00 ∷ 0x00 ∷ 0x00 ∷ 0x09
+    ∷ 0x00 ∷ 0x00 ∷ 0x00 ∷ 0x0C ∷ 0x02 ∷ 0x65 ∷ 0x88 ∷ 0x08 ∷ 0x7F ∷ 0x80 ∷ 0x00 ∷ 0x03 ∷ 0x01 ∷ 0x00 ∷ 0x00 ∷ 0x00 ∷ []
+
+bench-spelled : bundle slice (extractor 1 0 0 0) ≡ bench
+unfolding bundle slice extractor bench bytes
+bench-spelled = refl
+
 marked : map (λ row. row .answer) table ≡ map (λ row. row .expected) table
-unfolding table passes refuses recordVerdict including covering first firstOf keep some entries skip big setFault byteFault trailerFault headFault sequencesEnd picturesEnd recordFault readAs readRecord size type unitFault placesFrom topUnits border topBetween coverFault includedFault contentVerdict check
+unfolding table gives passes refuses fails recordVerdict bundle slice extractor including covering resolved second first firstOf keep some nth lastThat each upto sum entries skip big bytes cuts setFault byteFault trailerFault headFault sequencesEnd picturesEnd recordFault readAs readRecord size type unitFault placesFrom topUnits border topBetween coverFault includedFault withIncluded units extractors contentVerdict check countFault referencesFrom samplesIn sizeAt trackFault tracksVerdict tracks referencesAt noSuchTrack referenceFault referencesVerdict references samplesAt orderFault entryFault samplesVerdict sampleEntries lengths bytesAt endFault bytesVerdict bundleVerdict layoutOf recordingOf meaning linkFault linkedTrack base sampleNamed nameFault among copyEnd copied borderFault copyFault sampleOf named nameFaultAt copyFaultAt extractFault copiedAt deliveredAt delivered judged written output numberFault resolve resolveCall
 marked = refl

@@ -1,0 +1,33 @@
+-- All units of a well-formed sample as one walk, front to back (01, 'Units in a sample'): after an aggregator's header and additional_bytes
+-- comes the first unit that it includes, after any other unit the next one; the last included unit ends where its aggregator ends.
+--
+--   flatStep x p         the place after p in that walk
+--   flatPlaces x a e     the places of units from a up to e, included ones too
+--   Stretch x a e        the sample is well formed, and a and e are top-level borders of it
+use Prim.Native.Nat.{ℕ, zero, suc, _-_, _≤_}
+use mathlib.Core.Path.{_≡_}
+use mathlib.Core.List.{List, [], _∷_}
+use mathlib.Core.Bool.{true}
+use Rattle.words.specs.Tests.{_≤?_, pick, _when_else_}
+use Rattle.words.specs.Refusals.{ok}
+use Rattle.units.specs.Units.{Sample, next, isAggregator, border}
+use Rattle.units.specs.Aggregators.{includedStart}
+use Rattle.samples.specs.Check.{check}
+
+module _ (x : Sample) where
+  unfoldable pub flatStep : ℕ → ℕ
+  flatStep p = includedStart x p when isAggregator x p else next x p
+
+  -- at most e - p of them, since each step goes on
+  unfoldable pub flatFrom : ℕ → ℕ → ℕ → List ℕ
+  flatFrom e zero p = []
+  flatFrom e (suc n) p = let rest = p ∷ flatFrom e n (flatStep p) in pick (e ≤? p) [] rest
+
+  abbrev pub flatPlaces : ℕ → ℕ → List ℕ
+  flatPlaces p e = flatFrom e (e - p) p
+
+  pub record Stretch (a e : ℕ) : Type 0 where
+    pub formed : check x ≡ ok tt
+    pub start : border x a ≡ true
+    pub stop : border x e ≡ true
+    pub order : a ≤ e

@@ -1,0 +1,316 @@
+// What an extractor copies of the sample that it names.
+ghost use mathlib.Core.Path.{_≡_};
+ghost use mathlib.Core.Bool.{true};
+ghost use Prim.Native.Nat.{_+_, _≤_};
+ghost use lib.ListN.{length};
+ghost use Rattle.words.specs.Refusals.{ok};
+ghost use Rattle.words.specs.Lists.{nth};
+ghost use Rattle.words.specs.Buffers.{put};
+ghost use Rattle.units.specs.Units.{sample, next, border};
+ghost use Rattle.samples.specs.Check.{check};
+ghost use Rattle.copies.specs.Copies.{plain, copyStarts, copyEnd, copyEnds, borderFault, copyFault};
+ghost use Rattle.copies.specs.Extracted.{copiedUnit, extracted};
+ghost use Rattle.copies.specs.Flat.{flatPlaces, Stretch};
+ghost use Rattle.copies.specs.Written.{listed, refusal, measured, copyOf, copyBytes, copiedPlace, putCount};
+use numbers::ByteOffset;
+use numbers::LengthSize;
+use numbers::refusals;
+use samples::Checked;
+use units::MaybeExtractor;
+use units::Track;
+
+// The size of the length that stands before a unit in the output.
+pub const LENGTH_BEFORE: usize = 4;
+
+// A copy: its refusal number, 0 for none; the number of its units; the number of their bytes.
+pub struct Copy {
+    pub fault: u8,
+    pub count: usize,
+    pub bytes: usize,
+}
+
+// Where the next unit starts, after a unit that lies in the sample.
+fn next_at(k: Track, z: &[u8], at: usize) -> usize
+    requires { ⌜ next (sample k (now z)) at ≤ length (now z) ⌝ }
+    ensures { λ r. ⌜ r ≡ next (sample k (now (z .entry))) at ⌝ }
+{
+    let l = k.length_size;
+    at + l.bytes() + l.number(z, at)
+}
+
+// Whether a top-level border stands at a place, by a walk from a border that does not lie after it.
+fn is_border(k: Track, z: &[u8], from: usize, to: usize) -> bool
+    requires { ⌜ (check (sample k (now z)) ≡ ok tt) × (border (sample k (now z)) from ≡ true) × (from ≤ to) × (to ≤ length (now z)) ⌝ }
+    ensures { λ r. ⌜ r ≡ border (sample k (now (z .entry))) to ⌝ }
+{
+    let mut q = from;
+    while q < to {
+        q = next_at(k, z, q);
+    }
+    q == to
+}
+
+// Whether data_offset is the start of a top-level unit.
+fn copy_starts(k: Track, z: &[u8], from: usize) -> bool
+    requires { ⌜ check (sample k (now z)) ≡ ok tt ⌝ }
+    ensures { λ r. ⌜ r ≡ copyStarts (sample k (now (z .entry))) from 0 ⌝ }
+{
+    if z.len() <= from {
+        return false;
+    }
+    is_border(k, z, 0, from)
+}
+
+// Whether a copy ends on a top-level border. What data_length 0 takes does so in any well-formed sample.
+fn copy_ends(k: Track, z: &[u8], from: usize, length: usize) -> bool
+    requires { ⌜ (check (sample k (now z)) ≡ ok tt) × (copyStarts (sample k (now z)) from length ≡ true) ⌝ }
+    ensures { λ r. ⌜ r ≡ copyEnds (sample k (now (z .entry))) from length ⌝ }
+{
+    if length == 0 {
+        return true;
+    }
+    if z.len() - from < length {
+        return false;
+    }
+    is_border(k, z, from, from + length)
+}
+
+// 26, then 27.
+fn border_fault(k: Track, z: &[u8], from: usize, length: usize) -> u8
+    requires { ⌜ check (sample k (now z)) ≡ ok tt ⌝ }
+    ensures { λ r. ⌜ r ≡ borderFault (sample k (now (z .entry))) from length ⌝ }
+{
+    if !copy_starts(k, z, from) {
+        return refusals::BAD_DATA_OFFSET;
+    }
+    if !copy_ends(k, z, from, length) {
+        return refusals::BAD_DATA_LENGTH;
+    }
+    0
+}
+
+// Where a copy ends.
+fn copy_end(k: Track, z: &[u8], from: usize, length: usize) -> usize
+    requires { ⌜ (check (sample k (now z)) ≡ ok tt) × (borderFault (sample k (now z)) from length ≡ 0) ⌝ }
+    ensures { λ r. ⌜ r ≡ copyEnd (sample k (now (z .entry))) from length ⌝ }
+{
+    if length != 0 {
+        return from + length;
+    }
+    let next = next_at(k, z, from);
+    if units::type_at(k, z, ByteOffset(from)) != units::AGGREGATOR {
+        return next;
+    }
+    let l = k.length_size;
+    next + l.number(z, from + l.bytes() + LengthSize::HEADER)
+}
+
+// A copy that is refused.
+fn refused(fault: u8) -> Copy
+    ensures { λ r. ⌜ r ≡ refusal fault ⌝ }
+{
+    Copy {
+        fault: fault,
+        count: 0,
+        bytes: 0,
+    }
+}
+
+// The number of units from a border up to a border, and of their bytes, aggregators dropped; 28 where one of them is an extractor.
+fn measured(k: Track, z: &[u8], from: usize, to: usize) -> Copy
+    requires { ⌜ Stretch (sample k (now z)) from to ⌝ }
+    ensures { λ r. ⌜ r ≡ measured (sample k (now (z .entry))) (plain (sample k (now (z .entry))) (flatPlaces (sample k (now (z .entry))) from to)) ⌝ }
+{
+    let l = k.length_size;
+    let n = l.bytes();
+    let mut count: usize = 0;
+    let mut bytes: usize = 0;
+    let mut p = from;
+    while p < to {
+        let t = units::type_at(k, z, ByteOffset(p));
+        let size = l.number(z, p);
+        if t == units::AGGREGATOR {
+            p = p + n + LengthSize::HEADER + n;
+        } else {
+            if t == units::EXTRACTOR {
+                return refused(refusals::EXTRACTOR_COPIED);
+            }
+            count += 1;
+            bytes += size;
+            p = p + n + size;
+        }
+    }
+    Copy {
+        fault: 0,
+        count: count,
+        bytes: bytes,
+    }
+}
+
+// A copy of a well-formed sample: 26, 27, 28, or its units counted.
+fn copy_formed(k: Track, z: &[u8], from: usize, length: usize) -> Copy
+    requires { ⌜ check (sample k (now z)) ≡ ok tt ⌝ }
+    ensures { λ r. ⌜ r ≡ copyOf (sample k (now (z .entry))) from length ⌝ }
+{
+    let fault = border_fault(k, z, from, length);
+    if fault != 0 {
+        return refused(fault);
+    }
+    measured(k, z, from, copy_end(k, z, from, length))
+}
+
+// A copy of a sample by data_offset and data_length: 25 to 28, or its units counted.
+// The sample is checked once; then one walk goes over its top-level units up to the end of the copy, and one over the units copied.
+pub fn copy_of(k: Track, z: &[u8], offset: ByteOffset, length: usize) -> Copy
+    ensures { λ r. ⌜ r ≡ copyOf (sample k (now (z .entry))) (offset .0) length ⌝ }
+{
+    let checked = samples::check_sample(k, z);
+    match checked {
+        Checked::WellFormed => copy_formed(k, z, offset.0, length),
+        Checked::Refused(_) => refused(refusals::NAMED_ILL_FORMED),
+    }
+}
+
+// The refusal number of a copy, 25 to 28; 0 for none.
+pub fn copy_fault(k: Track, z: &[u8], offset: ByteOffset, length: usize) -> u8
+    ensures { λ r. ⌜ r ≡ copyFault (sample k (now (z .entry))) (offset .0) length ⌝ }
+{
+    let c = copy_of(k, z, offset, length);
+    c.fault
+}
+
+// Where the ith unit from 1 stands from a border up to a border, aggregators dropped; the end of the sample where there is none.
+fn place_among(k: Track, z: &[u8], from: usize, to: usize, i: usize) -> usize
+    requires { ⌜ Stretch (sample k (now z)) from to ⌝ }
+    ensures { λ r. ⌜ r ≡ nth (plain (sample k (now (z .entry))) (flatPlaces (sample k (now (z .entry))) from to)) i (length (now (z .entry))) ⌝ }
+{
+    if i == 0 {
+        return z.len();
+    }
+    let l = k.length_size;
+    let n = l.bytes();
+    let mut left = i;
+    let mut q = from;
+    while q < to {
+        if units::type_at(k, z, ByteOffset(q)) == units::AGGREGATOR {
+            q = q + n + LengthSize::HEADER + n;
+        } else {
+            left -= 1;
+            if left == 0 {
+                return q;
+            }
+            q = next_at(k, z, q);
+        }
+    }
+    z.len()
+}
+
+// Where the ith copied unit from 1 stands; the end of the sample where the copy is refused, or has no such unit.
+pub fn copied_place(k: Track, z: &[u8], offset: ByteOffset, length: usize, i: usize) -> ByteOffset
+    ensures { λ r. ⌜ r .0 ≡ copiedPlace (sample k (now (z .entry))) (offset .0) length i ⌝ }
+{
+    if copy_fault(k, z, offset, length) != 0 {
+        return ByteOffset(z.len());
+    }
+    let end = copy_end(k, z, offset.0, length);
+    ByteOffset(place_among(k, z, offset.0, end, i))
+}
+
+// The ith copied unit from 1 as a part of the sample; empty where the copy is refused, or has no such unit.
+pub fn copied_unit<'a>(
+    k: Track,
+    z: &'a [u8],
+    offset: ByteOffset,
+    length: usize,
+    i: usize,
+) -> &'a [u8]
+    ensures { λ r. ⌜ now r ≡ copiedUnit (sample k (now (z .entry))) (offset .0) length i ⌝ }
+{
+    let place = copied_place(k, z, offset, length, i);
+    let at = place.0;
+    if z.len() <= at {
+        return &z[..0];
+    }
+    let l = k.length_size;
+    let start = at + l.bytes();
+    let end = start + l.number(z, at);
+    &z[start..end]
+}
+
+// The ith unit from 1 that the extractor at a place of the sample x stands for, as a part of the linked sample z; empty where there is
+// none.
+pub fn extracted<'a>(
+    kx: Track,
+    x: &[u8],
+    at: ByteOffset,
+    kz: Track,
+    z: &'a [u8],
+    i: usize,
+) -> &'a [u8]
+    ensures { λ r. ⌜ now r ≡ extracted (sample kx (now (x .entry))) (at .0) (sample kz (now (z .entry))) i ⌝ }
+{
+    let found = units::extractor_at(kx, x, at, ByteOffset(x.len()));
+    match found {
+        MaybeExtractor::Extractor(f) => copied_unit(kz, z, f.data_offset, f.data_length, i),
+        MaybeExtractor::Nothing => &z[..0],
+    }
+}
+
+// The units from a border up to a border, aggregators dropped, each after its length in 4 bytes, over a buffer that has room for them.
+fn put_units(out: &mut [u8], at: usize, k: Track, z: &[u8], from: usize, to: usize)
+    requires { ⌜ Stretch (sample k (now z)) from to
+        × (at + length (listed (sample k (now z)) (plain (sample k (now z)) (flatPlaces (sample k (now z)) from to))) ≤ length (now out)) ⌝ }
+    ensures { λ _. ⌜ now (out .exit) ≡ put (now (out .entry)) at
+        (listed (sample k (now (z .entry))) (plain (sample k (now (z .entry))) (flatPlaces (sample k (now (z .entry))) from to))) ⌝ }
+{
+    let l = k.length_size;
+    let n = l.bytes();
+    let mut next = at;
+    let mut u = from;
+    while u < to {
+        if units::type_at(k, z, ByteOffset(u)) == units::AGGREGATOR {
+            u = u + n + LengthSize::HEADER + n;
+        } else {
+            let size = l.number(z, u);
+            let start = u + n;
+            let end = start + size;
+            numbers::put_number(out, next, LENGTH_BEFORE, size);
+            numbers::put_bytes(out, next + LENGTH_BEFORE, &z[start..end]);
+            next = next + LENGTH_BEFORE + size;
+            u = end;
+        }
+    }
+}
+
+// Each copied unit after its length in 4 bytes, over a buffer from a place on; the number of bytes written.
+// Nothing is written where the copy is refused, or does not fit there.
+pub fn put_copy(
+    out: &mut [u8],
+    at: usize,
+    k: Track,
+    z: &[u8],
+    offset: ByteOffset,
+    length: usize,
+) -> usize
+    ensures { λ r. ⌜ (r ≡ putCount (now (out .entry)) at (copyBytes (sample k (now (z .entry))) (offset .0) length))
+        × (now (out .exit) ≡ put (now (out .entry)) at (copyBytes (sample k (now (z .entry))) (offset .0) length)) ⌝ }
+{
+    let c = copy_of(k, z, offset, length);
+    if c.fault != 0 {
+        return 0;
+    }
+    if out.len() < at {
+        return 0;
+    }
+    let room = out.len() - at;
+    if room / LENGTH_BEFORE < c.count {
+        return 0;
+    }
+    let lengths = LENGTH_BEFORE * c.count;
+    if room - lengths < c.bytes {
+        return 0;
+    }
+    let end = copy_end(k, z, offset.0, length);
+    put_units(out, at, k, z, offset.0, end);
+    lengths + c.bytes
+}

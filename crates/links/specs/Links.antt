@@ -1,0 +1,54 @@
+-- Which sample an extractor names (01, 'Resolving', first point; B.3.1). It goes by the layout y alone: no sample's bytes matter.
+-- n is the number of the extractor's own sample. 0 is no track and no sample.
+--
+--   linkFault n index              23
+--   linkedTrack n index            the linked track; 0 is none
+--   atOrBefore m n                 the clock: sample m stands at or before sample n
+--   base n track                   the base, by its number within the linked track; 0 is none
+--   stepped b offset               signed steps from there
+--   sampleNamed n index offset     the sample named; 0 is none
+--   nameFault n index offset       23, 24
+use Prim.Native.Nat.{ℕ, _+_, _-_}
+use mathlib.Core.Bool.{Bool, _||_}
+use lib.ListN.{length}
+use Rattle.words.specs.Tests.{_<?_, _≤?_, _≡?_, _when_else_}
+use Rattle.words.specs.Refusals.{_if_, _orElse_}
+use Rattle.words.specs.RefusalNumbers.{badTrackRefIndex, noSampleNamed}
+use Rattle.words.specs.Lists.{nth, lastThat}
+use Rattle.bundles.specs.Recordings.{Layout, noReference, trackOf, timeOf, referencesFrom, samplesIn}
+
+-- sample_offset is signed: a byte of 128 or more is 256 less. Steps from the bth sample of a track; before the first is 0, which none has.
+abbrev pub stepped : ℕ → ℕ → ℕ
+stepped b offset = b + offset - 256 when 128 ≤? offset else b + offset
+
+module _ (y : Layout) where
+  -- 23: track_ref_index 0 or past the last
+  unfoldable pub linkFault : ℕ → ℕ → ℕ
+  linkFault n index =
+      badTrackRefIndex if index ≡? 0 orElse
+      badTrackRefIndex if length (referencesFrom y (trackOf y n)) <? index
+
+  -- The linked track: the own track's reference track_ref_index.
+  unfoldable pub linkedTrack : ℕ → ℕ → ℕ
+  linkedTrack n index = nth (referencesFrom y (trackOf y n)) index noReference .to
+
+  -- The clock by which the base is found.
+  abbrev pub atOrBefore : ℕ → ℕ → Bool
+  atOrBefore m n = timeOf y m ≤? timeOf y n
+
+  -- The base: the last sample of the linked track with decode time at or before the own sample's.
+  unfoldable pub base : ℕ → ℕ → ℕ
+  base n track = lastThat (λ m. atOrBefore m n) (samplesIn y track)
+
+  -- The sample named: sample_offset steps from the base in the linked track, in number order; with no base, or past either end, there is none.
+  unfoldable pub sampleNamed : ℕ → ℕ → ℕ → ℕ
+  sampleNamed n index offset =
+      let track = linkedTrack n index in
+      let b = base n track in
+      0 when (track ≡? 0) || (b ≡? 0) else nth (samplesIn y track) (stepped b offset) 0
+
+  -- 23, then 24: no sample named
+  unfoldable pub nameFault : ℕ → ℕ → ℕ → ℕ
+  nameFault n index offset =
+      linkFault n index orElse
+      noSampleNamed if sampleNamed n index offset ≡? 0

@@ -1,0 +1,101 @@
+// Which sample an extractor names, by a table alone. Every public function takes any table and any numbers.
+ghost use mathlib.Core.Path.{_≡_};
+ghost use Prim.Native.Nat.{_≤_, _<_};
+ghost use Rattle.tables.specs.Tables.{laidOut};
+ghost use Rattle.links.specs.Links.{linkFault, base, stepped, sampleNamed};
+ghost use Rattle.links.specs.Named.{naming};
+use numbers::SampleNumber;
+use numbers::TrackNumber;
+
+// The sample that an extractor names, or the number of the refusal: 23 or 24.
+pub enum Named {
+    Refused(u8),
+    Sample(SampleNumber),
+}
+
+// A track_ref_index 0 or past the last reference of the own sample's track.
+fn link_fault(t: &[u64], n: SampleNumber, index: u8) -> u8
+    ensures { λ r. ⌜ r ≡ linkFault (laidOut (now (t .entry))) (n .0) index ⌝ }
+{
+    if index == 0 {
+        return numbers::refusals::BAD_TRACK_REF_INDEX;
+    }
+    let own = tables::sample_track(t, n);
+    let count = tables::reference_count(t, own);
+    if count < index as usize {
+        return numbers::refusals::BAD_TRACK_REF_INDEX;
+    }
+    0
+}
+
+// The base: the last sample of a track at or before sample n, by its number within the track; 0 where there is none.
+fn base_in(t: &[u64], n: SampleNumber, track: TrackNumber) -> usize
+    requires { ⌜ 0 < track .0 ⌝ }
+    ensures { λ r. ⌜ r ≡ base (laidOut (now (t .entry))) (n .0) (track .0) ⌝ }
+{
+    let own = tables::sample_time(t, n);
+    let range = tables::sample_range(t, track);
+    let mut b: usize = 0;
+    let mut m = range.before;
+    while m < range.after {
+        m += 1;
+        if tables::sample_time(t, SampleNumber(m)) <= own {
+            b = m - range.before;
+        }
+    }
+    b
+}
+
+// sample_offset steps from the base. It is signed: a byte of 128 or more is 256 less. Before the first is 0.
+fn stepped(b: usize, offset: u8) -> usize
+    requires { ⌜ b ≤ 4096 ⌝ }
+    ensures { λ r. ⌜ r ≡ stepped b offset ⌝ }
+{
+    let forward = b + offset as usize;
+    if offset < 128 {
+        return forward;
+    }
+    if forward < 256 {
+        return 0;
+    }
+    forward - 256
+}
+
+// The sample that an extractor names; 0 where there is none.
+fn sample_named(t: &[u64], n: SampleNumber, index: u8, offset: u8) -> SampleNumber
+    ensures { λ r. ⌜ r .0 ≡ sampleNamed (laidOut (now (t .entry))) (n .0) index offset ⌝ }
+{
+    let own = tables::sample_track(t, n);
+    let track = tables::reference(t, own, index as usize);
+    if track.0 == 0 {
+        return SampleNumber(0);
+    }
+    let b = base_in(t, n, track);
+    if b == 0 {
+        return SampleNumber(0);
+    }
+    let k = stepped(b, offset);
+    if k == 0 {
+        return SampleNumber(0);
+    }
+    let range = tables::sample_range(t, track);
+    if range.after - range.before < k {
+        return SampleNumber(0);
+    }
+    SampleNumber(range.before + k)
+}
+
+// What an extractor in sample n names, by its track_ref_index and sample_offset.
+pub fn name(t: &[u64], n: SampleNumber, index: u8, offset: u8) -> Named
+    ensures { λ r. ⌜ r ≡ naming (laidOut (now (t .entry))) (n .0) index offset ⌝ }
+{
+    let fault = link_fault(t, n, index);
+    if fault != 0 {
+        return Named::Refused(fault);
+    }
+    let m = sample_named(t, n, index, offset);
+    if m.0 == 0 {
+        return Named::Refused(numbers::refusals::NO_SAMPLE_NAMED);
+    }
+    Named::Sample(m)
+}

@@ -1,0 +1,1 @@
+// Samples resolved to plain NAL units.
