@@ -1,11 +1,12 @@
 -- What code says of a copy, by parts. Assumes nothing.
 --
 --   copy-ill, copy-border, copy-formed    25; 26 and 27; 28 or none
---   refused-ill, refused-border           a copy that is refused by 25, 26, 27
+--   refused-as                            a copy that is refused
 --   measured-copy                         a copy that is not is what one walk over it counts
 --   fault-of                              the refusal number in it
 --   good-formed, good-border              a copy without a refusal: of a well-formed sample, without 26 and 27
---   copy-few                              it has no more units, and no more bytes in them, than the sample has bytes
+--   good-flat, good-whole                 its units are those of one walk, and whole
+--   copy-few                              a copy has no more units, and no more bytes in them, than the sample has bytes
 --   place-refused, place-good, place-whole    where a copied unit stands; a unit that stands there is whole
 --   unit-past, unit-place                 its bytes
 use Prim.Native.Nat.{ℕ, _+_, _≤_, _<_}
@@ -29,7 +30,8 @@ use Rattle.copies.specs.Copies.{copyEnd, copied, borderFault, copyFault}
 use Rattle.copies.specs.Extracted.{unitBytes, copiedUnit}
 use Rattle.copies.specs.Flat.{flatPlaces}
 use Rattle.copies.specs.Written.{refusal, measured, copyOf, copiedPlace}
-use Rattle.copies.proofs.Words.{nth-other, nth-map, not-false, part-past}
+use borrow.Author.Tests.{not-false}
+use Rattle.words.proofs.Numbered.{nth-other, nth-map, part-past}
 use Rattle.copies.proofs.Flat.{flat-good}
 use Rattle.copies.proofs.Copies.{copy-cut, copy-most, copied-flat}
 use Rattle.copies.proofs.Rest.{rest, rest-few}

@@ -23,7 +23,7 @@ use Rattle.units.specs.Units.{Sample, end, next, places, topUnits, border, topB
 use Rattle.units.specs.Rules.{Whole, Wholes}
 use Rattle.units.proofs.Units.{next-after, whole-end}
 use Rattle.units.proofs.Walks.{places-step, in-places, in-top, Reached, reached-start, reached-next, reached-top, reached-between, border-past, border-here, border-inside}
-use Rattle.copies.proofs.Words.{keep-same, keep-all}
+use Rattle.words.proofs.Kept.{keep-same, keep-all}
 
 module _ (x : Sample) where
   pub border-start : border x 0 ≡ true

@@ -37,7 +37,7 @@ use Rattle.samples.proofs.Laws.{formed, formed-ok, rules, unit-inside}
 use Rattle.units.proofs.Units.{whole-end}
 use Rattle.copies.specs.Copies.{among, plain, copyStarts, copyEnd, copyEnds, copied, borderFault, copyFault}
 use Rattle.copies.specs.Rules.{Copy}
-use Rattle.copies.proofs.Lists.{keep-yes, keep-same, keep-all, keep-keep, keep-each, each-keep, some-false, rising-apart, rising-count}
+use Rattle.words.proofs.Kept.{keep-yes, keep-same, keep-all, keep-keep, keep-each, each-keep, some-false, rising-apart, rising-count}
 
 module _ (z : Sample) (o n : ℕ) where
   -- in the words of top-level units

@@ -2,7 +2,7 @@
 --
 --   starts-border, starts-top, starts-past    data_offset by borders
 --   ends-border                   data_length by borders
---   end-length, end-unit, end-aggregator, end-zero    where a copy ends
+--   end-length, end-unit, end-aggregator, end-after, end-zero    where a copy ends
 --   copy-top, copy-whole, copy-cut, copy-most    a copy without 26 and 27: its first unit, and the stretch that it is
 --   copied-flat                   its units are those of one walk over it, aggregators dropped
 use Prim.Native.Nat.{ℕ, _+_, _≤_, _<_}

@@ -5,7 +5,8 @@
 --   flat-end, flat-step           the places from p up to e: none, or p and those from the next on
 --   flat-unit                     a top-level unit with what it includes, then those from the next on
 --   flat-between                  the units of a stretch, top-level and included
---   flat-units                    all units of a sample
+--   whole-stretch, flat-units     a well-formed sample is a stretch; all its units
+--   flat-good                     each unit of a stretch is whole, and the walk does not leave the stretch
 --   Walking, walking-start, -whole, -step, -next    a walk over a stretch that has come to p: what stands there is whole
 use Prim.Native.Nat.{ℕ, zero, suc, _-_, _≤_, _<_}
 use mathlib.Core.Path.{_≡_, refl, ap, sym, _∙_}

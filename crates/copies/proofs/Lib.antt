@@ -1,14 +1,13 @@
 -- Laws of copies.
 --
---   Words     laws that belong to words
 --   Borders   top-level borders, and the top-level units between two of them
 --   Flat      all units of a well-formed sample as one walk
 --   Copies    where a copy starts and ends, and its units
---   Rest      what is left of a walk, and what a loop has done before
+--   Rest      what is left of a walk, and what a loop has counted or looked for before
+--   Answers   what code says of a copy, by parts
+--   Putting   units written one after the other
 --   Copied    what a copy has; what is copied, exactly
 --   Sizes     units that do not overlap, and their sizes
---   Lists     laws that belong to words
-pub mod Words
 pub mod Borders
 pub mod Flat
 pub mod Copies
@@ -17,4 +16,3 @@ pub mod Answers
 pub mod Putting
 pub mod Copied
 pub mod Sizes
-pub mod Lists

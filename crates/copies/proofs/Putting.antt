@@ -30,7 +30,7 @@ use Rattle.copies.specs.declared.Copy.{Copy}
 use Rattle.copies.specs.Extracted.{unitBytes}
 use Rattle.copies.specs.Flat.{Stretch}
 use Rattle.copies.specs.Written.{lengthBefore, withLength, listed, copyOf, copyBytes, putCount}
-use Rattle.copies.proofs.Words.{put-after}
+use Rattle.words.proofs.Numbered.{put-after}
 use Rattle.copies.proofs.Flat.{Walking, walking-start, walking-whole}
 use Rattle.copies.proofs.Answers.{good-whole}
 use Rattle.copies.proofs.Rest.{rest, rest-end, rest-skip, rest-take, walking-skip, walking-take}

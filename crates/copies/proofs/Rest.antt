@@ -24,7 +24,7 @@ use Rattle.units.specs.Aggregators.{includedStart}
 use Rattle.copies.specs.Copies.{plain}
 use Rattle.copies.specs.Flat.{flatPlaces, Stretch}
 use Rattle.copies.specs.Written.{refusal, measured}
-use Rattle.copies.proofs.Words.{nth-none, nth-first, nth-later}
+use Rattle.words.proofs.Numbered.{nth-none, nth-first, nth-later}
 use Rattle.copies.proofs.Flat.{flat-aggregator, flat-other, flat-end, flat-step, Walking, walking-start, walking-next}
 
 module _ (x : Sample) where

@@ -20,7 +20,7 @@ use Rattle.samples.specs.Check.{check}
 use Rattle.samples.proofs.Laws.{included-inside, unit-inside}
 use Rattle.copies.specs.Copies.{plain, copied}
 use Rattle.copies.specs.Rules.{Copy}
-use Rattle.copies.proofs.Lists.{keep-no, keep-each, rising-and}
+use Rattle.words.proofs.Kept.{keep-no, keep-each, rising-and}
 use Rattle.copies.proofs.Copied.{copied-exact, copied-unit}
 
 not-true : (b : Bool) → not b ≡ true → b ≡ false

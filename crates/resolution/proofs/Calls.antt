@@ -37,7 +37,7 @@ use Rattle.bundles.proofs.Promises.{one-or-other, samples-tile, samples-all}
 use Rattle.resolution.specs.Resolving.{Span, delivered, judged}
 use Rattle.resolution.specs.Calls.{outputLengthSize, spanBytes, written, output, numberFault, noSpan, resolve, unitOf, resolveCall, unitCall, spanIn, unitPart}
 use Rattle.resolution.specs.Rules.{JudgedRefusal, Resolves, Refuses, UnitRefuses, CallResolves, CallRefuses, UnitCallRefuses}
-use Rattle.resolution.proofs.Words.{each-by-number, part-part}
+use Rattle.words.proofs.Joined.{each-by-number, part-part}
 use Rattle.resolution.proofs.Delivered.{Inside, span-length}
 use Rattle.resolution.proofs.Good.{good-rules, judged-refused}
 use Rattle.resolution.proofs.Exactly.{delivered-plain, delivered-there}

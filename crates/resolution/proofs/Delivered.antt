@@ -33,7 +33,7 @@ use Rattle.bundles.specs.Recordings.{Recording, contentOf}
 use Rattle.words.proofs.Entries.{sum-append, map-append}
 use Rattle.resolution.specs.Resolving.{Span, spanOf, own, extractFault, copiedAt, deliveredAt, delivered, judged}
 use Rattle.resolution.specs.Calls.{spanBytes, written, output, outputLengthSize}
-use Rattle.resolution.proofs.Words.{each-length, first-keep, first-each}
+use Rattle.words.proofs.Joined.{each-length, first-keep, first-each}
 
 module _ (x : Sample) (p : ℕ) where
   pub aggregator-only : isAggregator x p ≡ true → isExtractor x p ≡ false

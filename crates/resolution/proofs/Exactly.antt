@@ -31,7 +31,7 @@ use Rattle.copies.proofs.Copied.{copied-exact, copied-unit}
 use Rattle.resolution.specs.Resolving.{sampleOf, Span, spanOf, spansOf, own, named, linked, copiedAt, deliveredAt, delivered}
 use Rattle.resolution.specs.Calls.{spanBytes}
 use Rattle.resolution.specs.Rules.{Extracts, Good, copySpans, Delivers, Plain}
-use Rattle.resolution.proofs.Words.{part-byte}
+use Rattle.words.proofs.Joined.{part-byte}
 use Rattle.resolution.proofs.Delivered.{extractor-only, delivered-unit, delivered-aggregator, delivered-extractor}
 use Rattle.resolution.proofs.Good.{own-length}
 

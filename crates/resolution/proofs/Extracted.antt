@@ -17,7 +17,7 @@ use Rattle.copies.proofs.Copied.{rules-copy}
 use Rattle.resolution.specs.Resolving.{sampleOf, spanOf, own, named, linked, copiedAt}
 use Rattle.resolution.specs.Calls.{spanBytes, noSpan}
 use Rattle.resolution.specs.Rules.{Good}
-use Rattle.resolution.proofs.Words.{nth-map}
+use Rattle.words.proofs.Joined.{nth-map}
 
 module _ (r : Recording) where
   bytes-same : (m q : ℕ) → unitBytes (sampleOf r m) q ≡ spanBytes r (spanOf m (sampleOf r m) q)

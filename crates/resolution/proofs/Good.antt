@@ -26,7 +26,7 @@ use Rattle.links.proofs.Links.{link-none, in-track, named-there, name-none, nam
 use Rattle.copies.proofs.Copied.{copy-rules, rules-copy, copy-range}
 use Rattle.resolution.specs.Resolving.{sampleOf, own, named, linked, nameFaultAt, copyFaultAt, extractFault, judged}
 use Rattle.resolution.specs.Rules.{Extracts, Good, JudgedRefusal, FirstRefused}
-use Rattle.resolution.proofs.Words.{first-earliest, first-here}
+use Rattle.words.proofs.Joined.{first-earliest, first-here}
 use Rattle.resolution.proofs.Delivered.{extractJudge}
 
 pub own-length : (r : Recording) (n : ℕ) → end (sampleOf r n) ≡ length (contentOf r n)

@@ -8,7 +8,6 @@
 --   Calls      what the calls answer
 --   Sizes      how much a good sample delivers, at most
 --   Extracted  what the function on two samples gives
---   Words      laws that belong to words
 pub mod Promises
 pub mod Delivered
 pub mod Good
@@ -17,4 +16,3 @@ pub mod Once
 pub mod Calls
 pub mod Sizes
 pub mod Extracted
-pub mod Words

@@ -29,10 +29,10 @@ use Rattle.bundles.specs.Bundles.{meaning}
 use Rattle.bundles.proofs.Promises.{references-join}
 use Rattle.links.proofs.Links.{in-track, link-good, linked-reference}
 use Rattle.copies.specs.Copies.{copied}
-use Rattle.copies.proofs.Lists.{keep-each, each-keep, keep-yes}
+use Rattle.words.proofs.Kept.{keep-each, each-keep, keep-yes}
 use Rattle.resolution.specs.Resolving.{Span, spanOf, spansOf, own, named, linked, copiedAt, deliveredAt, delivered}
 use Rattle.resolution.specs.Rules.{Good, Apart, timesDelivered}
-use Rattle.resolution.proofs.Words.{keep-and, each-single, map-keep, keep-one, rising-cut}
+use Rattle.words.proofs.Joined.{keep-and, each-single, map-keep, keep-one, rising-cut}
 use Rattle.resolution.proofs.Delivered.{delivered-unit, delivered-aggregator, delivered-extractor}
 use Rattle.resolution.proofs.Exactly.{extractor-mem}
 

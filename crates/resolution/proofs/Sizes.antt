@@ -30,10 +30,10 @@ use Rattle.links.proofs.Words.{nth-zero, nth-over}
 use Rattle.copies.specs.Copies.{copied}
 use Rattle.copies.proofs.Copied as copy
 use Rattle.copies.proofs.Sizes.{copied-size}
-use Rattle.copies.proofs.Lists.{rising-count}
+use Rattle.words.proofs.Kept.{rising-count}
 use Rattle.resolution.specs.Resolving.{Span, spanOf, spansOf, own, named, linked, copiedAt, deliveredAt, delivered}
 use Rattle.resolution.specs.Rules.{Extracts, Good}
-use Rattle.resolution.proofs.Words.{each-length}
+use Rattle.words.proofs.Joined.{each-length}
 use Rattle.resolution.proofs.Delivered.{delivered-unit, delivered-aggregator, delivered-extractor, outputSize, size-none, size-one, size-append}
 use Rattle.resolution.proofs.Good.{own-length}
 use Rattle.resolution.proofs.Exactly.{extractor-mem}

@@ -10,6 +10,9 @@
 --   Splices     parts and cuts of a list in which a part is replaced
 --   Buffers     written bytes
 --   Rows        lists by number, written lists, rows of four numbers
+--   Kept        `keep`, `each`, rising lists
+--   Numbered    the nth element, parts past the end
+--   Joined      joined lists, the first refusal in them, parts of parts
 pub mod Tests
 pub mod Refusals
 pub mod Lists
@@ -20,3 +23,6 @@ pub mod Bytes
 pub mod Splices
 pub mod Buffers
 pub mod Rows
+pub mod Kept
+pub mod Numbered
+pub mod Joined

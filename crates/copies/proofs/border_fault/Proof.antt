@@ -3,7 +3,7 @@ use borrow.Author.Needs.{needs}
 use mathlib.Core.Path.{sym, _∙_}
 use Rattle.copies.proofs.border_fault.Statement.{statement}
 use Rattle.copies.specs.Copies.{borderFault}
-use Rattle.copies.proofs.Words.{not-true, not-false}
+use borrow.Author.Tests.{not-true, not-false}
 use Rattle.copies.proofs.border_fault.Tie as tie
 
 copy-starts-requires : tie.Need-copy-starts-requires

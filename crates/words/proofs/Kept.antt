@@ -1,4 +1,4 @@
--- Laws that belong to words. Assumes nothing.
+-- Laws of `keep`, `each` and of rising lists. Assumes nothing.
 --
 --   keep-yes, keep-no         one element more in front
 --   keep-same, keep-all       `keep` of tests that are equal on the list; where all pass

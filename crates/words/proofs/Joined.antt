@@ -1,4 +1,4 @@
--- Laws that belong to words. Assumes nothing.
+-- Laws of joined lists and of the first refusal in them; rising lists of numbers; parts of parts. Assumes nothing.
 --
 --   each-length               the length of joined lists is a sum
 --   each-by-number            joined lists, element by number
@@ -21,15 +21,15 @@ use native.Mathlib.Omega.{arith}
 use borrow.Author.Tests.{eq-eqb, ne-eqb, lt-ltb, le-ltb}
 use lib.ListN.{length, take, drop, length-append, length-take, length-drop, List·getD-append}
 use lib.Seq.{getD-take, getD-drop, getD-append-add, ext-getD, take-suc, take-length}
 use Rattle.words.specs.Tests.{pick, _<?_, _≡?_}
 use Rattle.words.specs.Refusals.{refused, ok, Verdict, _atPlace_, first}
 use Rattle.words.specs.Lists.{keep, each, nth, upto, sum}
 use Rattle.words.specs.Bytes.{byteAt, part}
 use Rattle.words.proofs.Tests.{by-bool, by-number}
 use Rattle.words.proofs.Refusals.{ok-refused}
 use Rattle.words.proofs.Lists.{each-append, keep-nothing, Rising}
 use Rattle.words.proofs.Entries.{first-append}
-use Rattle.copies.proofs.Lists.{keep-yes, keep-no, keep-all}
+use Rattle.words.proofs.Kept.{keep-yes, keep-no, keep-all}
 
 pub each-length : {A B : Type 0} (f : A → List B) (xs : List A) → length (each f xs) ≡ sum (map (λ x. length (f x)) xs)
 unfolding each sum

@@ -1,7 +1,5 @@
--- Laws that belong to words. Assumes nothing.
+-- Laws of the nth element, of parts past the end, and of a write after a write. Assumes nothing.
 --
---   not-true, not-false     a test that holds exactly if another does not
---   keep-same, keep-all     `keep` of tests that are equal on the list; of a test that all pass
 --   nth-none, nth-first, nth-later    the nth element of an empty list; of a list with a first element
 --   nth-other, nth-map      an nth element that is not the default; of a `map`
 --   part-past               a part past the end is empty
@@ -9,35 +7,14 @@
 use Prim.Native.Nat.{ℕ, zero, suc, _+_, _-_, _≤_, _<_}
 use mathlib.Core.Path.{_≡_, refl, ap, _∙_}
 use mathlib.Core.List.{List, [], _∷_, _++_, map, List·Memᴰ, List·Memᴰ·head, List·Memᴰ·tail}
-use mathlib.Core.Bool.{Bool, true, false, not}
 use native.Mathlib.Omega.{arith}
 use native.Mathlib.Numerals.{sub-one}
 use lib.ListN.{length, drop}
 use lib.Seq.{drop-nil, take-nil}
 use Rattle.words.specs.Bytes.{part}
 use Rattle.words.specs.Buffers.{writeAt, put}
 use Rattle.words.proofs.Buffers.{write-length, put-fits, write-write}
-use Rattle.words.specs.Lists.{keep, nth}
-use Rattle.words.proofs.Tests.{true-false}
-
-pub not-true : (b : Bool) → not b ≡ true → b ≡ false
-not-true true e = true-false false e refl
-not-true false e = refl
-
-pub not-false : (b : Bool) → not b ≡ false → b ≡ true
-not-false true e = refl
-not-false false e = true-false true refl e
-
-module _ {A : Type 0} where
-  pub keep-same : (t u : A → Bool) (xs : List A) → ((x : A) → List·Memᴰ x xs → t x ≡ u x) → keep t xs ≡ keep u xs
-  unfolding keep
-  keep-same t u [] h = refl
-  keep-same t u (x ∷ xs) h = rw (h x (List·Memᴰ·head refl), keep-same t u xs (λ y m. h y (List·Memᴰ·tail m)))
-
-  pub keep-all : (t : A → Bool) (xs : List A) → ((x : A) → List·Memᴰ x xs → t x ≡ true) → keep t xs ≡ xs
-  unfolding keep
-  keep-all t [] h = refl
-  keep-all t (x ∷ xs) h = rw (h x (List·Memᴰ·head refl), keep-all t xs (λ y m. h y (List·Memᴰ·tail m)))
+use Rattle.words.specs.Lists.{nth}
 
 -- the nth element, from 1
 module _ {A : Type 0} where
