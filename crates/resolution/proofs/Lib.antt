@@ -8,6 +8,12 @@
 --   Calls      what the calls answer
 --   Sizes      how much a good sample delivers, at most
 --   Extracted  what the function on two samples gives
+--   Amounts    what the steps of the code give for a unit
+--   Counting   a walk over all units that judges and counts
+--   Spans      one delivered unit, found by a walk
+--   Answered   what the calls answer, as the code takes them
+--   Output     what a sample delivers, written by a walk
+--   Words      laws that belong to words
 pub mod Promises
 pub mod Delivered
 pub mod Good
@@ -16,3 +22,8 @@ pub mod Once
 pub mod Calls
 pub mod Sizes
 pub mod Extracted
+pub mod Amounts
+pub mod Counting
+pub mod Spans
+pub mod Answered
+pub mod Output

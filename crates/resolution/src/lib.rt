@@ -1,1 +1,86 @@
 // Samples resolved to plain NAL units.
+mod finding;
+mod judging;
+mod writing;
+
+ghost use mathlib.Core.Path.{_≡_};
+ghost use lib.ListN.{length};
+ghost use Rattle.words.specs.Buffers.{Wrote};
+ghost use Rattle.resolution.specs.Calls.{resolveCall, unitCall, unitPart};
+ghost use Rattle.resolution.specs.Answers.{answerOf, unitAnswerOf};
+use filling::Filled;
+use numbers::ByteOffset;
+use numbers::Refusal;
+use numbers::SampleNumber;
+use numbers::refusals;
+
+// A delivered unit: which sample it stands in, where it starts there, after its length field, and its size.
+pub struct UnitSpan {
+    pub sample: SampleNumber,
+    pub start: ByteOffset,
+    pub size: usize,
+}
+
+// One delivered unit, or a refusal.
+pub enum UnitFound {
+    Refused(Refusal),
+    Span(UnitSpan),
+}
+
+// A sample resolved: how many bytes of the output are written, or a refusal.
+pub enum Resolved {
+    Refused(Refusal),
+    Count(usize),
+}
+
+// How many units a sample delivers, and how many bytes they take in the output.
+struct Amount {
+    count: usize,
+    size: usize,
+}
+
+// A sample is good, or refused.
+enum Judged {
+    Refused(Refusal),
+    Good(Amount),
+}
+
+// A sample resolved: 1 to 13, 30, 14 to 28, 29; or each delivered unit after a 4-byte length, over the start of the buffer, and how many
+// bytes that is. After a refusal the buffer is as it was.
+pub fn resolve(b: &[u8], n: SampleNumber, out: &mut [u8]) -> Resolved
+    ensures { λ r. ⌜ Wrote (now (out .entry)) (now (out .exit)) (answerOf r) (resolveCall (now (b .entry)) (n .0) (length (now (out .entry)))) ⌝ }
+{
+    let mut t = [0u64; tables::TABLE_SIZE];
+    let filled = filling::fill_table(b, &mut t);
+    match filled {
+        Filled::Refused(f) => Resolved::Refused(f),
+        Filled::NoRoom(_) => writing::refused(refusals::OUTPUT_TOO_LONG),
+        Filled::Done => writing::resolve_sample(b, &t, n, out),
+    }
+}
+
+// The kth unit that a sample delivers: 1 to 13, 30, 14 to 28, 30 for k, or where it stands.
+pub fn unit_answer(b: &[u8], n: SampleNumber, k: usize) -> UnitFound
+    ensures { λ r. ⌜ unitAnswerOf r ≡ unitCall (now (b .entry)) (n .0) k ⌝ }
+{
+    let mut t = [0u64; tables::TABLE_SIZE];
+    let filled = filling::fill_table(b, &mut t);
+    match filled {
+        Filled::Refused(f) => UnitFound::Refused(f),
+        Filled::NoRoom(_) => finding::refused(refusals::NO_SUCH_NUMBER),
+        Filled::Done => finding::find_unit(b, &t, n, k),
+    }
+}
+
+// Its bytes, as a part of the bundle; empty if refused.
+pub fn unit_bytes<'a>(b: &'a [u8], n: SampleNumber, k: usize) -> &'a [u8]
+    ensures { λ r. ⌜ now r ≡ unitPart (now (b .entry)) (unitCall (now (b .entry)) (n .0) k) ⌝ }
+{
+    let mut t = [0u64; tables::TABLE_SIZE];
+    let filled = filling::fill_table(b, &mut t);
+    match filled {
+        Filled::Refused(_) => &b[..0],
+        Filled::NoRoom(_) => &b[..0],
+        Filled::Done => finding::unit_part(b, &t, n, k),
+    }
+}

@@ -4,6 +4,8 @@ mod check;
 mod print;
 mod record;
 mod request;
+mod resolve;
+mod unit;
 mod writerec;
 
 use libc::STDIN_FILENO;
@@ -21,6 +23,8 @@ fn answer(buffer: &[u8; 65536], n: usize) {
         2 => writerec::answer(fields),
         3 => check::answer(fields),
         4 => bundle::answer(fields),
+        5 => resolve::answer(fields),
+        6 => unit::answer(fields),
         _ => print::line(b"unknown request"),
     }
 }

@@ -1,0 +1,149 @@
+-- What the calls answer, step by step as the code takes them. Assumes nothing.
+--
+--   number-some                            a number without 30
+--   judgement-refused, judgement-good      a sample that is refused; one that is good, and how much it delivers
+--   number-refused, sample-refused, room-refused, sample-resolved    a sample resolved
+--   find-number, find-sample, find-past, find-good    one delivered unit
+--   found-inside                           it lies in its sample
+--   part-same                              it is the part of the bundle that is promised
+--   table-accepted, table-means, table-short    a table that was filled
+--   call-filled, unit-filled, part-filled    the calls by that table
+use Prim.Native.Nat.{ℕ, _≤_, _<_}
+use mathlib.Core.Path.{_≡_, refl, ap, sym, _∙_}
+use mathlib.Core.List.{List, []}
+use native.Mathlib.Omega.{arith}
+use lib.ListN.{length}
+use Rattle.words.specs.Refusals.{Answer, refused, ok, _andThen_}
+use Rattle.words.specs.RefusalNumbers.{outputTooLong}
+use Rattle.words.specs.Lists.{nth}
+use Rattle.words.specs.Buffers.{within}
+use Rattle.words.proofs.Refusals.{at-ok, at-none, at-refused, and-ok, by-verdict, ok-same, ok-refused}
+use Rattle.words.proofs.Lists.{nth-mem}
+use Rattle.words.proofs.Buffers.{within-room, within-not}
+use Rattle.bundles.specs.Recordings.{Recording, sampleCount}
+use Rattle.bundles.specs.Bundles.{bundleVerdict, meaning, recordingOf}
+use Rattle.bundles.proofs.Sections.{accepted}
+use Rattle.tables.specs.Tables.{spelled}
+use Rattle.filling.specs.Filling.{filling, tableAfter}
+use Rattle.filling.specs.declared.Filled.the-variants.{Done}
+use Rattle.filling.proofs.Promises.{says-done, table-spells}
+use Rattle.resolution.specs.Resolving.{Span, delivered, judged}
+use Rattle.resolution.specs.Calls.{output, noSpan, numberFault, resolve, unitOf, resolveCall, unitCall, unitPart, spanBytes}
+use Rattle.resolution.specs.Steps.{judgement, partOf}
+use Rattle.resolution.specs.declared.Amount.{Amount}
+use Rattle.resolution.proofs.Delivered.{Inside}
+use Rattle.resolution.proofs.Good.{good-rules}
+use Rattle.resolution.proofs.Exactly.{delivered-plain, delivered-there}
+use Rattle.resolution.proofs.Calls.{number-bad, by-count, call-means, unit-means, span-in}
+
+pub number-some : (count n : ℕ) → numberFault count n ≡ 0 → (0 < n) × (n ≤ count)
+number-some count n e = by-count count n
+    (λ h. let z = sym (number-bad count n h) ∙ e in absurd (omega arith))
+    (λ h l. (h, l))
+
+module _ (r : Recording) (n : ℕ) where
+  pub judgement-refused : {m q : ℕ} → judgement r n ≡ refused m q → judged r n ≡ refused m q
+  unfolding judgement
+  judgement-refused {m} {q} e = by-verdict (judged r n)
+      (λ a b v. let s : refused a b ≡ refused m q = rw v at e in let i : a ≡ m = cc in let j : b ≡ q = cc in v ∙ rw (i, j))
+      (λ v. ok-refused (sym (rw v at e)))
+
+  pub judgement-good : (a : Amount) → judgement r n ≡ ok a → (judged r n ≡ ok tt) × (a .count ≡ length (delivered r n)) × (a .size ≡ length (output r (delivered r n)))
+  unfolding judgement
+  judgement-good a e =
+      let w = and-ok (judged r n) _ e in
+      let s = ok-same (w .1) in
+      (w .0, sym (ap (λ (b : Amount). b .count) s), sym (ap (λ (b : Amount). b .size) s))
+
+  -- a sample resolved
+  module _ (room : ℕ) where
+    pub number-refused : {f : ℕ} → f ≡ numberFault (sampleCount (r .layout)) n → (f ≡ 0 → ⊥) → within room (resolve r n) ≡ refused f 0
+    unfolding resolve
+    number-refused e h = rw (at-refused 0 e h)
+
+    module _ (g : numberFault (sampleCount (r .layout)) n ≡ 0) where
+      pub sample-refused : {m q : ℕ} → judged r n ≡ refused m q → within room (resolve r n) ≡ refused m q
+      unfolding resolve
+      sample-refused e = rw (g, e)
+
+      pub room-refused : judged r n ≡ ok tt → room < length (output r (delivered r n)) → within room (resolve r n) ≡ refused outputTooLong 0
+      unfolding resolve
+      room-refused e h = rw (g, e) (within-not room (output r (delivered r n)) h)
+
+      pub sample-resolved : judged r n ≡ ok tt → length (output r (delivered r n)) ≤ room → within room (resolve r n) ≡ ok (output r (delivered r n))
+      unfolding resolve
+      sample-resolved e h = rw (g, e) (within-room room (output r (delivered r n)) h)
+
+  module _ (i : ℕ) where
+    pub find-number : {f : ℕ} → f ≡ numberFault (sampleCount (r .layout)) n → (f ≡ 0 → ⊥) → unitOf r n i ≡ refused f 0
+    unfolding unitOf
+    find-number e h = rw (at-refused 0 e h)
+
+    module _ (g : numberFault (sampleCount (r .layout)) n ≡ 0) where
+      pub find-sample : {m q : ℕ} → judged r n ≡ refused m q → unitOf r n i ≡ refused m q
+      unfolding unitOf
+      find-sample e = rw (g, e)
+
+      module _ (j : judged r n ≡ ok tt) where
+        pub find-past : {f : ℕ} → f ≡ numberFault (length (delivered r n)) i → (f ≡ 0 → ⊥) → unitOf r n i ≡ refused f 0
+        unfolding unitOf
+        find-past e h = rw (g, j, at-refused 0 e h)
+
+        pub find-good : numberFault (length (delivered r n)) i ≡ 0 → unitOf r n i ≡ ok (nth (delivered r n) i noSpan)
+        unfolding unitOf
+        find-good e = rw (g, j, e)
+
+    -- a unit that was found
+    module _ (u : Span) (e : unitOf r n i ≡ ok u) where
+      parts : (numberFault (sampleCount (r .layout)) n ≡ 0) × (judged r n ≡ ok tt) × (numberFault (length (delivered r n)) i ≡ 0) × (nth (delivered r n) i noSpan ≡ u)
+      unfolding unitOf
+      parts =
+          let a = and-ok _ _ e in
+          let b = and-ok (judged r n) _ (a .1) in
+          let c = and-ok _ _ (b .1) in
+          (at-ok _ 0 (a .0), b .0, at-ok _ 0 (c .0), ok-same (c .1))
+
+      pub found-inside : Inside r u
+      found-inside =
+          let w = parts in
+          let s = number-some _ _ (w .2) in
+          rw (← w .3) (delivered-plain r n (good-rules r n (w .1)) (nth (delivered r n) i noSpan) (nth-mem (delivered r n) i noSpan (s .0) (s .1)) .inside)
+
+      pub found-there : (0 < u .sample) × (u .sample ≤ sampleCount (r .layout))
+      found-there =
+          let w = parts in
+          let s = number-some _ _ (w .2) in
+          let k = number-some _ _ (w .0) in
+          rw (← w .3) (delivered-there r n (good-rules r n (w .1)) (k .0) (k .1) (nth (delivered r n) i noSpan) (nth-mem (delivered r n) i noSpan (s .0) (s .1)))
+
+-- an accepted bundle
+module _ (b : List ℕ) (r : Recording) (e : meaning b ≡ ok r) (n i : ℕ) where
+  by-answer : (a : Answer Span) → unitOf r n i ≡ a → partOf r a ≡ unitPart b a
+  by-answer (refused m p) f = refl
+  by-answer (ok u) f = let t = found-there r n i u f in sym (span-in b r e u (t .0) (t .1) (found-inside r n i u f))
+
+  pub part-same : partOf r (unitOf r n i) ≡ unitPart b (unitCall b n i)
+  part-same = by-answer (unitOf r n i) refl ∙ ap (unitPart b) (sym (unit-means b n i e))
+
+-- a table that was filled
+pub table-short : (b : List ℕ) (room : ℕ) → filling b room ≡ Done → length b ≤ 16777216
+table-short b room done = accepted b (says-done b room done) .size
+
+module _ (b t : List ℕ) (done : filling b (length t) ≡ Done) where
+  pub table-accepted : meaning b ≡ ok (recordingOf b)
+  unfolding meaning
+  table-accepted = rw (says-done b (length t) done)
+
+  pub table-means : spelled b (tableAfter b t) ≡ recordingOf b
+  table-means = table-spells b t (recordingOf b) table-accepted done
+
+  -- whatever is said by the table that is left
+  module _ {s : List ℕ} (f : s ≡ tableAfter b t) (n i : ℕ) where
+    pub call-filled : within i (resolve (spelled b s) n) ≡ resolveCall b n i
+    call-filled = rw (f, table-means) (sym (call-means b n i table-accepted))
+
+    pub unit-filled : unitOf (spelled b s) n i ≡ unitCall b n i
+    unit-filled = rw (f, table-means) (sym (unit-means b n i table-accepted))
+
+    pub part-filled : partOf (spelled b s) (unitOf (spelled b s) n i) ≡ unitPart b (unitCall b n i)
+    part-filled = rw (f, table-means) (part-same b (recordingOf b) table-accepted n i)

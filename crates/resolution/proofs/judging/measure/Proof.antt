@@ -1,0 +1,148 @@
+-- The loop's invariant: what was counted so far and what is left are all, and no extractor so far is refused. Assumes nothing.
+use borrow.Author.Needs.{needs}
+use native.Mathlib.Omega.{arith}
+use mathlib.Core.Path.{_≡_, sym, _∙_}
+use Prim.Native.Nat.{ℕ, _+_, _-_, _*_, _≤_}
+use lib.ListN.{length}
+use Rattle.resolution.proofs.judging.measure.Statement.{statement}
+use mathlib.Core.Bool.{true, false}
+use borrow.Author.Tests.{eq-eqb, ne-eqb}
+use Rattle.units.specs.Units.{Sample, sample, size, next, isAggregator}
+use Rattle.units.specs.Aggregators.{includedStart}
+use Rattle.units.proofs.Units.{next-after}
+use Rattle.samples.proofs.Walks.{next-is}
+use Rattle.tables.specs.Tables.{spelled}
+use Rattle.bundles.specs.Recordings.{Recording}
+use Rattle.resolution.proofs.Amounts.{spelled-most}
+use Rattle.resolution.proofs.Counting.{Passing, passing-skip, passing-take, Judging, judging-start, judging-skip, judging-fits, judging-few, judging-refused, judging-take, judging-end}
+use Rattle.resolution.proofs.judging.measure.Tie as tie
+
+abbrev Inv-loop : tie.InvT-loop
+Inv-loop b t n k x l w count₀ size₀ p₀ count size p = Judging (spelled b t) (n .0) (sample k x) p count size
+
+abbrev μ-loop : tie.MeasureT-loop
+μ-loop b t n k x l w count₀ size₀ p₀ count size p = length x - p
+
+-- the sample, and the place of the unit at hand
+abbrev At : Type 0
+At = tie.In-loop Inv-loop μ-loop
+
+abbrev X : At → Sample
+X c = sample (c .before .before .before .before .before .before .args .k) (c .before .before .before .before .before .before .args .x .now)
+
+abbrev R : At → Recording
+R c = spelled (c .before .before .before .before .before .before .args .b .now) (c .before .before .before .before .before .before .args .t .now)
+
+abbrev P : At → ℕ
+P c = c .before .loop .p
+
+-- it is an aggregator, or another unit
+aggregator : (c : tie.Then1 Inv-loop μ-loop) → isAggregator (X (c .before .before)) (P (c .before .before)) ≡ true
+aggregator c = eq-eqb _ _ (sym (c .before .type-at .ensures) ∙ c .if1 .taken)
+
+other : (c : tie.Else1 Inv-loop μ-loop) → isAggregator (X (c .before .before)) (P (c .before .before)) ≡ false
+other c = ne-eqb _ _ (λ e. c .if1 .left (c .before .type-at .ensures ∙ e))
+
+-- where the walk goes on
+skips : (c : tie.Then1 Inv-loop μ-loop) → Passing (R (c .before .before)) (c .before .before .before .before .before .before .before .before .args .n .0) (X (c .before .before)) (includedStart (X (c .before .before)) (P (c .before .before)))
+skips c = passing-skip _ _ _ _ (c .before .before .before .loop .inv .passing) (c .before .before .loop-test .taken) (aggregator c)
+
+takes : (c : tie.Else1 Inv-loop μ-loop) → next (X (c .before .before)) (P (c .before .before)) ≤ length (c .before .before .before .before .before .before .before .before .args .x .now)
+takes c = passing-take _ _ _ _ (c .before .before .before .loop .inv .passing) (c .before .before .loop-test .taken) (other c) .walking .inside
+
+few : (c : tie.Else2 Inv-loop μ-loop) → (c .before .before .amount-at .result .count ≤ 16777216) × (4 * c .before .before .amount-at .result .count + c .before .before .amount-at .result .bytes ≤ 67108864)
+few c = judging-few _ _ _ _ _ _ (c .before .before .before .before .before .before .loop .inv) (c .before .before .before .before .before .loop-test .taken) (other (c .before .before .before)) (c .before .before .amount-at .ensures) (c .if2 .left)
+
+small : (c : tie.Else2 Inv-loop μ-loop) → (c .before .before .before .before .before .before .loop .count ≤ 281474976710656) × (c .before .before .before .before .before .before .loop .size ≤ 1125899906842624) × (length (c .before .before .before .before .before .before .before .before .before .before .before .args .x .now) ≤ 16777216)
+small c = judging-fits _ _ _ _ _ _ (c .before .before .before .before .before .before .loop .inv)
+
+ends : (c : tie.After-number Inv-loop μ-loop) → P (c .before .before .before .before .before .before .before .before .before) + c .before .before .before .before .before .before .before .before .before .before .before .bytes .result + c .number .result ≡ next (X (c .before .before .before .before .before .before .before .before .before)) (P (c .before .before .before .before .before .before .before .before .before))
+ends c = let a = c .before .before .before .before .before .before .before .before .before .before .before .before .before .before .before .args in next-is (a .k) (a .x .now) _ _ _ (c .before .before .before .before .before .before .before .before .before .before .before .bytes .ensures .0) (c .number .ensures)
+
+bytes-requires : tie.Need-bytes-requires Inv-loop μ-loop
+bytes-requires c κs = search needs
+
+loop-holds : tie.Need-loop-holds Inv-loop μ-loop
+loop-holds c = judging-start _ _ _ (c .before .before .before .before .pre .0) (c .before .before .before .before .pre .1) (λ m. let l = spelled-most (c .before .before .before .before .args .b .now) (c .before .before .before .before .args .t .now) m in omega (arith, c .before .before .before .before .pre .2))
+
+type-at-requires : tie.Need-type-at-requires Inv-loop μ-loop
+type-at-requires c κs = search needs
+
+add-p : tie.Need-add-p Inv-loop μ-loop
+add-p c = let w = skips c .walking in omega arith
+
+add-p-2 : tie.Need-add-p-2 Inv-loop μ-loop
+add-p-2 c = let w = skips c .walking in omega arith
+
+add-p-3 : tie.Need-add-p-3 Inv-loop μ-loop
+add-p-3 c = let w = skips c .walking in omega arith
+
+loop-less : tie.Need-loop-less Inv-loop μ-loop
+loop-less c = let w = skips c .walking in omega arith
+
+loop-again : tie.Need-loop-again Inv-loop μ-loop
+loop-again c = rw (c .before .before .before .before .bytes .ensures .0) (judging-skip _ _ _ _ _ _ (c .before .before .before .loop .inv) (c .before .before .loop-test .taken) (aggregator c))
+
+amount-at-requires : tie.Need-amount-at-requires Inv-loop μ-loop
+amount-at-requires c κs = search needs
+
+returns : tie.Need-returns Inv-loop μ-loop
+returns c = sym (judging-refused _ _ _ _ _ _ (c .before .before .before .before .before .before .loop .inv) (c .before .before .before .before .before .loop-test .taken) (other (c .before .before .before)) (c .before .before .amount-at .ensures) (c .if2 .taken))
+
+add-count : tie.Need-add-count Inv-loop μ-loop
+add-count c = let f = few (c .before) in let s = small (c .before) in omega arith
+
+mul-size : tie.Need-mul-size Inv-loop μ-loop
+mul-size c = let f = few (c .before .before) in omega arith
+
+add-size : tie.Need-add-size Inv-loop μ-loop
+add-size c = let f = few (c .before .before) in let s = small (c .before .before) in omega arith
+
+add-size-2 : tie.Need-add-size-2 Inv-loop μ-loop
+add-size-2 c = let f = few (c .before .before .before) in let s = small (c .before .before .before) in omega arith
+
+add-p-4 : tie.Need-add-p-4 Inv-loop μ-loop
+add-p-4 c = let w = takes (c .before .before .before .before .before .before) in omega arith
+
+number-requires : tie.Need-number-requires Inv-loop μ-loop
+number-requires c κs = search needs
+
+add-p-5 : tie.Need-add-p-5 Inv-loop μ-loop
+add-p-5 c = let w = takes (c .before .before .before .before .before .before .before) in let e = ends c in let s = small (c .before .before .before .before) in omega arith
+
+loop-less-2 : tie.Need-loop-less-2 Inv-loop μ-loop
+loop-less-2 c = let w = takes (c .before .before .before .before .before .before .before) in let e = ends c in let s = small (c .before .before .before .before) in let n = next-after (X (c .before .before .before .before .before .before .before .before .before)) (P (c .before .before .before .before .before .before .before .before .before)) in omega arith
+
+loop-again-2 : tie.Need-loop-again-2 Inv-loop μ-loop
+unfolding size
+loop-again-2 c = rw (c .number .ensures, c .before .before .before .before .before .before .before .before .before .before .before .bytes .ensures .0) (judging-take _ _ _ _ _ _ (c .before .before .before .before .before .before .before .before .before .before .loop .inv) (c .before .before .before .before .before .before .before .before .before .loop-test .taken) (other (c .before .before .before .before .before .before .before)) (c .before .before .before .before .before .before .amount-at .ensures) (c .before .before .before .before .if2 .left))
+
+returns-2 : tie.Need-returns-2 Inv-loop μ-loop
+returns-2 c = sym (judging-end _ _ _ _ _ _ (c .before .loop .inv) (c .loop-test .left))
+
+pub measure-spec : {M : Type 1} → statement M
+measure-spec =
+    tie.close
+    (tie.spec
+    Inv-loop
+    μ-loop
+    bytes-requires
+    loop-holds
+    type-at-requires
+    add-p
+    add-p-2
+    add-p-3
+    loop-less
+    loop-again
+    amount-at-requires
+    returns
+    add-count
+    mul-size
+    add-size
+    add-size-2
+    add-p-4
+    number-requires
+    add-p-5
+    loop-less-2
+    loop-again-2
+    returns-2)

@@ -1,0 +1,101 @@
+-- Each return is a case of the answer; nothing is written before all is known. Assumes nothing.
+use borrow.Author.Needs.{needs}
+use mathlib.Core.Path.{_≡_, sym, ap, _∙_}
+use Prim.Native.Nat.{_≤_}
+use lib.ListN.{length}
+use Rattle.resolution.proofs.writing.resolve_sample.Statement.{statement}
+use Rattle.words.specs.Refusals.{ok}
+use Rattle.words.proofs.Buffers.{refuse, accept}
+use Rattle.tables.specs.Tables.{spelled}
+use Rattle.bundles.specs.Recordings.{Recording, sampleCount}
+use Rattle.resolution.specs.Resolving.{delivered, judged}
+use Rattle.resolution.specs.Calls.{output, numberFault}
+use Rattle.resolution.specs.Steps.{answerOf}
+use Rattle.resolution.proofs.Amounts.{sample-from}
+use Rattle.resolution.proofs.Answered.{judgement-refused, judgement-good, number-refused, sample-refused, room-refused, sample-resolved}
+use Rattle.resolution.proofs.writing.resolve_sample.Tie as tie
+
+abbrev R : tie.Else1 → Recording
+R c = spelled (c .before .before .before .before .before .before .args .b .now) (c .before .before .before .before .before .before .args .t .now)
+
+-- the number is good, or it is not
+fault : (c : tie.After-number-fault) → c .number-fault .result ≡ numberFault (sampleCount (spelled (c .before .before .before .before .before .args .b .now) (c .before .before .before .before .before .args .t .now) .layout)) (c .before .before .before .before .before .args .n .0)
+unfolding spelled
+fault c = rw (c .before .sample-count .ensures) at (c .number-fault .ensures)
+
+sound : (c : tie.Else1) → numberFault (sampleCount (R c .layout)) (c .before .before .before .before .before .before .args .n .0) ≡ 0
+sound c = sym (fault (c .before)) ∙ c .if1 .left
+
+-- the sample is good
+good : (c : tie.After-judged2) → let n = c .before .before .before .before .before .before .before .before .before .args .n .0 in (judged (R (c .before .before .before)) n ≡ ok tt) × (c .judged2 .given .0 .0 .count ≡ length (delivered (R (c .before .before .before)) n)) × (c .judged2 .given .0 .0 .size ≡ length (output (R (c .before .before .before)) (delivered (R (c .before .before .before)) n)))
+good c = judgement-good (R (c .before .before .before)) (c .before .before .before .before .before .before .before .before .before .args .n .0) (c .judged2 .given .0 .0) (sym (c .before .before .judge .ensures) ∙ ap answerOf (c .judged2 .given .1))
+
+fits : (c : tie.Else2) → length (output (R (c .before .before .before .before .before .before)) (delivered (R (c .before .before .before .before .before .before)) (c .before .before .before .before .before .before .before .before .before .before .before .before .args .n .0))) ≤ length (c .before .before .before .before .before .before .before .before .before .before .before .before .args .out .now)
+fits c = rw (good (c .before .before .before) .2) at (c .if2 .left)
+
+sample-count-requires : tie.Need-sample-count-requires
+sample-count-requires c κs = search needs
+
+number-fault-requires : tie.Need-number-fault-requires
+number-fault-requires c κs = search needs
+
+refused-requires : tie.Need-refused-requires
+refused-requires c κs = search needs
+
+returns : tie.Need-returns
+returns c = rw (c .refused .ensures) (refuse (number-refused _ _ _ (fault (c .before .before)) (c .before .if1 .taken)))
+
+judge-requires : tie.Need-judge-requires
+judge-requires c κs = search needs
+
+enum-known-judged : tie.Need-enum-known-judged
+enum-known-judged c = search needs
+
+enum-known-judged-2 : tie.Need-enum-known-judged-2
+enum-known-judged-2 c = search needs
+
+refused-requires-2 : tie.Need-refused-requires-2
+refused-requires-2 c κs = search needs
+
+returns-2 : tie.Need-returns-2
+returns-2 c = rw (c .refused2 .ensures) (refuse (room-refused _ _ _ (sound (c .before .before .before .before .before .before .before)) (good (c .before .before .before .before) .0) (rw (good (c .before .before .before .before) .2) at (c .before .if2 .taken))))
+
+track-of-requires : tie.Need-track-of-requires
+track-of-requires c κs = search needs
+
+sample-bytes-requires : tie.Need-sample-bytes-requires
+sample-bytes-requires c κs = search needs
+
+write-units-requires : tie.Need-write-units-requires
+write-units-requires c κs =
+    let a = c .before .before .before .before .before .before .before .before .before .before .before .before .before .before .before .args in
+    (sample-from (a .b .now) (a .t .now) (a .n .0) (c .before .before .track-of .ensures) (c .before .sample-bytes .ensures), good (c .before .before .before .before .before .before) .0, fits (c .before .before .before))
+
+returns-3 : tie.Need-returns-3
+returns-3 c = refuse (sample-refused _ _ _ (sound (c .before .before .before .before)) (judgement-refused _ _ (sym (c .before .before .before .judge .ensures) ∙ ap answerOf (c .before .judged .given .1))))
+
+same-length : tie.Need-same-length
+same-length c = search needs
+
+returns-4 : tie.Need-returns-4
+returns-4 c = rw (good (c .before .before .before .before .before .before .before .before .before) .2) (accept (sample-resolved _ _ _ (sound (c .before .before .before .before .before .before .before .before .before .before .before .before)) (good (c .before .before .before .before .before .before .before .before .before) .0) (fits (c .before .before .before .before .before .before))) (c .before .before .write-units .ensures))
+
+pub resolve-sample-spec : {M : Type 1} → statement M
+resolve-sample-spec =
+    tie.close
+    (tie.spec
+    sample-count-requires
+    number-fault-requires
+    refused-requires
+    returns
+    judge-requires
+    enum-known-judged
+    enum-known-judged-2
+    refused-requires-2
+    returns-2
+    track-of-requires
+    sample-bytes-requires
+    write-units-requires
+    returns-3
+    same-length
+    returns-4)

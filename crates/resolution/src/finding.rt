@@ -1,0 +1,181 @@
+// One delivered unit by its number, by a bundle and any table beside it.
+ghost use mathlib.Core.Path.{_≡_};
+ghost use Prim.Native.Nat.{_≤_, _<_};
+ghost use lib.ListN.{length};
+ghost use Rattle.words.specs.Refusals.{refused, ok};
+ghost use Rattle.words.specs.Lists.{nth};
+ghost use Rattle.units.specs.Units.{sample, next};
+ghost use Rattle.samples.specs.Check.{check};
+ghost use Rattle.tables.specs.Tables.{spelled};
+ghost use Rattle.resolution.specs.Resolving.{sampleOf, spanOf, delivered, judged};
+ghost use Rattle.resolution.specs.Calls.{noSpan, numberFault, unitOf};
+ghost use Rattle.resolution.specs.Steps.{spanFor, copiedSpan, spanAt, partOf};
+ghost use Rattle.resolution.specs.Answers.{unitAnswerOf};
+use crate::Judged;
+use crate::UnitFound;
+use crate::UnitSpan;
+use crate::judging;
+use links::Named;
+use numbers::ByteOffset;
+use numbers::LengthSize;
+use numbers::Refusal;
+use numbers::SampleNumber;
+use numbers::refusals;
+use units::Extractor;
+use units::MaybeExtractor;
+use units::Track;
+
+// No unit.
+fn no_unit() -> UnitSpan
+    ensures { λ r. ⌜ spanFor r ≡ noSpan ⌝ }
+{
+    UnitSpan {
+        sample: SampleNumber(0),
+        start: ByteOffset(0),
+        size: 0,
+    }
+}
+
+// The unit at a place of sample m, which is z.
+fn span_of(m: SampleNumber, k: Track, z: &[u8], at: usize) -> UnitSpan
+    requires { ⌜ next (sample k (now z)) at ≤ length (now z) ⌝ }
+    ensures { λ r. ⌜ spanFor r ≡ spanOf (m .0) (sample k (now (z .entry))) at ⌝ }
+{
+    let l = k.length_size;
+    UnitSpan {
+        sample: m,
+        start: ByteOffset(at + l.bytes()),
+        size: l.number(z, at),
+    }
+}
+
+// The ith unit that an extractor in sample n stands for; no unit where there is none.
+fn copied_span(b: &[u8], t: &[u64], n: SampleNumber, f: Extractor, i: usize) -> UnitSpan
+    ensures { λ r. ⌜ spanFor r ≡ copiedSpan (spelled (now (b .entry)) (now (t .entry))) (n .0) f i ⌝ }
+{
+    let named = links::name(t, n, f.track_ref_index, f.sample_offset);
+    match named {
+        Named::Refused(_) => no_unit(),
+        Named::Sample(m) => {
+            let k = judging::track_of(t, m);
+            let z = tables::sample_bytes(b, t, m);
+            let place = copies::copied_place(k, z, f.data_offset, f.data_length, i);
+            let at = place.0;
+            if z.len() <= at {
+                return no_unit();
+            }
+            span_of(m, k, z, at)
+        }
+    }
+}
+
+// The ith unit that is delivered for the unit at a place of sample n, which is x, if that is no aggregator.
+fn span_at(
+    b: &[u8],
+    t: &[u64],
+    n: SampleNumber,
+    k: Track,
+    x: &[u8],
+    at: usize,
+    i: usize,
+) -> UnitSpan
+    requires { ⌜ next (sample k (now x)) at ≤ length (now x) ⌝ }
+    ensures { λ r. ⌜ spanFor r ≡ spanAt (spelled (now (b .entry)) (now (t .entry))) (n .0) (sample k (now (x .entry))) at i ⌝ }
+{
+    if units::type_at(k, x, ByteOffset(at)) != units::EXTRACTOR {
+        return span_of(n, k, x, at);
+    }
+    let found = units::extractor_at(k, x, ByteOffset(at), ByteOffset(x.len()));
+    match found {
+        MaybeExtractor::Extractor(f) => copied_span(b, t, n, f, i),
+        MaybeExtractor::Nothing => no_unit(),
+    }
+}
+
+// The ith unit that sample n delivers, which is x and good; no unit where there is none.
+fn find(b: &[u8], t: &[u64], n: SampleNumber, k: Track, x: &[u8], i: usize) -> UnitSpan
+    requires { ⌜ (sample k (now x) ≡ sampleOf (spelled (now b) (now t)) (n .0)) × (judged (spelled (now b) (now t)) (n .0) ≡ ok tt) × (length (now b) ≤ 16777216) × (0 < i) ⌝ }
+    ensures { λ r. ⌜ spanFor r ≡ nth (delivered (spelled (now (b .entry)) (now (t .entry))) (n .0)) i noSpan ⌝ }
+{
+    let l = k.length_size;
+    let w = l.bytes();
+    let mut left = i;
+    let mut p: usize = 0;
+    while p < x.len() {
+        if units::type_at(k, x, ByteOffset(p)) == units::AGGREGATOR {
+            p = p + w + LengthSize::HEADER + w;
+        } else {
+            let a = judging::amount_at(b, t, n, k, x, ByteOffset(p));
+            if left <= a.count {
+                return span_at(b, t, n, k, x, p, left);
+            }
+            left -= a.count;
+            p = p + w + l.number(x, p);
+        }
+    }
+    no_unit()
+}
+
+// 30: a number 0 or past the last.
+pub(crate) fn number_fault(count: usize, n: usize) -> u8
+    ensures { λ r. ⌜ r ≡ numberFault count n ⌝ }
+{
+    if n == 0 {
+        return refusals::NO_SUCH_NUMBER;
+    }
+    if count < n {
+        return refusals::NO_SUCH_NUMBER;
+    }
+    0
+}
+
+// A refusal at 0.
+pub(crate) fn refused(number: u8) -> UnitFound
+    ensures { λ r. ⌜ unitAnswerOf r ≡ refused number 0 ⌝ }
+{
+    UnitFound::Refused(Refusal {
+        number: number,
+        place: ByteOffset(0),
+    })
+}
+
+// The ith unit that sample n delivers: 30, 14 to 28, 30 for i, or the unit.
+pub(crate) fn find_unit(b: &[u8], t: &[u64], n: SampleNumber, i: usize) -> UnitFound
+    requires { ⌜ length (now b) ≤ 16777216 ⌝ }
+    ensures { λ r. ⌜ unitAnswerOf r ≡ unitOf (spelled (now (b .entry)) (now (t .entry))) (n .0) i ⌝ }
+{
+    let fault = number_fault(tables::sample_count(t), n.0);
+    if fault != 0 {
+        return refused(fault);
+    }
+    let judged = judging::judge(b, t, n);
+    match judged {
+        Judged::Refused(f) => UnitFound::Refused(f),
+        Judged::Good(a) => {
+            let past = number_fault(a.count, i);
+            if past != 0 {
+                return refused(past);
+            }
+            let k = judging::track_of(t, n);
+            let x = tables::sample_bytes(b, t, n);
+            UnitFound::Span(find(b, t, n, k, x, i))
+        }
+    }
+}
+
+// The bytes of the ith unit that sample n delivers; empty if refused.
+pub(crate) fn unit_part<'a>(b: &'a [u8], t: &[u64], n: SampleNumber, i: usize) -> &'a [u8]
+    requires { ⌜ length (now b) ≤ 16777216 ⌝ }
+    ensures { λ r. ⌜ now r ≡ partOf (spelled (now (b .entry)) (now (t .entry))) (unitOf (spelled (now (b .entry)) (now (t .entry))) (n .0) i) ⌝ }
+{
+    let found = find_unit(b, t, n, i);
+    match found {
+        UnitFound::Refused(_) => &b[..0],
+        UnitFound::Span(u) => {
+            let z = tables::sample_bytes(b, t, u.sample);
+            let start = u.start.0;
+            let end = start + u.size;
+            &z[start..end]
+        }
+    }
+}

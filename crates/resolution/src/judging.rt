@@ -1,0 +1,125 @@
+// What a sample delivers, counted, and its refusals, by a bundle and any table beside it.
+ghost use mathlib.Core.Path.{_≡_};
+ghost use Prim.Native.Nat.{_≤_};
+ghost use lib.ListN.{length};
+ghost use Rattle.words.specs.Refusals.{ok};
+ghost use Rattle.units.specs.Units.{sample};
+ghost use Rattle.samples.specs.Check.{check};
+ghost use Rattle.tables.specs.Tables.{laidOut, spelled};
+ghost use Rattle.resolution.specs.Resolving.{sampleOf};
+ghost use Rattle.resolution.specs.Steps.{trackFor, extracting, amountAt, judgement, answerOf};
+use crate::Amount;
+use crate::Judged;
+use copies::Copy;
+use links::Named;
+use numbers::ByteOffset;
+use numbers::LengthSize;
+use numbers::Refusal;
+use numbers::SampleNumber;
+use samples::Checked;
+use units::Extractor;
+use units::MaybeExtractor;
+use units::Track;
+
+// What the track of a sample says of it.
+pub(crate) fn track_of(t: &[u64], n: SampleNumber) -> Track
+    ensures { λ r. ⌜ r ≡ trackFor (laidOut (now (t .entry))) (n .0) ⌝ }
+{
+    let k = tables::sample_track(t, n);
+    let kind = tables::track_kind(t, k);
+    let length_size = tables::track_length_size(t, k);
+    Track { kind, length_size }
+}
+
+// What an extractor in sample n delivers: 23 to 28, or its units counted.
+fn extract(b: &[u8], t: &[u64], n: SampleNumber, f: Extractor) -> Copy
+    ensures { λ r. ⌜ r ≡ extracting (spelled (now (b .entry)) (now (t .entry))) (n .0) f ⌝ }
+{
+    let named = links::name(t, n, f.track_ref_index, f.sample_offset);
+    match named {
+        Named::Refused(fault) => Copy {
+            fault: fault,
+            count: 0,
+            bytes: 0,
+        },
+        Named::Sample(m) => copies::copy_of(
+            track_of(t, m),
+            tables::sample_bytes(b, t, m),
+            f.data_offset,
+            f.data_length,
+        ),
+    }
+}
+
+// What the unit at a place of sample n, which is x, delivers if it is no aggregator.
+pub(crate) fn amount_at(
+    b: &[u8],
+    t: &[u64],
+    n: SampleNumber,
+    k: Track,
+    x: &[u8],
+    at: ByteOffset,
+) -> Copy
+    ensures { λ r. ⌜ r ≡ amountAt (spelled (now (b .entry)) (now (t .entry))) (n .0) (sample k (now (x .entry))) (at .0) ⌝ }
+{
+    if units::type_at(k, x, at) != units::EXTRACTOR {
+        let l = k.length_size;
+        return Copy {
+            fault: 0,
+            count: 1,
+            bytes: l.number(x, at.0),
+        };
+    }
+    let found = units::extractor_at(k, x, at, ByteOffset(x.len()));
+    match found {
+        MaybeExtractor::Extractor(f) => extract(b, t, n, f),
+        MaybeExtractor::Nothing => Copy {
+            fault: 0,
+            count: 0,
+            bytes: 0,
+        },
+    }
+}
+
+// How much sample n delivers, which is x and well formed; or 23 to 28 of its first extractor that is refused.
+fn measure(b: &[u8], t: &[u64], n: SampleNumber, k: Track, x: &[u8]) -> Judged
+    requires { ⌜ (sample k (now x) ≡ sampleOf (spelled (now b) (now t)) (n .0)) × (check (sample k (now x)) ≡ ok tt) × (length (now b) ≤ 16777216) ⌝ }
+    ensures { λ r. ⌜ answerOf r ≡ judgement (spelled (now (b .entry)) (now (t .entry))) (n .0) ⌝ }
+{
+    let l = k.length_size;
+    let w = l.bytes();
+    let mut count: usize = 0;
+    let mut size: usize = 0;
+    let mut p: usize = 0;
+    while p < x.len() {
+        if units::type_at(k, x, ByteOffset(p)) == units::AGGREGATOR {
+            p = p + w + LengthSize::HEADER + w;
+        } else {
+            let a = amount_at(b, t, n, k, x, ByteOffset(p));
+            if a.fault != 0 {
+                return Judged::Refused(Refusal {
+                    number: a.fault,
+                    place: ByteOffset(p),
+                });
+            }
+            count += a.count;
+            size = size + copies::LENGTH_BEFORE * a.count + a.bytes;
+            p = p + w + l.number(x, p);
+        }
+    }
+    Judged::Good(Amount { count, size })
+}
+
+// 14 to 28 of sample n, or how much it delivers.
+pub(crate) fn judge(b: &[u8], t: &[u64], n: SampleNumber) -> Judged
+    requires { ⌜ length (now b) ≤ 16777216 ⌝ }
+    ensures { λ r. ⌜ answerOf r ≡ judgement (spelled (now (b .entry)) (now (t .entry))) (n .0) ⌝ }
+{
+    let k = track_of(t, n);
+    let x = tables::sample_bytes(b, t, n);
+    let checked = samples::check_sample(k, x);
+    match checked {
+        Checked::Refused(f) => Judged::Refused(f),
+        Checked::WellFormed => measure(b, t, n, k, x),
+    }
+}
