@@ -13,6 +13,7 @@ use mathlib.Core.Path.{_≡_, refl, ap, sym, _∙_}
 use mathlib.Core.List.{List, []}
 use native.Mathlib.Omega.{arith}
 use lib.ListN.{length}
+use Rattle.bundles.specs.Limits.{bundleMost}
 use Rattle.words.specs.Refusals.{Answer, refused, ok, _andThen_}
 use Rattle.words.specs.RefusalNumbers.{outputTooLong}
 use Rattle.words.specs.Lists.{nth}
@@ -126,7 +127,7 @@ module _ (b : List ℕ) (r : Recording) (e : meaning b ≡ ok r) (n i : ℕ) whe
   part-same = by-answer (unitOf r n i) refl ∙ ap (unitPart b) (sym (unit-means b n i e))
 
 -- a table that was filled
-pub table-short : (b : List ℕ) (room : ℕ) → filling b room ≡ Done → length b ≤ 16777216
+pub table-short : (b : List ℕ) (room : ℕ) → filling b room ≡ Done → length b ≤ bundleMost
 table-short b room done = accepted b (says-done b room done) .size
 
 module _ (b t : List ℕ) (done : filling b (length t) ≡ Done) where

@@ -34,8 +34,9 @@ use Rattle.bundles.specs.Recordings.{Recording, sampleCount, contentOf}
 use Rattle.bundles.specs.Samples.{lengths}
 use Rattle.bundles.specs.Bundles.{bundleVerdict, meaning, contentAt, recordingOf}
 use Rattle.bundles.proofs.Promises.{one-or-other, samples-tile, samples-all}
+use Rattle.copies.specs.Written.{lengthBefore}
 use Rattle.resolution.specs.Resolving.{Span, delivered, judged}
-use Rattle.resolution.specs.Calls.{outputLengthSize, spanBytes, written, output, numberFault, noSpan, resolve, unitOf, resolveCall, unitCall, spanIn, unitPart}
+use Rattle.resolution.specs.Calls.{spanBytes, written, output, numberFault, noSpan, resolve, unitOf, resolveCall, unitCall, spanIn, unitPart}
 use Rattle.resolution.specs.Rules.{JudgedRefusal, Resolves, Refuses, UnitRefuses, CallResolves, CallRefuses, UnitCallRefuses}
 use Rattle.words.proofs.Joined.{each-by-number, part-part}
 use Rattle.resolution.proofs.Delivered.{Inside, span-length}
@@ -237,7 +238,7 @@ module _ (b : List ℕ) (r : Recording) (e : meaning b ≡ ok r) where
         let w = delivered-there r n g h l (nth (delivered r n) k noSpan) m in
         rw (unit-answers k i t) (span-in (nth (delivered r n) k noSpan) (w .0) (w .1) (delivered-plain r n g (nth (delivered r n) k noSpan) m .inside))
 
-    pub joined : output r (delivered r n) ≡ each (λ k. let s = unitPart b (unitCall b n k) in bytes outputLengthSize (length s) ++ s) (upto (length (delivered r n)))
+    pub joined : output r (delivered r n) ≡ each (λ k. let s = unitPart b (unitCall b n k) in bytes lengthBefore (length s) ++ s) (upto (length (delivered r n)))
     unfolding output written
     joined =
         sym (each-by-number (written r) (delivered r n) noSpan)

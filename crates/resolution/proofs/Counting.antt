@@ -23,6 +23,7 @@ use Rattle.copies.specs.Flat.{flatStep, flatPlaces}
 use Rattle.copies.specs.declared.Copy.{Copy}
 use Rattle.copies.proofs.Flat.{flat-aggregator, flat-other, flat-end, flat-step, whole-stretch, flat-units, Walking, walking-start, walking-whole}
 use Rattle.copies.proofs.Rest.{walking-skip, walking-take}
+use Rattle.bundles.specs.Limits.{bundleMost}
 use Rattle.resolution.specs.Resolving.{Span, own, deliveredAt, delivered, judged}
 use Rattle.resolution.specs.Calls.{output}
 use Rattle.resolution.specs.Steps.{amountAt, judgement}
@@ -30,10 +31,6 @@ use Rattle.resolution.proofs.Delivered.{aggregator-only, delivered-aggr
 use Rattle.resolution.proofs.Good.{own-length, good-rules}
 use Rattle.resolution.proofs.Exactly.{delivered-plain}
 use Rattle.resolution.proofs.Amounts.{Amounts, unit-amounts}
-
--- the most bytes of a bundle
-abbrev pub most : ℕ
-most = 16777216
 
 module _ (r : Recording) (n : ℕ) (x : Sample) where
   -- the units from p on, and what is delivered for them
@@ -86,8 +83,8 @@ module _ (r : Recording) (n : ℕ) (x : Sample) where
       pub passing-mem : List·Memᴰ p (units x)
       passing-mem = w .mem p (rw (ahead-take p h t) (List·Memᴰ·head refl))
 
-      pub passing-amounts : ((m : ℕ) → length (contentOf r m) ≤ most) → Amounts r n most p (amountAt r n x p)
-      passing-amounts l = unit-amounts r n most l x (w .same) (w .formed) p passing-mem t
+      pub passing-amounts : ((m : ℕ) → length (contentOf r m) ≤ bundleMost) → Amounts r n bundleMost p (amountAt r n x p)
+      passing-amounts l = unit-amounts r n bundleMost l x (w .same) (w .formed) p passing-mem t
 
   pub judgement-form : {m q : ℕ} → x ≡ own r n → check x ≡ refused m q → judgement r n ≡ refused m q
   unfolding judgement
@@ -96,14 +93,14 @@ module _ (r : Recording) (n : ℕ) (x : Sample) where
   -- count units with size bytes of output are delivered for the units before p, of which none is refused
   pub record Judging (p count size : ℕ) : Type 0 where
     pub passing : Passing p
-    pub bounded : (m : ℕ) → length (contentOf r m) ≤ most
+    pub bounded : (m : ℕ) → length (contentOf r m) ≤ bundleMost
     pub found : judged r n ≡ first (unitJudge r n) (ahead p)
     pub number : count + length (left p) ≡ length (delivered r n)
     pub all : size + outputSize (left p) ≡ outputSize (delivered r n)
-    pub few : count ≤ p * 16777216
+    pub few : count ≤ p * bundleMost
     pub small : size ≤ p * 67108864
 
-  pub judging-start : x ≡ own r n → check x ≡ ok tt → ((m : ℕ) → length (contentOf r m) ≤ most) → Judging 0 0 0
+  pub judging-start : x ≡ own r n → check x ≡ ok tt → ((m : ℕ) → length (contentOf r m) ≤ bundleMost) → Judging 0 0 0
   judging-start e f l =
       let s = left-start e f in
       record {
@@ -132,7 +129,7 @@ module _ (r : Recording) (n : ℕ) (x : Sample) where
           small = omega (arith, c .small);
         }
 
-    pub judging-fits : (count ≤ 281474976710656) × (size ≤ 1125899906842624) × (end x ≤ 16777216)
+    pub judging-fits : (count ≤ 281474976710656) × (size ≤ 1125899906842624) × (end x ≤ bundleMost)
     judging-fits =
         let e : end x ≡ end (own r n) = ap end (c .passing .same) in
         let o = own-length r n in
@@ -143,11 +140,11 @@ module _ (r : Recording) (n : ℕ) (x : Sample) where
         (omega arith, omega arith, omega arith)
 
     module _ (h : p < end x) (t : isAggregator x p ≡ false) {a : Copy} (e : a ≡ amountAt r n x p) where
-      amounts : Amounts r n most p a
+      amounts : Amounts r n bundleMost p a
       amounts = rw e (passing-amounts p (c .passing) h t (c .bounded))
 
       -- the amounts fit
-      pub judging-few : a .fault ≡ 0 → (a .count ≤ most) × (4 * a .count + a .bytes ≤ most * 4)
+      pub judging-few : a .fault ≡ 0 → (a .count ≤ bundleMost) × (4 * a .count + a .bytes ≤ bundleMost * 4)
       judging-few z = (amounts .few z, amounts .small z)
 
       pub judging-refused : (a .fault ≡ 0 → ⊥) → judgement r n ≡ refused (a .fault) p

@@ -31,8 +31,9 @@ use Rattle.units.specs.Aggregators.{included, withIncluded, units, extractors}
 use Rattle.samples.specs.Check.{check}
 use Rattle.bundles.specs.Recordings.{Recording, contentOf}
 use Rattle.words.proofs.Entries.{sum-append, map-append}
+use Rattle.copies.specs.Written.{lengthBefore}
 use Rattle.resolution.specs.Resolving.{Span, spanOf, own, extractFault, copiedAt, deliveredAt, delivered, judged}
-use Rattle.resolution.specs.Calls.{spanBytes, written, output, outputLengthSize}
+use Rattle.resolution.specs.Calls.{spanBytes, written, output}
 use Rattle.words.proofs.Joined.{each-length, first-keep, first-each}
 
 module _ (x : Sample) (p : ℕ) where
@@ -120,19 +121,19 @@ module _ (r : Recording) (n : ℕ) where
 
 -- the length of the output
 unfoldable pub outputSize : List Span → ℕ
-outputSize us = sum (map (λ u. outputLengthSize + u .size) us)
+outputSize us = sum (map (λ u. lengthBefore + u .size) us)
 
 pub size-none : outputSize [] ≡ 0
 unfolding outputSize sum
 size-none = refl
 
-pub size-one : (u : Span) → outputSize (u ∷ []) ≡ outputLengthSize + u .size
+pub size-one : (u : Span) → outputSize (u ∷ []) ≡ lengthBefore + u .size
 unfolding outputSize sum
 size-one u = omega arith
 
 pub size-append : (us vs : List Span) → outputSize (us ++ vs) ≡ outputSize us + outputSize vs
 unfolding outputSize
-size-append us vs = rw (map-append (λ u. outputLengthSize + u .size) us vs) (sum-append (map (λ u. outputLengthSize + u .size) us) (map (λ u. outputLengthSize + u .size) vs))
+size-append us vs = rw (map-append (λ u. lengthBefore + u .size) us vs) (sum-append (map (λ u. lengthBefore + u .size) us) (map (λ u. lengthBefore + u .size) vs))
 
 -- the output as it grows
 module _ (r : Recording) where
@@ -159,9 +160,9 @@ module _ (r : Recording) where
   pub span-length : (u : Span) → Inside u → length (spanBytes r u) ≡ u .size
   span-length u h = part-length (contentOf r (u .sample)) (u .start) (u .size) h
 
-  pub written-length : (u : Span) → Inside u → length (written r u) ≡ outputLengthSize + u .size
+  pub written-length : (u : Span) → Inside u → length (written r u) ≡ lengthBefore + u .size
   unfolding written
-  written-length u h = let a = span-length u h in let b = bytes-length 4 (u .size) in length-append (bytes outputLengthSize (u .size)) (spanBytes r u) ∙ omega arith
+  written-length u h = let a = span-length u h in let b = bytes-length lengthBefore (u .size) in length-append (bytes lengthBefore (u .size)) (spanBytes r u) ∙ omega arith
 
   pub output-length : (us : List Span) → ((u : Span) → List·Memᴰ u us → Inside u) → length (output r us) ≡ outputSize us
   unfolding output outputSize

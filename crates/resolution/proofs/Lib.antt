@@ -13,7 +13,6 @@
 --   Spans      one delivered unit, found by a walk
 --   Answered   what the calls answer, as the code takes them
 --   Output     what a sample delivers, written by a walk
---   Words      laws that belong to words
 pub mod Promises
 pub mod Delivered
 pub mod Good

@@ -48,8 +48,9 @@ use Rattle.links.specs.Order.{baseSample, Steps}
 use Rattle.links.proofs.Links.{named-baseless}
 use Rattle.links.proofs.Order.{bundle-rise, named-steps, base-times, later-without}
 use Rattle.copies.specs.Extracted.{extracted}
+use Rattle.copies.specs.Written.{lengthBefore}
 use Rattle.resolution.specs.Resolving.{Span, own, linked, copiedAt, deliveredAt, delivered, judged}
-use Rattle.resolution.specs.Calls.{outputLengthSize, spanBytes, output, noSpan, resolve, unitOf, resolveCall, unitCall, unitPart}
+use Rattle.resolution.specs.Calls.{spanBytes, output, noSpan, resolve, unitOf, resolveCall, unitCall, unitPart}
 use Rattle.resolution.specs.Rules.{Good, Delivers, Plain, Apart, timesDelivered, JudgedRefusal, FirstRefused, Resolves, Refuses, UnitRefuses, CallResolves, CallRefuses, UnitCallRefuses}
 use Rattle.resolution.proofs.Delivered.{judged-form}
 use Rattle.resolution.proofs.Good.{good-rules, rules-good, judged-refused, judged-first, first-judged}
@@ -133,7 +134,7 @@ module _ (b : List ℕ) (r : Recording) (accepted : meaning b ≡ ok r) where
     unit-gives k h l = (calls.unit-answers b r accepted n some there good k h l, calls.unit-part b r accepted n some there good k h l)
 
     pub resolving-joins : (room : ℕ) (out : List ℕ) → resolveCall b n room ≡ ok out →
-        out ≡ each (λ k. let s = unitPart b (unitCall b n k) in bytes outputLengthSize (length s) ++ s) (upto (length (delivered r n)))
+        out ≡ each (λ k. let s = unitPart b (unitCall b n k) in bytes lengthBefore (length s) ++ s) (upto (length (delivered r n)))
     resolving-joins room out e =
         let w = calls.call-resolved-because b n room out e in
         let same : w .recording ≡ r = ok-same (sym (w .means) ∙ accepted) in

@@ -32,6 +32,7 @@ use Rattle.copies.specs.Written.{copiedPlace}
 use Rattle.copies.specs.declared.Copy.{Copy}
 use Rattle.copies.proofs.Answers.{good-whole, place-good}
 use Rattle.words.proofs.Numbered.{nth-none}
+use Rattle.bundles.specs.Limits.{bundleMost}
 use Rattle.resolution.specs.Resolving.{sampleOf, spanOf, own, named, linked, nameFaultAt, copyFaultAt, extractFault, copiedAt, deliveredAt, delivered, judged}
 use Rattle.resolution.specs.Calls.{noSpan}
 use Rattle.resolution.specs.Steps.{amountAt, copiedSpan, spanAt}
@@ -40,7 +41,7 @@ use Rattle.resolution.proofs.Delivered.{delivered-unit, delivered-extra
 use Rattle.resolution.proofs.Good.{good-rules}
 use Rattle.resolution.proofs.Exactly.{extractor-mem}
 use Rattle.resolution.proofs.Amounts.{Amounts}
-use Rattle.resolution.proofs.Counting.{most, left, left-end, left-skip, left-take, left-start, Passing, passing-start, passing-skip, passing-take, passing-mem, passing-amounts}
+use Rattle.resolution.proofs.Counting.{left, left-end, left-skip, left-take, left-start, Passing, passing-start, passing-skip, passing-take, passing-mem, passing-amounts}
 
 -- what an extractor with the fields f stands for, by what it names
 module _ (r : Recording) (n : ℕ) (f : Extractor) (i : ℕ) where
@@ -90,11 +91,11 @@ module _ (r : Recording) (n : ℕ) (x : Sample) where
   pub record Seeking (i p rest : ℕ) : Type 0 where
     pub passing : Passing r n x p
     pub good : judged r n ≡ ok tt
-    pub bounded : (m : ℕ) → length (contentOf r m) ≤ most
+    pub bounded : (m : ℕ) → length (contentOf r m) ≤ bundleMost
     pub some : 0 < rest
     pub same : nth (delivered r n) i noSpan ≡ nth (left r n x p) rest noSpan
 
-  pub seeking-start : (i : ℕ) → x ≡ own r n → judged r n ≡ ok tt → ((m : ℕ) → length (contentOf r m) ≤ most) → 0 < i → Seeking i 0 i
+  pub seeking-start : (i : ℕ) → x ≡ own r n → judged r n ≡ ok tt → ((m : ℕ) → length (contentOf r m) ≤ bundleMost) → 0 < i → Seeking i 0 i
   seeking-start i e g l h =
       let f : check x ≡ ok tt = rw e (good-rules r n g .formed) in
       record { passing = passing-start r n x e f; good = g; bounded = l; some = h; same = ap (λ us. nth us i noSpan) (sym (left-start r n x e f)) }
@@ -104,7 +105,7 @@ module _ (r : Recording) (n : ℕ) (x : Sample) where
     seeking-skip h t = record { passing = passing-skip r n x p (c .passing) h t; good = c .good; bounded = c .bounded; some = c .some; same = c .same ∙ rw (left-skip r n x p (c .passing) h t) }
 
     module _ (h : p < end x) (t : isAggregator x p ≡ false) {a : Copy} (e : a ≡ amountAt r n x p) where
-      amounts : Amounts r n most p a
+      amounts : Amounts r n bundleMost p a
       amounts = rw e (passing-amounts r n x p (c .passing) h t (c .bounded))
 
       mem : List·Memᴰ p (units x)

@@ -21,18 +21,15 @@ use Rattle.words.specs.Bytes.{bytes, part}
 use Rattle.words.specs.Buffers.{within}
 use Rattle.bundles.specs.Recordings.{Recording, sampleCount, contentOf}
 use Rattle.bundles.specs.Bundles.{meaning, contentAt}
+use Rattle.copies.specs.Written.{lengthBefore}
 use Rattle.resolution.specs.Resolving.{Span, delivered, judged}
-
--- The length that stands before a unit in the output, in bytes.
-abbrev pub outputLengthSize : ℕ
-outputLengthSize = 4
 
 module _ (r : Recording) where
   abbrev pub spanBytes : Span → List ℕ
   spanBytes u = part (contentOf r (u .sample)) (u .start) (u .size)
 
   unfoldable pub written : Span → List ℕ
-  written u = bytes outputLengthSize (u .size) ++ spanBytes u
+  written u = bytes lengthBefore (u .size) ++ spanBytes u
 
   unfoldable pub output : List Span → List ℕ
   output us = each written us

@@ -6,6 +6,7 @@ ghost use Rattle.words.specs.Refusals.{refused, ok};
 ghost use Rattle.words.specs.Lists.{nth};
 ghost use Rattle.units.specs.Units.{sample, next};
 ghost use Rattle.samples.specs.Check.{check};
+ghost use Rattle.bundles.specs.Limits.{bundleMost};
 ghost use Rattle.tables.specs.Tables.{spelled};
 ghost use Rattle.resolution.specs.Resolving.{sampleOf, spanOf, delivered, judged};
 ghost use Rattle.resolution.specs.Calls.{noSpan, numberFault, unitOf};
@@ -94,7 +95,7 @@ fn span_at(
 
 // The ith unit that sample n delivers, which is x and good; no unit where there is none.
 fn find(b: &[u8], t: &[u64], n: SampleNumber, k: Track, x: &[u8], i: usize) -> UnitSpan
-    requires { ⌜ (sample k (now x) ≡ sampleOf (spelled (now b) (now t)) (n .0)) × (judged (spelled (now b) (now t)) (n .0) ≡ ok tt) × (length (now b) ≤ 16777216) × (0 < i) ⌝ }
+    requires { ⌜ (sample k (now x) ≡ sampleOf (spelled (now b) (now t)) (n .0)) × (judged (spelled (now b) (now t)) (n .0) ≡ ok tt) × (length (now b) ≤ bundleMost) × (0 < i) ⌝ }
     ensures { λ r. ⌜ spanFor r ≡ nth (delivered (spelled (now (b .entry)) (now (t .entry))) (n .0)) i noSpan ⌝ }
 {
     let l = k.length_size;
@@ -141,7 +142,7 @@ pub(crate) fn refused(number: u8) -> UnitFound
 
 // The ith unit that sample n delivers: 30, 14 to 28, 30 for i, or the unit.
 pub(crate) fn find_unit(b: &[u8], t: &[u64], n: SampleNumber, i: usize) -> UnitFound
-    requires { ⌜ length (now b) ≤ 16777216 ⌝ }
+    requires { ⌜ length (now b) ≤ bundleMost ⌝ }
     ensures { λ r. ⌜ unitAnswerOf r ≡ unitOf (spelled (now (b .entry)) (now (t .entry))) (n .0) i ⌝ }
 {
     let fault = number_fault(tables::sample_count(t), n.0);
@@ -165,7 +166,7 @@ pub(crate) fn find_unit(b: &[u8], t: &[u64], n: SampleNumber, i: usize) -> UnitF
 
 // The bytes of the ith unit that sample n delivers; empty if refused.
 pub(crate) fn unit_part<'a>(b: &'a [u8], t: &[u64], n: SampleNumber, i: usize) -> &'a [u8]
-    requires { ⌜ length (now b) ≤ 16777216 ⌝ }
+    requires { ⌜ length (now b) ≤ bundleMost ⌝ }
     ensures { λ r. ⌜ now r ≡ partOf (spelled (now (b .entry)) (now (t .entry))) (unitOf (spelled (now (b .entry)) (now (t .entry))) (n .0) i) ⌝ }
 {
     let found = find_unit(b, t, n, i);

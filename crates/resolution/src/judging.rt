@@ -5,6 +5,7 @@ ghost use lib.ListN.{length};
 ghost use Rattle.words.specs.Refusals.{ok};
 ghost use Rattle.units.specs.Units.{sample};
 ghost use Rattle.samples.specs.Check.{check};
+ghost use Rattle.bundles.specs.Limits.{bundleMost};
 ghost use Rattle.tables.specs.Tables.{laidOut, spelled};
 ghost use Rattle.resolution.specs.Resolving.{sampleOf};
 ghost use Rattle.resolution.specs.Steps.{trackFor, extracting, amountAt, judgement, answerOf};
@@ -83,7 +84,7 @@ pub(crate) fn amount_at(
 
 // How much sample n delivers, which is x and well formed; or 23 to 28 of its first extractor that is refused.
 fn measure(b: &[u8], t: &[u64], n: SampleNumber, k: Track, x: &[u8]) -> Judged
-    requires { ⌜ (sample k (now x) ≡ sampleOf (spelled (now b) (now t)) (n .0)) × (check (sample k (now x)) ≡ ok tt) × (length (now b) ≤ 16777216) ⌝ }
+    requires { ⌜ (sample k (now x) ≡ sampleOf (spelled (now b) (now t)) (n .0)) × (check (sample k (now x)) ≡ ok tt) × (length (now b) ≤ bundleMost) ⌝ }
     ensures { λ r. ⌜ answerOf r ≡ judgement (spelled (now (b .entry)) (now (t .entry))) (n .0) ⌝ }
 {
     let l = k.length_size;
@@ -112,7 +113,7 @@ fn measure(b: &[u8], t: &[u64], n: SampleNumber, k: Track, x: &[u8]) -> Judged
 
 // 14 to 28 of sample n, or how much it delivers.
 pub(crate) fn judge(b: &[u8], t: &[u64], n: SampleNumber) -> Judged
-    requires { ⌜ length (now b) ≤ 16777216 ⌝ }
+    requires { ⌜ length (now b) ≤ bundleMost ⌝ }
     ensures { λ r. ⌜ answerOf r ≡ judgement (spelled (now (b .entry)) (now (t .entry))) (n .0) ⌝ }
 {
     let k = track_of(t, n);

@@ -5,6 +5,7 @@ ghost use lib.ListN.{length};
 ghost use Rattle.words.specs.Refusals.{refused, ok};
 ghost use Rattle.words.specs.Buffers.{put, overwrite, within, Wrote};
 ghost use Rattle.units.specs.Units.{sample, next};
+ghost use Rattle.bundles.specs.Limits.{bundleMost};
 ghost use Rattle.tables.specs.Tables.{spelled};
 ghost use Rattle.copies.specs.Written.{withLength, putCount};
 ghost use Rattle.resolution.specs.Resolving.{sampleOf, delivered, judged};
@@ -125,7 +126,7 @@ pub(crate) fn refused(number: u8) -> Resolved
 
 // Sample n resolved: 30, 14 to 28, 29, or what it delivers over the start of the buffer.
 pub(crate) fn resolve_sample(b: &[u8], t: &[u64], n: SampleNumber, out: &mut [u8]) -> Resolved
-    requires { ⌜ length (now b) ≤ 16777216 ⌝ }
+    requires { ⌜ length (now b) ≤ bundleMost ⌝ }
     ensures { λ r. ⌜ Wrote (now (out .entry)) (now (out .exit)) (answerOf r)
         (within (length (now (out .entry))) (resolve (spelled (now (b .entry)) (now (t .entry))) (n .0))) ⌝ }
 {

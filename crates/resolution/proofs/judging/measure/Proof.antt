@@ -4,6 +4,7 @@ use native.Mathlib.Omega.{arith}
 use mathlib.Core.Path.{_≡_, sym, _∙_}
 use Prim.Native.Nat.{ℕ, _+_, _-_, _*_, _≤_}
 use lib.ListN.{length}
+use Rattle.bundles.specs.Limits.{bundleMost}
 use Rattle.resolution.proofs.judging.measure.Statement.{statement}
 use mathlib.Core.Bool.{true, false}
 use borrow.Author.Tests.{eq-eqb, ne-eqb}
@@ -50,10 +51,10 @@ skips c = passing-skip _ _ _ _ (c .before .before .before .loop .inv .passing) (
 takes : (c : tie.Else1 Inv-loop μ-loop) → next (X (c .before .before)) (P (c .before .before)) ≤ length (c .before .before .before .before .before .before .before .before .args .x .now)
 takes c = passing-take _ _ _ _ (c .before .before .before .loop .inv .passing) (c .before .before .loop-test .taken) (other c) .walking .inside
 
-few : (c : tie.Else2 Inv-loop μ-loop) → (c .before .before .amount-at .result .count ≤ 16777216) × (4 * c .before .before .amount-at .result .count + c .before .before .amount-at .result .bytes ≤ 67108864)
+few : (c : tie.Else2 Inv-loop μ-loop) → (c .before .before .amount-at .result .count ≤ bundleMost) × (4 * c .before .before .amount-at .result .count + c .before .before .amount-at .result .bytes ≤ 67108864)
 few c = judging-few _ _ _ _ _ _ (c .before .before .before .before .before .before .loop .inv) (c .before .before .before .before .before .loop-test .taken) (other (c .before .before .before)) (c .before .before .amount-at .ensures) (c .if2 .left)
 
-small : (c : tie.Else2 Inv-loop μ-loop) → (c .before .before .before .before .before .before .loop .count ≤ 281474976710656) × (c .before .before .before .before .before .before .loop .size ≤ 1125899906842624) × (length (c .before .before .before .before .before .before .before .before .before .before .before .args .x .now) ≤ 16777216)
+small : (c : tie.Else2 Inv-loop μ-loop) → (c .before .before .before .before .before .before .loop .count ≤ 281474976710656) × (c .before .before .before .before .before .before .loop .size ≤ 1125899906842624) × (length (c .before .before .before .before .before .before .before .before .before .before .before .args .x .now) ≤ bundleMost)
 small c = judging-fits _ _ _ _ _ _ (c .before .before .before .before .before .before .loop .inv)
 
 ends : (c : tie.After-number Inv-loop μ-loop) → P (c .before .before .before .before .before .before .before .before .before) + c .before .before .before .before .before .before .before .before .before .before .before .bytes .result + c .number .result ≡ next (X (c .before .before .before .before .before .before .before .before .before)) (P (c .before .before .before .before .before .before .before .before .before))
