@@ -22,8 +22,8 @@ use Rattle.bundles.specs.Samples.{orderFault, entryFault, samplesVerdict, sampl
 use Rattle.bundles.specs.Bundles.{endFault, bytesVerdict, bundleVerdict, layoutOf, recordingOf, meaning}
 use Rattle.links.specs.Links.{linkFault, linkedTrack, base, sampleNamed, nameFault}
 use Rattle.copies.specs.Copies.{among, copyEnd, copied, borderFault, copyFault}
-use Rattle.resolution.specs.Resolving.{sampleOf, named, nameFaultAt, copyFaultAt, extractFault, copiedAt, deliveredAt, delivered, judged}
-use Rattle.resolution.specs.Calls.{written, output, numberFault, resolve, resolveCall}
+use Rattle.resolving.specs.Resolving.{sampleOf, named, nameFaultAt, copyFaultAt, extractFault, copiedAt, deliveredAt, delivered, judged}
+use Rattle.resolving.specs.Calls.{written, output, numberFault, resolve, resolveCall}
 
 -- an answer, without bytes where there are none to give, and what it should be
 record Row : Type 0 where

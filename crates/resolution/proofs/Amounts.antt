@@ -39,13 +39,13 @@ use Rattle.copies.specs.Copies.{copied, copyFault}
 use Rattle.copies.specs.Written.{refusal, taken, copyOf}
 use Rattle.copies.specs.declared.Copy.{Copy}
 use Rattle.copies.proofs.Answers.{fault-of}
-use Rattle.resolution.specs.Resolving.{sampleOf, Span, spanOf, spansOf, own, named, linked, nameFaultAt, copyFaultAt, extractFault, copiedAt, deliveredAt}
+use Rattle.resolving.specs.Resolving.{sampleOf, Span, spanOf, spansOf, own, named, linked, nameFaultAt, copyFaultAt, extractFault, copiedAt, deliveredAt}
 use Rattle.resolution.specs.Steps.{trackFor, extracting, amountAt}
-use Rattle.resolution.proofs.Delivered.{delivered-unit, delivered-extractor, unitJudge, unit-judge, unit-passes, outputSize, size-one}
-use Rattle.resolution.proofs.Good.{own-length, extract-rules}
-use Rattle.resolution.proofs.Exactly.{extractor-mem}
-use Rattle.resolution.proofs.Calls.{by-count}
-use Rattle.resolution.proofs.Sizes.{copied-most, copied-count}
+use Rattle.resolving.proofs.Delivered.{delivered-unit, delivered-extractor, unitJudge, unit-judge, unit-passes, outputSize, size-one}
+use Rattle.resolving.proofs.Good.{own-length, extract-rules}
+use Rattle.resolving.proofs.Exactly.{extractor-mem}
+use Rattle.resolving.proofs.Calls.{by-count}
+use Rattle.resolving.proofs.Sizes.{copied-most, copied-count}
 
 module _ (b t : List ℕ) where
   pub sample-is : (n : ℕ) → sample (trackFor (laidOut t) n) (contentOf (spelled b t) n) ≡ sampleOf (spelled b t) n

@@ -28,14 +28,14 @@ use Rattle.tables.specs.Tables.{spelled}
 use Rattle.filling.specs.Filling.{filling, tableAfter}
 use Rattle.filling.specs.declared.Filled.the-variants.{Done}
 use Rattle.filling.proofs.Promises.{says-done, table-spells}
-use Rattle.resolution.specs.Resolving.{Span, delivered, judged}
-use Rattle.resolution.specs.Calls.{output, noSpan, numberFault, resolve, unitOf, resolveCall, unitCall, unitPart, spanBytes}
+use Rattle.resolving.specs.Resolving.{Span, delivered, judged}
+use Rattle.resolving.specs.Calls.{output, noSpan, numberFault, resolve, unitOf, resolveCall, unitCall, unitPart, spanBytes}
 use Rattle.resolution.specs.Steps.{judgement, partOf}
 use Rattle.resolution.specs.declared.Amount.{Amount}
-use Rattle.resolution.proofs.Delivered.{Inside}
-use Rattle.resolution.proofs.Good.{good-rules}
-use Rattle.resolution.proofs.Exactly.{delivered-plain, delivered-there}
-use Rattle.resolution.proofs.Calls.{number-bad, by-count, call-means, unit-means, span-in}
+use Rattle.resolving.proofs.Delivered.{Inside}
+use Rattle.resolving.proofs.Good.{good-rules}
+use Rattle.resolving.proofs.Exactly.{delivered-plain, delivered-there}
+use Rattle.resolving.proofs.Calls.{number-bad, by-count, call-means, unit-means, span-in}
 
 pub number-some : (count n : ℕ) → numberFault count n ≡ 0 → (0 < n) × (n ≤ count)
 number-some count n e = by-count count n

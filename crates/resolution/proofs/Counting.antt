@@ -24,12 +24,12 @@ use Rattle.copies.specs.declared.Copy.{Copy}
 use Rattle.copies.proofs.Flat.{flat-aggregator, flat-other, flat-end, flat-step, whole-stretch, flat-units, Walking, walking-start, walking-whole}
 use Rattle.copies.proofs.Rest.{walking-skip, walking-take}
 use Rattle.bundles.specs.Limits.{bundleMost}
-use Rattle.resolution.specs.Resolving.{Span, own, deliveredAt, delivered, judged}
-use Rattle.resolution.specs.Calls.{output}
+use Rattle.resolving.specs.Resolving.{Span, own, deliveredAt, delivered, judged}
+use Rattle.resolving.specs.Calls.{output}
 use Rattle.resolution.specs.Steps.{amountAt, judgement}
-use Rattle.resolution.proofs.Delivered.{aggregator-only, delivered-aggregator, unitJudge, unit-passes, extractors-units, judged-form, judged-extractors, outputSize, size-none, size-append, output-length}
-use Rattle.resolution.proofs.Good.{own-length, good-rules}
-use Rattle.resolution.proofs.Exactly.{delivered-plain}
+use Rattle.resolving.proofs.Delivered.{aggregator-only, delivered-aggregator, unitJudge, unit-passes, extractors-units, judged-form, judged-extractors, outputSize, size-none, size-append, output-length}
+use Rattle.resolving.proofs.Good.{own-length, good-rules}
+use Rattle.resolving.proofs.Exactly.{delivered-plain}
 use Rattle.resolution.proofs.Amounts.{Amounts, unit-amounts}
 
 module _ (r : Recording) (n : ℕ) (x : Sample) where

@@ -33,13 +33,13 @@ use Rattle.copies.specs.declared.Copy.{Copy}
 use Rattle.copies.proofs.Answers.{good-whole, place-good}
 use Rattle.words.proofs.Numbered.{nth-none}
 use Rattle.bundles.specs.Limits.{bundleMost}
-use Rattle.resolution.specs.Resolving.{sampleOf, spanOf, own, named, linked, nameFaultAt, copyFaultAt, extractFault, copiedAt, deliveredAt, delivered, judged}
-use Rattle.resolution.specs.Calls.{noSpan}
+use Rattle.resolving.specs.Resolving.{sampleOf, spanOf, own, named, linked, nameFaultAt, copyFaultAt, extractFault, copiedAt, deliveredAt, delivered, judged}
+use Rattle.resolving.specs.Calls.{noSpan}
 use Rattle.resolution.specs.Steps.{amountAt, copiedSpan, spanAt}
 use Rattle.words.proofs.Joined.{nth-map, nth-front, nth-back}
-use Rattle.resolution.proofs.Delivered.{delivered-unit, delivered-extractor, unitJudge, unit-judge, extractors-units, judged-extractors}
-use Rattle.resolution.proofs.Good.{good-rules}
-use Rattle.resolution.proofs.Exactly.{extractor-mem}
+use Rattle.resolving.proofs.Delivered.{delivered-unit, delivered-extractor, unitJudge, unit-judge, extractors-units, judged-extractors}
+use Rattle.resolving.proofs.Good.{good-rules}
+use Rattle.resolving.proofs.Exactly.{extractor-mem}
 use Rattle.resolution.proofs.Amounts.{Amounts}
 use Rattle.resolution.proofs.Counting.{left, left-end, left-skip, left-take, left-start, Passing, passing-start, passing-skip, passing-take, passing-mem, passing-amounts}
 

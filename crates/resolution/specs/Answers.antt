@@ -4,7 +4,7 @@
 --   unitAnswerOf     one delivered unit
 use Prim.Native.Nat.{ℕ}
 use Rattle.words.specs.Refusals.{Answer, refused, ok}
-use Rattle.resolution.specs.Resolving.{Span}
+use Rattle.resolving.specs.Resolving.{Span}
 use Rattle.resolution.specs.Steps.{spanFor}
 use Rattle.resolution.specs.declared.Resolved.{Resolved}
 use Rattle.resolution.specs.declared.Resolved.the-variants.{Refused, Count}

@@ -26,8 +26,8 @@ use Rattle.bundles.specs.Recordings.{Layout, Recording, trackAt}
 use Rattle.links.specs.Links.{sampleNamed, nameFault}
 use Rattle.copies.specs.Written.{withLength, refusal, copyOf, copyBytes, copiedPlace}
 use Rattle.copies.specs.declared.Copy.{Copy}
-use Rattle.resolution.specs.Resolving.{sampleOf, Span, spanOf, delivered, judged}
-use Rattle.resolution.specs.Calls.{output, noSpan, spanBytes}
+use Rattle.resolving.specs.Resolving.{sampleOf, Span, spanOf, delivered, judged}
+use Rattle.resolving.specs.Calls.{output, noSpan, spanBytes}
 use Rattle.resolution.specs.declared.Amount.{Amount}
 use Rattle.resolution.specs.declared.UnitSpan.{UnitSpan}
 use Rattle.resolution.specs.declared.Judged.{Judged}

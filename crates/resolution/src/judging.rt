@@ -7,7 +7,7 @@ ghost use Rattle.units.specs.Units.{sample};
 ghost use Rattle.samples.specs.Check.{check};
 ghost use Rattle.bundles.specs.Limits.{bundleMost};
 ghost use Rattle.tables.specs.Tables.{laidOut, spelled};
-ghost use Rattle.resolution.specs.Resolving.{sampleOf};
+ghost use Rattle.resolving.specs.Resolving.{sampleOf};
 ghost use Rattle.resolution.specs.Steps.{trackFor, extracting, amountAt, judgement, answerOf};
 use crate::Amount;
 use crate::Judged;

@@ -6,7 +6,7 @@ mod writing;
 ghost use mathlib.Core.Path.{_≡_};
 ghost use lib.ListN.{length};
 ghost use Rattle.words.specs.Buffers.{Wrote};
-ghost use Rattle.resolution.specs.Calls.{resolveCall, unitCall, unitPart};
+ghost use Rattle.resolving.specs.Calls.{resolveCall, unitCall, unitPart};
 ghost use Rattle.resolution.specs.Answers.{answerOf, unitAnswerOf};
 use filling::Filled;
 use numbers::ByteOffset;

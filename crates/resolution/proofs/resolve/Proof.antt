@@ -6,7 +6,7 @@ use lib.ListN.{length}
 use Rattle.resolution.proofs.resolve.Statement.{statement}
 use Rattle.words.proofs.Buffers.{refuse}
 use Rattle.filling.proofs.Promises.{says-refused, never-short}
-use Rattle.resolution.proofs.Calls.{call-bundle}
+use Rattle.resolving.proofs.Calls.{call-bundle}
 use Rattle.resolution.proofs.Answered.{table-short, call-filled}
 use Rattle.resolution.proofs.resolve.Tie as tie
 

@@ -7,8 +7,8 @@ use Rattle.units.specs.Units.{sample}
 use Rattle.tables.specs.Tables.{spelled}
 use Rattle.words.specs.Refusals.{ok}
 use Rattle.bundles.specs.Recordings.{Recording, sampleCount}
-use Rattle.resolution.specs.Resolving.{delivered, judged}
-use Rattle.resolution.specs.Calls.{output, numberFault}
+use Rattle.resolving.specs.Resolving.{delivered, judged}
+use Rattle.resolving.specs.Calls.{output, numberFault}
 use Rattle.resolution.specs.Steps.{answerOf}
 use Rattle.resolution.proofs.Amounts.{sample-from}
 use Rattle.resolution.proofs.Answered.{number-some, judgement-refused, judgement-good, find-number, find-sample, find-past, find-good}

@@ -1,7 +1,7 @@
 -- Each return is a test of 30. Assumes nothing.
 use Rattle.resolution.proofs.finding.number_fault.Statement.{statement}
 use Rattle.words.proofs.Tests.{tests}
-use Rattle.resolution.specs.Calls.{numberFault}
+use Rattle.resolving.specs.Calls.{numberFault}
 use Rattle.resolution.proofs.finding.number_fault.Tie as tie
 
 returns : tie.Need-returns

@@ -7,7 +7,7 @@ use lib.ListN.{length}
 use Rattle.resolution.proofs.finding.unit_part.Statement.{statement}
 use Rattle.tables.specs.Tables.{spelled}
 use Rattle.words.specs.Refusals.{ok}
-use Rattle.resolution.specs.Calls.{unitOf}
+use Rattle.resolving.specs.Calls.{unitOf}
 use Rattle.resolution.specs.Steps.{spanFor}
 use Rattle.resolution.specs.Answers.{unitAnswerOf}
 use Rattle.resolution.proofs.Answered.{found-inside}

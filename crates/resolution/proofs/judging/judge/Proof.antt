@@ -5,7 +5,7 @@ use Rattle.resolution.proofs.judging.judge.Statement.{statement}
 use Rattle.units.specs.Units.{sample}
 use Rattle.samples.specs.Check.{answerOf}
 use Rattle.tables.specs.Tables.{spelled}
-use Rattle.resolution.specs.Resolving.{sampleOf}
+use Rattle.resolving.specs.Resolving.{sampleOf}
 use Rattle.resolution.proofs.Amounts.{sample-from}
 use Rattle.resolution.proofs.Counting.{judgement-form}
 use Rattle.resolution.proofs.judging.judge.Tie as tie

@@ -8,8 +8,8 @@ use Rattle.words.specs.Refusals.{ok}
 use Rattle.words.proofs.Buffers.{refuse, accept}
 use Rattle.tables.specs.Tables.{spelled}
 use Rattle.bundles.specs.Recordings.{Recording, sampleCount}
-use Rattle.resolution.specs.Resolving.{delivered, judged}
-use Rattle.resolution.specs.Calls.{output, numberFault}
+use Rattle.resolving.specs.Resolving.{delivered, judged}
+use Rattle.resolving.specs.Calls.{output, numberFault}
 use Rattle.resolution.specs.Steps.{answerOf}
 use Rattle.resolution.proofs.Amounts.{sample-from}
 use Rattle.resolution.proofs.Answered.{judgement-refused, judgement-good, number-refused, sample-refused, room-refused, sample-resolved}

@@ -49,15 +49,15 @@ use Rattle.links.proofs.Links.{named-baseless}
 use Rattle.links.proofs.Order.{bundle-rise, named-steps, base-times, later-without}
 use Rattle.copies.specs.Extracted.{extracted}
 use Rattle.copies.specs.Written.{lengthBefore}
-use Rattle.resolution.specs.Resolving.{Span, own, linked, copiedAt, deliveredAt, delivered, judged}
-use Rattle.resolution.specs.Calls.{spanBytes, output, noSpan, resolve, unitOf, resolveCall, unitCall, unitPart}
-use Rattle.resolution.specs.Rules.{Good, Delivers, Plain, Apart, timesDelivered, JudgedRefusal, FirstRefused, Resolves, Refuses, UnitRefuses, CallResolves, CallRefuses, UnitCallRefuses}
-use Rattle.resolution.proofs.Delivered.{judged-form}
-use Rattle.resolution.proofs.Good.{good-rules, rules-good, judged-refused, judged-first, first-judged}
-use Rattle.resolution.proofs.Exactly.{delivers, delivers-only, delivered-plain}
-use Rattle.resolution.proofs.Once as once
-use Rattle.resolution.proofs.Calls as calls
-use Rattle.resolution.proofs.Extracted.{extracted-unit}
+use Rattle.resolving.specs.Resolving.{Span, own, linked, copiedAt, deliveredAt, delivered, judged}
+use Rattle.resolving.specs.Calls.{spanBytes, output, noSpan, resolve, unitOf, resolveCall, unitCall, unitPart}
+use Rattle.resolving.specs.Rules.{Good, Delivers, Plain, Apart, timesDelivered, JudgedRefusal, FirstRefused, Resolves, Refuses, UnitRefuses, CallResolves, CallRefuses, UnitCallRefuses}
+use Rattle.resolving.proofs.Delivered.{judged-form}
+use Rattle.resolving.proofs.Good.{good-rules, rules-good, judged-refused, judged-first, first-judged}
+use Rattle.resolving.proofs.Exactly.{delivers, delivers-only, delivered-plain}
+use Rattle.resolving.proofs.Once as once
+use Rattle.resolving.proofs.Calls as calls
+use Rattle.resolving.proofs.Extracted.{extracted-unit}
 
 -- a sample of a recording
 module _ (r : Recording) (n : ℕ) where

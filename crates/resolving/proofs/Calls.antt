@@ -35,13 +35,13 @@ use Rattle.bundles.specs.Samples.{lengths}
 use Rattle.bundles.specs.Bundles.{bundleVerdict, meaning, contentAt, recordingOf}
 use Rattle.bundles.proofs.Promises.{one-or-other, samples-tile, samples-all}
 use Rattle.copies.specs.Written.{lengthBefore}
-use Rattle.resolution.specs.Resolving.{Span, delivered, judged}
-use Rattle.resolution.specs.Calls.{spanBytes, written, output, numberFault, noSpan, resolve, unitOf, resolveCall, unitCall, spanIn, unitPart}
-use Rattle.resolution.specs.Rules.{JudgedRefusal, Resolves, Refuses, UnitRefuses, CallResolves, CallRefuses, UnitCallRefuses}
+use Rattle.resolving.specs.Resolving.{Span, delivered, judged}
+use Rattle.resolving.specs.Calls.{spanBytes, written, output, numberFault, noSpan, resolve, unitOf, resolveCall, unitCall, spanIn, unitPart}
+use Rattle.resolving.specs.Rules.{JudgedRefusal, Resolves, Refuses, UnitRefuses, CallResolves, CallRefuses, UnitCallRefuses}
 use Rattle.words.proofs.Joined.{each-by-number, part-part}
-use Rattle.resolution.proofs.Delivered.{Inside, span-length}
-use Rattle.resolution.proofs.Good.{good-rules, judged-refused}
-use Rattle.resolution.proofs.Exactly.{delivered-plain, delivered-there}
+use Rattle.resolving.proofs.Delivered.{Inside, span-length}
+use Rattle.resolving.proofs.Good.{good-rules, judged-refused}
+use Rattle.resolving.proofs.Exactly.{delivered-plain, delivered-there}
 
 number-same : {A : Type 0} {m p n q : ℕ} → _≡_ {A = Answer A} (refused m p) (refused n q) → m ≡ n
 number-same e = cc

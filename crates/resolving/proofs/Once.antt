@@ -30,11 +30,11 @@ use Rattle.bundles.proofs.Promises.{references-join}
 use Rattle.links.proofs.Links.{in-track, link-good, linked-reference}
 use Rattle.copies.specs.Copies.{copied}
 use Rattle.words.proofs.Kept.{keep-each, each-keep, keep-yes}
-use Rattle.resolution.specs.Resolving.{Span, spanOf, spansOf, own, named, linked, copiedAt, deliveredAt, delivered}
-use Rattle.resolution.specs.Rules.{Good, Apart, timesDelivered}
+use Rattle.resolving.specs.Resolving.{Span, spanOf, spansOf, own, named, linked, copiedAt, deliveredAt, delivered}
+use Rattle.resolving.specs.Rules.{Good, Apart, timesDelivered}
 use Rattle.words.proofs.Joined.{keep-and, each-single, map-keep, keep-one, rising-cut}
-use Rattle.resolution.proofs.Delivered.{delivered-unit, delivered-aggregator, delivered-extractor}
-use Rattle.resolution.proofs.Exactly.{extractor-mem}
+use Rattle.resolving.proofs.Delivered.{delivered-unit, delivered-aggregator, delivered-extractor}
+use Rattle.resolving.proofs.Exactly.{extractor-mem}
 
 module _ (r : Recording) (n : ℕ) where
   pub in-its-place : (q : ℕ) → List·Memᴰ q (units (own r n)) →

@@ -14,9 +14,9 @@ use Rattle.bundles.specs.Recordings.{Recording}
 use Rattle.copies.specs.Copies.{copied, copyFault}
 use Rattle.copies.specs.Extracted.{unitBytes, copiedUnit, extracted}
 use Rattle.copies.proofs.Copied.{rules-copy}
-use Rattle.resolution.specs.Resolving.{sampleOf, spanOf, own, named, linked, copiedAt}
-use Rattle.resolution.specs.Calls.{spanBytes, noSpan}
-use Rattle.resolution.specs.Rules.{Good}
+use Rattle.resolving.specs.Resolving.{sampleOf, spanOf, own, named, linked, copiedAt}
+use Rattle.resolving.specs.Calls.{spanBytes, noSpan}
+use Rattle.resolving.specs.Rules.{Good}
 use Rattle.words.proofs.Joined.{nth-map}
 
 module _ (r : Recording) where

@@ -31,13 +31,13 @@ use Rattle.copies.specs.Copies.{copied}
 use Rattle.copies.proofs.Copied as copy
 use Rattle.copies.proofs.Sizes.{copied-size}
 use Rattle.words.proofs.Kept.{rising-count}
-use Rattle.resolution.specs.Resolving.{Span, spanOf, spansOf, own, named, linked, copiedAt, deliveredAt, delivered}
-use Rattle.resolution.specs.Rules.{Extracts, Good}
+use Rattle.resolving.specs.Resolving.{Span, spanOf, spansOf, own, named, linked, copiedAt, deliveredAt, delivered}
+use Rattle.resolving.specs.Rules.{Extracts, Good}
 use Rattle.words.proofs.Joined.{each-length}
-use Rattle.resolution.proofs.Delivered.{delivered-unit, delivered-aggregator, delivered-extractor, outputSize, size-none, size-one, size-append}
-use Rattle.resolution.proofs.Good.{own-length}
-use Rattle.resolution.proofs.Exactly.{extractor-mem}
-use Rattle.resolution.proofs.Calls.{by-count, content-part}
+use Rattle.resolving.proofs.Delivered.{delivered-unit, delivered-aggregator, delivered-extractor, outputSize, size-none, size-one, size-append}
+use Rattle.resolving.proofs.Good.{own-length}
+use Rattle.resolving.proofs.Exactly.{extractor-mem}
+use Rattle.resolving.proofs.Calls.{by-count, content-part}
 
 pub sum-most : {A : Type 0} (f : A → ℕ) (k : ℕ) (xs : List A) → ((x : A) → List·Memᴰ x xs → f x ≤ k) → sum (map f xs) ≤ length xs * k
 unfolding sum

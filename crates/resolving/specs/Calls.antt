@@ -22,7 +22,7 @@ use Rattle.words.specs.Buffers.{within}
 use Rattle.bundles.specs.Recordings.{Recording, sampleCount, contentOf}
 use Rattle.bundles.specs.Bundles.{meaning, contentAt}
 use Rattle.copies.specs.Written.{lengthBefore}
-use Rattle.resolution.specs.Resolving.{Span, delivered, judged}
+use Rattle.resolving.specs.Resolving.{Span, delivered, judged}
 
 module _ (r : Recording) where
   abbrev pub spanBytes : Span → List ℕ

@@ -32,8 +32,8 @@ use Rattle.bundles.specs.Bundles.{bundleVerdict, meaning}
 use Rattle.links.specs.Links.{linkedTrack}
 use Rattle.copies.specs.Copies.{plain, copyEnd}
 use Rattle.copies.specs.Rules.{Copy}
-use Rattle.resolution.specs.Resolving.{sampleOf, Span, spanOf, spansOf, own, named, linked, extractFault, delivered, judged}
-use Rattle.resolution.specs.Calls.{spanBytes, output}
+use Rattle.resolving.specs.Resolving.{sampleOf, Span, spanOf, spansOf, own, named, linked, extractFault, delivered, judged}
+use Rattle.resolving.specs.Calls.{spanBytes, output}
 
 module _ (r : Recording) (n : ℕ) where
   pub record Extracts (p : ℕ) : Type 0 where

@@ -32,8 +32,8 @@ use Rattle.samples.specs.Check.{check}
 use Rattle.bundles.specs.Recordings.{Recording, contentOf}
 use Rattle.words.proofs.Entries.{sum-append, map-append}
 use Rattle.copies.specs.Written.{lengthBefore}
-use Rattle.resolution.specs.Resolving.{Span, spanOf, own, extractFault, copiedAt, deliveredAt, delivered, judged}
-use Rattle.resolution.specs.Calls.{spanBytes, written, output}
+use Rattle.resolving.specs.Resolving.{Span, spanOf, own, extractFault, copiedAt, deliveredAt, delivered, judged}
+use Rattle.resolving.specs.Calls.{spanBytes, written, output}
 use Rattle.words.proofs.Joined.{each-length, first-keep, first-each}
 
 module _ (x : Sample) (p : ℕ) where

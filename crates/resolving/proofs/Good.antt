@@ -24,10 +24,10 @@ use Rattle.samples.proofs.Laws.{check-refusals, unit-inside}
 use Rattle.bundles.specs.Recordings.{Recording, contentOf}
 use Rattle.links.proofs.Links.{link-none, in-track, named-there, name-none, name-good, name-range}
 use Rattle.copies.proofs.Copied.{copy-rules, rules-copy, copy-range}
-use Rattle.resolution.specs.Resolving.{sampleOf, own, named, linked, nameFaultAt, copyFaultAt, extractFault, judged}
-use Rattle.resolution.specs.Rules.{Extracts, Good, JudgedRefusal, FirstRefused}
+use Rattle.resolving.specs.Resolving.{sampleOf, own, named, linked, nameFaultAt, copyFaultAt, extractFault, judged}
+use Rattle.resolving.specs.Rules.{Extracts, Good, JudgedRefusal, FirstRefused}
 use Rattle.words.proofs.Joined.{first-earliest, first-here}
-use Rattle.resolution.proofs.Delivered.{extractJudge}
+use Rattle.resolving.proofs.Delivered.{extractJudge}
 
 pub own-length : (r : Recording) (n : ℕ) → end (sampleOf r n) ≡ length (contentOf r n)
 unfolding sampleOf

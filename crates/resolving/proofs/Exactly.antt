@@ -28,12 +28,12 @@ use Rattle.bundles.specs.Recordings.{Recording, sampleCount, contentOf}
 use Rattle.links.proofs.Links.{in-track}
 use Rattle.copies.specs.Copies.{copied}
 use Rattle.copies.proofs.Copied.{copied-exact, copied-unit}
-use Rattle.resolution.specs.Resolving.{sampleOf, Span, spanOf, spansOf, own, named, linked, copiedAt, deliveredAt, delivered}
-use Rattle.resolution.specs.Calls.{spanBytes}
-use Rattle.resolution.specs.Rules.{Extracts, Good, copySpans, Delivers, Plain}
+use Rattle.resolving.specs.Resolving.{sampleOf, Span, spanOf, spansOf, own, named, linked, copiedAt, deliveredAt, delivered}
+use Rattle.resolving.specs.Calls.{spanBytes}
+use Rattle.resolving.specs.Rules.{Extracts, Good, copySpans, Delivers, Plain}
 use Rattle.words.proofs.Joined.{part-byte}
-use Rattle.resolution.proofs.Delivered.{extractor-only, delivered-unit, delivered-aggregator, delivered-extractor}
-use Rattle.resolution.proofs.Good.{own-length}
+use Rattle.resolving.proofs.Delivered.{extractor-only, delivered-unit, delivered-aggregator, delivered-extractor}
+use Rattle.resolving.proofs.Good.{own-length}
 
 module _ (r : Recording) (n : ℕ) where
   pub copied-spans : (p : ℕ) → Extracts r n p → copiedAt r n p ≡ copySpans r n p

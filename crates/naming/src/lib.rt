@@ -1,0 +1,1 @@
+// No code: what the naming list of a sample is, and what is promised of it: demand 3.

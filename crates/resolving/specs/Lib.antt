@@ -1,0 +1,8 @@
+-- What resolving a sample to plain NAL units means. Read in this order.
+--
+--   Resolving   what a sample of a recording delivers, refusals 14 to 28
+--   Calls       what the calls on a bundle answer, refusals 1 to 30
+--   Rules       the same in plain facts, in which the promises are stated
+pub mod Resolving
+pub mod Calls
+pub mod Rules
