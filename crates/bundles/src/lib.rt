@@ -21,7 +21,7 @@ use numbers::refusals;
 use records::Reading;
 
 // The most bytes, tracks, references and samples of a bundle.
-const BUNDLE_MOST: usize = 16777216;
+pub const BUNDLE_MOST: usize = 16777216;
 
 const TRACK_MOST: usize = 16;
 

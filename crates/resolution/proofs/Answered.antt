@@ -1,7 +1,6 @@
 -- What the calls answer, step by step as the code takes them. Assumes nothing.
 --
 --   number-some                            a number without 30
---   judgement-refused, judgement-good      a sample that is refused; one that is good, and how much it delivers
 --   number-refused, sample-refused, room-refused, sample-resolved    a sample resolved
 --   find-number, find-sample, find-past, find-good    one delivered unit
 --   found-inside                           it lies in its sample
@@ -30,8 +29,9 @@ use Rattle.filling.specs.declared.Filled.the-variants.{Done}
 use Rattle.filling.proofs.Promises.{says-done, table-spells}
 use Rattle.resolving.specs.Resolving.{Span, delivered, judged}
 use Rattle.resolving.specs.Calls.{output, noSpan, numberFault, resolve, unitOf, resolveCall, unitCall, unitPart, spanBytes}
-use Rattle.resolution.specs.Steps.{judgement, partOf}
-use Rattle.resolution.specs.declared.Amount.{Amount}
+use Rattle.judging.specs.Steps.{judgement}
+use Rattle.resolution.specs.Steps.{partOf}
+use Rattle.judging.specs.declared.Amount.{Amount}
 use Rattle.resolving.proofs.Delivered.{Inside}
 use Rattle.resolving.proofs.Good.{good-rules}
 use Rattle.resolving.proofs.Exactly.{delivered-plain, delivered-there}
@@ -43,19 +43,6 @@ number-some count n e = by-count count n
     (λ h l. (h, l))
 
 module _ (r : Recording) (n : ℕ) where
-  pub judgement-refused : {m q : ℕ} → judgement r n ≡ refused m q → judged r n ≡ refused m q
-  unfolding judgement
-  judgement-refused {m} {q} e = by-verdict (judged r n)
-      (λ a b v. let s : refused a b ≡ refused m q = rw v at e in let i : a ≡ m = cc in let j : b ≡ q = cc in v ∙ rw (i, j))
-      (λ v. ok-refused (sym (rw v at e)))
-
-  pub judgement-good : (a : Amount) → judgement r n ≡ ok a → (judged r n ≡ ok tt) × (a .count ≡ length (delivered r n)) × (a .size ≡ length (output r (delivered r n)))
-  unfolding judgement
-  judgement-good a e =
-      let w = and-ok (judged r n) _ e in
-      let s = ok-same (w .1) in
-      (w .0, sym (ap (λ (b : Amount). b .count) s), sym (ap (λ (b : Amount). b .size) s))
-
   -- a sample resolved
   module _ (room : ℕ) where
     pub number-refused : {f : ℕ} → f ≡ numberFault (sampleCount (r .layout)) n → (f ≡ 0 → ⊥) → within room (resolve r n) ≡ refused f 0

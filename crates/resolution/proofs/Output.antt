@@ -43,7 +43,7 @@ use Rattle.resolution.specs.Steps.{extractBytes, bytesAt}
 use Rattle.resolving.proofs.Delivered.{delivered-unit, delivered-extractor, unitJudge, unit-judge, extractors-units, judged-extractors, output-none, output-one, output-append}
 use Rattle.resolving.proofs.Good.{good-rules}
 use Rattle.resolving.proofs.Exactly.{extractor-mem}
-use Rattle.resolution.proofs.Counting.{left, left-end, left-skip, left-take, left-start, Passing, passing-start, passing-skip, passing-take, passing-mem}
+use Rattle.judging.proofs.Counting.{left, left-end, left-skip, left-take, left-start, Passing, passing-start, passing-skip, passing-take, passing-mem}
 
 -- an extractor by what it names
 module _ (r : Recording) (n : ℕ) (f : Extractor) where

@@ -12,10 +12,9 @@ ghost use Rattle.resolving.specs.Resolving.{sampleOf, spanOf, delivered, judged
 ghost use Rattle.resolving.specs.Calls.{noSpan, numberFault, unitOf};
 ghost use Rattle.resolution.specs.Steps.{spanFor, copiedSpan, spanAt, partOf};
 ghost use Rattle.resolution.specs.Answers.{unitAnswerOf};
-use crate::Judged;
 use crate::UnitFound;
 use crate::UnitSpan;
-use crate::judging;
+use judging::Judged;
 use links::Named;
 use numbers::ByteOffset;
 use numbers::LengthSize;

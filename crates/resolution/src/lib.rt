@@ -1,6 +1,5 @@
 // Samples resolved to plain NAL units.
 mod finding;
-mod judging;
 mod writing;
 
 ghost use mathlib.Core.Path.{_≡_};
@@ -31,18 +30,6 @@ pub enum UnitFound {
 pub enum Resolved {
     Refused(Refusal),
     Count(usize),
-}
-
-// How many units a sample delivers, and how many bytes they take in the output.
-struct Amount {
-    count: usize,
-    size: usize,
-}
-
-// A sample is good, or refused.
-enum Judged {
-    Refused(Refusal),
-    Good(Amount),
 }
 
 // A sample resolved: 1 to 13, 30, 14 to 28, 29; or each delivered unit after a 4-byte length, over the start of the buffer, and how many

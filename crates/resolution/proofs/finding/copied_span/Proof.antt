@@ -10,7 +10,7 @@ use Rattle.links.specs.Links.{nameFault, sampleNamed}
 use Rattle.links.proofs.Naming.{naming-refused, naming-sample}
 use Rattle.copies.proofs.Answers.{place-whole}
 use Rattle.resolving.specs.Resolving.{sampleOf}
-use Rattle.resolution.proofs.Amounts.{sample-from}
+use Rattle.judging.proofs.Amounts.{sample-from}
 use Rattle.resolution.proofs.Spans.{span-refused, span-past, span-here}
 use Rattle.resolution.proofs.finding.copied_span.Tie as tie
 

@@ -13,8 +13,8 @@ use Rattle.units.proofs.Units.{next-after}
 use Rattle.samples.proofs.Walks.{next-is}
 use Rattle.tables.specs.Tables.{spelled}
 use Rattle.bundles.specs.Recordings.{Recording}
-use Rattle.resolution.proofs.Amounts.{spelled-most}
-use Rattle.resolution.proofs.Counting.{Passing, passing-skip, passing-take}
+use Rattle.judging.proofs.Amounts.{spelled-most}
+use Rattle.judging.proofs.Counting.{Passing, passing-skip, passing-take}
 use Rattle.resolution.proofs.Spans.{Seeking, seeking-start, seeking-skip, seeking-found, seeking-take, seeking-end}
 use Rattle.resolution.proofs.finding.find.Tie as tie
 

@@ -9,9 +9,10 @@ use Rattle.words.specs.Refusals.{ok}
 use Rattle.bundles.specs.Recordings.{Recording, sampleCount}
 use Rattle.resolving.specs.Resolving.{delivered, judged}
 use Rattle.resolving.specs.Calls.{output, numberFault}
-use Rattle.resolution.specs.Steps.{answerOf}
-use Rattle.resolution.proofs.Amounts.{sample-from}
-use Rattle.resolution.proofs.Answered.{number-some, judgement-refused, judgement-good, find-number, find-sample, find-past, find-good}
+use Rattle.judging.specs.Steps.{answerOf}
+use Rattle.judging.proofs.Amounts.{sample-from}
+use Rattle.judging.proofs.Judgements.{judged-refused, judged-good}
+use Rattle.resolution.proofs.Answered.{number-some, find-number, find-sample, find-past, find-good}
 use Rattle.resolution.proofs.finding.find_unit.Tie as tie
 
 abbrev R : tie.Else1 → Recording
@@ -27,7 +28,9 @@ sound c = sym (fault (c .before)) ∙ c .if1 .left
 
 -- the sample is good
 good : (c : tie.After-judged2) → let n = c .before .before .before .before .before .before .before .before .args .n .0 in (judged (R (c .before .before .before)) n ≡ ok tt) × (c .judged2 .given .0 .0 .count ≡ length (delivered (R (c .before .before .before)) n)) × (c .judged2 .given .0 .0 .size ≡ length (output (R (c .before .before .before)) (delivered (R (c .before .before .before)) n)))
-good c = judgement-good (R (c .before .before .before)) (c .before .before .before .before .before .before .before .before .args .n .0) (c .judged2 .given .0 .0) (sym (c .before .before .judge .ensures) ∙ ap answerOf (c .judged2 .given .1))
+good c =
+    let a = c .before .before .before .before .before .before .before .before .args in
+    judged-good (a .b .now) (a .t .now) (a .n .0) (c .before .before .before .before .before .before .before .before .pre) (c .judged2 .given .0 .0) (sym (c .before .before .judge .ensures) ∙ ap answerOf (c .judged2 .given .1))
 
 past : (c : tie.After-number-fault2) → c .number-fault2 .result ≡ numberFault (length (delivered (R (c .before .before .before .before .before)) (c .before .before .before .before .before .before .before .before .before .before .args .n .0))) (c .before .before .before .before .before .before .before .before .before .before .args .i)
 past c = rw (good (c .before .before) .1) at (c .number-fault2 .ensures)
@@ -77,7 +80,7 @@ find-requires c κs =
     (sample-from (a .b .now) (a .t .now) (a .n .0) (c .before .track-of .ensures) (c .sample-bytes .ensures), good (c .before .before .before .before .before) .0, c .before .before .before .before .before .before .before .before .before .before .before .before .before .pre, number-some _ _ (there (c .before .before)) .0)
 
 returns-3 : tie.Need-returns-3
-returns-3 c = sym (find-sample _ _ _ (sound (c .before .before .before .before)) (judgement-refused _ _ (sym (c .before .before .before .judge .ensures) ∙ ap answerOf (c .before .judged .given .1))))
+returns-3 c = sym (find-sample _ _ _ (sound (c .before .before .before .before)) (judged-refused _ _ _ (c .before .before .before .before .before .before .before .before .before .pre) (sym (c .before .before .before .judge .ensures) ∙ ap answerOf (c .before .judged .given .1))))
 
 returns-4 : tie.Need-returns-4
 returns-4 c = ap ok (c .find .ensures) ∙ sym (find-good _ _ _ (sound (c .before .before .before .before .before .before .before .before .before)) (good (c .before .before .before .before .before .before) .0) (there (c .before .before .before)))

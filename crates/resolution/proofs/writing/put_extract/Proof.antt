@@ -5,7 +5,7 @@ use Rattle.resolution.proofs.writing.put_extract.Statement.{statement}
 use Rattle.links.proofs.Naming.{naming-refused, naming-sample}
 use Rattle.tables.specs.Tables.{laidOut, spelled}
 use Rattle.copies.proofs.Putting.{count-none, put-none}
-use Rattle.resolution.proofs.Amounts.{sample-from}
+use Rattle.judging.proofs.Amounts.{sample-from}
 use Rattle.resolution.proofs.Output.{extract-refused, extract-named}
 use Rattle.resolution.proofs.writing.put_extract.Tie as tie
 

@@ -10,9 +10,10 @@ use Rattle.tables.specs.Tables.{spelled}
 use Rattle.bundles.specs.Recordings.{Recording, sampleCount}
 use Rattle.resolving.specs.Resolving.{delivered, judged}
 use Rattle.resolving.specs.Calls.{output, numberFault}
-use Rattle.resolution.specs.Steps.{answerOf}
-use Rattle.resolution.proofs.Amounts.{sample-from}
-use Rattle.resolution.proofs.Answered.{judgement-refused, judgement-good, number-refused, sample-refused, room-refused, sample-resolved}
+use Rattle.judging.specs.Steps.{answerOf}
+use Rattle.judging.proofs.Amounts.{sample-from}
+use Rattle.judging.proofs.Judgements.{judged-refused, judged-good}
+use Rattle.resolution.proofs.Answered.{number-refused, sample-refused, room-refused, sample-resolved}
 use Rattle.resolution.proofs.writing.resolve_sample.Tie as tie
 
 abbrev R : tie.Else1 → Recording
@@ -28,7 +29,9 @@ sound c = sym (fault (c .before)) ∙ c .if1 .left
 
 -- the sample is good
 good : (c : tie.After-judged2) → let n = c .before .before .before .before .before .before .before .before .before .args .n .0 in (judged (R (c .before .before .before)) n ≡ ok tt) × (c .judged2 .given .0 .0 .count ≡ length (delivered (R (c .before .before .before)) n)) × (c .judged2 .given .0 .0 .size ≡ length (output (R (c .before .before .before)) (delivered (R (c .before .before .before)) n)))
-good c = judgement-good (R (c .before .before .before)) (c .before .before .before .before .before .before .before .before .before .args .n .0) (c .judged2 .given .0 .0) (sym (c .before .before .judge .ensures) ∙ ap answerOf (c .judged2 .given .1))
+good c =
+    let a = c .before .before .before .before .before .before .before .before .before .args in
+    judged-good (a .b .now) (a .t .now) (a .n .0) (c .before .before .before .before .before .before .before .before .before .pre) (c .judged2 .given .0 .0) (sym (c .before .before .judge .ensures) ∙ ap answerOf (c .judged2 .given .1))
 
 fits : (c : tie.Else2) → length (output (R (c .before .before .before .before .before .before)) (delivered (R (c .before .before .before .before .before .before)) (c .before .before .before .before .before .before .before .before .before .before .before .before .args .n .0))) ≤ length (c .before .before .before .before .before .before .before .before .before .before .before .before .args .out .now)
 fits c = rw (good (c .before .before .before) .2) at (c .if2 .left)
@@ -72,7 +75,7 @@ write-units-requires c κs =
     (sample-from (a .b .now) (a .t .now) (a .n .0) (c .before .before .track-of .ensures) (c .before .sample-bytes .ensures), good (c .before .before .before .before .before .before) .0, fits (c .before .before .before))
 
 returns-3 : tie.Need-returns-3
-returns-3 c = refuse (sample-refused _ _ _ (sound (c .before .before .before .before)) (judgement-refused _ _ (sym (c .before .before .before .judge .ensures) ∙ ap answerOf (c .before .judged .given .1))))
+returns-3 c = refuse (sample-refused _ _ _ (sound (c .before .before .before .before)) (judged-refused _ _ _ (c .before .before .before .before .before .before .before .before .before .before .pre) (sym (c .before .before .before .judge .ensures) ∙ ap answerOf (c .before .judged .given .1))))
 
 same-length : tie.Need-same-length
 same-length c = search needs

@@ -14,7 +14,7 @@ use Rattle.samples.proofs.Walks.{next-is}
 use Rattle.tables.specs.Tables.{spelled}
 use Rattle.bundles.specs.Recordings.{Recording}
 use Rattle.resolution.specs.Steps.{bytesAt}
-use Rattle.resolution.proofs.Counting.{Passing, passing-skip, passing-take}
+use Rattle.judging.proofs.Counting.{Passing, passing-skip, passing-take}
 use Rattle.resolution.proofs.Output.{Writing, writing-start, writing-length, writing-skip, writing-room, writing-take, writing-end}
 use Rattle.resolution.proofs.writing.write_units.Tie as tie
 

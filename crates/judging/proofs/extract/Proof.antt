@@ -1,12 +1,12 @@
 -- 23 and 24 come first, then what the sample named says. Assumes nothing.
 use borrow.Author.Needs.{needs}
 use mathlib.Core.Path.{sym, _∙_, ap}
-use Rattle.resolution.proofs.judging.extract.Statement.{statement}
+use Rattle.judging.proofs.extract.Statement.{statement}
 use Rattle.links.proofs.Naming.{naming-refused, naming-sample}
-use Rattle.resolution.proofs.Amounts.{extracting-refused, sample-from, extracting-named}
+use Rattle.judging.proofs.Amounts.{extracting-refused, sample-from, extracting-named}
 use Rattle.tables.specs.Tables.{laidOut, spelled}
 use Rattle.copies.specs.Written.{copyOf}
-use Rattle.resolution.proofs.judging.extract.Tie as tie
+use Rattle.judging.proofs.extract.Tie as tie
 
 name-requires : tie.Need-name-requires
 name-requires c κs = search needs

@@ -1,4 +1,4 @@
-// What a sample delivers, counted, and its refusals, by a bundle and any table beside it.
+// A sample judged: 14 to 28, or how much it delivers; by a bundle and any table beside it.
 ghost use mathlib.Core.Path.{_≡_};
 ghost use Prim.Native.Nat.{_≤_};
 ghost use lib.ListN.{length};
@@ -8,22 +8,33 @@ ghost use Rattle.samples.specs.Check.{check};
 ghost use Rattle.bundles.specs.Limits.{bundleMost};
 ghost use Rattle.tables.specs.Tables.{laidOut, spelled};
 ghost use Rattle.resolving.specs.Resolving.{sampleOf};
-ghost use Rattle.resolution.specs.Steps.{trackFor, extracting, amountAt, judgement, answerOf};
-use crate::Amount;
-use crate::Judged;
+ghost use Rattle.judging.specs.Steps.{trackFor, extracting, amountAt, judgement, judgementIn, answerOf};
 use copies::Copy;
 use links::Named;
 use numbers::ByteOffset;
 use numbers::LengthSize;
 use numbers::Refusal;
 use numbers::SampleNumber;
+use numbers::refusals;
 use samples::Checked;
 use units::Extractor;
 use units::MaybeExtractor;
 use units::Track;
 
+// How many units a sample delivers, and how many bytes they take in the output.
+pub struct Amount {
+    pub count: usize,
+    pub size: usize,
+}
+
+// A sample is good, or refused.
+pub enum Judged {
+    Refused(Refusal),
+    Good(Amount),
+}
+
 // What the track of a sample says of it.
-pub(crate) fn track_of(t: &[u64], n: SampleNumber) -> Track
+pub fn track_of(t: &[u64], n: SampleNumber) -> Track
     ensures { λ r. ⌜ r ≡ trackFor (laidOut (now (t .entry))) (n .0) ⌝ }
 {
     let k = tables::sample_track(t, n);
@@ -53,14 +64,7 @@ fn extract(b: &[u8], t: &[u64], n: SampleNumber, f: Extractor) -> Copy
 }
 
 // What the unit at a place of sample n, which is x, delivers if it is no aggregator.
-pub(crate) fn amount_at(
-    b: &[u8],
-    t: &[u64],
-    n: SampleNumber,
-    k: Track,
-    x: &[u8],
-    at: ByteOffset,
-) -> Copy
+pub fn amount_at(b: &[u8], t: &[u64], n: SampleNumber, k: Track, x: &[u8], at: ByteOffset) -> Copy
     ensures { λ r. ⌜ r ≡ amountAt (spelled (now (b .entry)) (now (t .entry))) (n .0) (sample k (now (x .entry))) (at .0) ⌝ }
 {
     if units::type_at(k, x, at) != units::EXTRACTOR {
@@ -111,11 +115,16 @@ fn measure(b: &[u8], t: &[u64], n: SampleNumber, k: Track, x: &[u8]) -> Judged
     Judged::Good(Amount { count, size })
 }
 
-// 14 to 28 of sample n, or how much it delivers.
-pub(crate) fn judge(b: &[u8], t: &[u64], n: SampleNumber) -> Judged
-    requires { ⌜ length (now b) ≤ bundleMost ⌝ }
-    ensures { λ r. ⌜ answerOf r ≡ judgement (spelled (now (b .entry)) (now (t .entry))) (n .0) ⌝ }
+// 14 to 28 of sample n, or how much it delivers. A bundle too long is refused: its amounts would not fit.
+pub fn judge(b: &[u8], t: &[u64], n: SampleNumber) -> Judged
+    ensures { λ r. ⌜ answerOf r ≡ judgementIn (now (b .entry)) (now (t .entry)) (n .0) ⌝ }
 {
+    if bundles::BUNDLE_MOST < b.len() {
+        return Judged::Refused(Refusal {
+            number: refusals::BUNDLE_TOO_LONG,
+            place: ByteOffset(0),
+        });
+    }
     let k = track_of(t, n);
     let x = tables::sample_bytes(b, t, n);
     let checked = samples::check_sample(k, x);

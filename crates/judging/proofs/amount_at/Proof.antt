@@ -1,12 +1,12 @@
 -- An extractor's fields say what it delivers; any other unit is one. Assumes nothing.
 use borrow.Author.Needs.{needs}
 use mathlib.Core.Path.{_≡_, sym, _∙_}
-use Rattle.resolution.proofs.judging.amount_at.Statement.{statement}
+use Rattle.judging.proofs.amount_at.Statement.{statement}
 use borrow.Author.Tests.{eq-eqb, ne-eqb}
 use Rattle.units.specs.Units.{sample, size, isExtractor}
-use Rattle.resolution.specs.Steps.{amountAt}
+use Rattle.judging.specs.Steps.{amountAt}
 use mathlib.Core.Bool.{true, false}
-use Rattle.resolution.proofs.judging.amount_at.Tie as tie
+use Rattle.judging.proofs.amount_at.Tie as tie
 
 -- it is an extractor, or it is not
 other : (c : tie.Then1) → let a = c .before .before .before .before .before .args in isExtractor (sample (a .k) (a .x .now)) (a .at .0) ≡ false

@@ -5,7 +5,7 @@ use mathlib.Core.Path.{_≡_, sym, _∙_}
 use Prim.Native.Nat.{ℕ, _+_, _-_, _*_, _≤_}
 use lib.ListN.{length}
 use Rattle.bundles.specs.Limits.{bundleMost}
-use Rattle.resolution.proofs.judging.measure.Statement.{statement}
+use Rattle.judging.proofs.measure.Statement.{statement}
 use mathlib.Core.Bool.{true, false}
 use borrow.Author.Tests.{eq-eqb, ne-eqb}
 use Rattle.units.specs.Units.{Sample, sample, size, next, isAggregator}
@@ -14,9 +14,9 @@ use Rattle.units.proofs.Units.{next-after}
 use Rattle.samples.proofs.Walks.{next-is}
 use Rattle.tables.specs.Tables.{spelled}
 use Rattle.bundles.specs.Recordings.{Recording}
-use Rattle.resolution.proofs.Amounts.{spelled-most}
-use Rattle.resolution.proofs.Counting.{Passing, passing-skip, passing-take, Judging, judging-start, judging-skip, judging-fits, judging-few, judging-refused, judging-take, judging-end}
-use Rattle.resolution.proofs.judging.measure.Tie as tie
+use Rattle.judging.proofs.Amounts.{spelled-most}
+use Rattle.judging.proofs.Counting.{Passing, passing-skip, passing-take, Judging, judging-start, judging-skip, judging-fits, judging-few, judging-refused, judging-take, judging-end}
+use Rattle.judging.proofs.measure.Tie as tie
 
 abbrev Inv-loop : tie.InvT-loop
 Inv-loop b t n k x l w count₀ size₀ p₀ count size p = Judging (spelled b t) (n .0) (sample k x) p count size

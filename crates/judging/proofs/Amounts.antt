@@ -40,7 +40,7 @@ use Rattle.copies.specs.Written.{refusal, taken, copyOf}
 use Rattle.copies.specs.declared.Copy.{Copy}
 use Rattle.copies.proofs.Answers.{fault-of}
 use Rattle.resolving.specs.Resolving.{sampleOf, Span, spanOf, spansOf, own, named, linked, nameFaultAt, copyFaultAt, extractFault, copiedAt, deliveredAt}
-use Rattle.resolution.specs.Steps.{trackFor, extracting, amountAt}
+use Rattle.judging.specs.Steps.{trackFor, extracting, amountAt}
 use Rattle.resolving.proofs.Delivered.{delivered-unit, delivered-extractor, unitJudge, unit-judge, unit-passes, outputSize, size-one}
 use Rattle.resolving.proofs.Good.{own-length, extract-rules}
 use Rattle.resolving.proofs.Exactly.{extractor-mem}

@@ -26,11 +26,11 @@ use Rattle.copies.proofs.Rest.{walking-skip, walking-take}
 use Rattle.bundles.specs.Limits.{bundleMost}
 use Rattle.resolving.specs.Resolving.{Span, own, deliveredAt, delivered, judged}
 use Rattle.resolving.specs.Calls.{output}
-use Rattle.resolution.specs.Steps.{amountAt, judgement}
+use Rattle.judging.specs.Steps.{amountAt, judgement}
 use Rattle.resolving.proofs.Delivered.{aggregator-only, delivered-aggregator, unitJudge, unit-passes, extractors-units, judged-form, judged-extractors, outputSize, size-none, size-append, output-length}
 use Rattle.resolving.proofs.Good.{own-length, good-rules}
 use Rattle.resolving.proofs.Exactly.{delivered-plain}
-use Rattle.resolution.proofs.Amounts.{Amounts, unit-amounts}
+use Rattle.judging.proofs.Amounts.{Amounts, unit-amounts}
 
 module _ (r : Recording) (n : ℕ) (x : Sample) where
   -- the units from p on, and what is delivered for them

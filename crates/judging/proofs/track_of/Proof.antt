@@ -1,7 +1,7 @@
 -- The track's kind and length size, by its number. Assumes nothing.
 use borrow.Author.Needs.{needs}
-use Rattle.resolution.proofs.judging.track_of.Statement.{statement}
-use Rattle.resolution.proofs.judging.track_of.Tie as tie
+use Rattle.judging.proofs.track_of.Statement.{statement}
+use Rattle.judging.proofs.track_of.Tie as tie
 
 sample-track-requires : tie.Need-sample-track-requires
 sample-track-requires c κs = search needs

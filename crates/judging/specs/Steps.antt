@@ -1,0 +1,61 @@
+-- The steps of the code on a bundle and any table, as definitions over the recording that they spell.
+--
+--   trackFor y n          what the track of sample n says of it, as the code has it
+--   extracting r n f      what an extractor with the fields f in sample n delivers: its refusal, 23 to 28, or its units counted
+--   amountAt r n x p      the same for the unit at p of sample n, which is x, if it is no aggregator: any other unit is one unit
+--   judgement r n         14 to 28 of sample n, or how much it delivers
+--   judgementIn b t n     the same by a bundle and any table beside it; a bundle too long is refused
+--   answerOf              the code's answer in these words
+use Prim.Native.Nat.{ℕ}
+use mathlib.Core.List.{List}
+use lib.ListN.{length}
+use Rattle.words.specs.Tests.{_≡?_, _<?_, pick}
+use Rattle.words.specs.RefusalNumbers.{bundleTooLong}
+use Rattle.words.specs.Refusals.{_if_, Answer, refused, ok, _andThen_, _atPlace_}
+use Rattle.units.specs.Units.{Sample, end, size, isExtractor}
+use Rattle.units.specs.Steps.{extractorAt}
+use Rattle.units.specs.declared.Track.{Track}
+use Rattle.units.specs.declared.Extractor as fields
+use Rattle.units.specs.declared.MaybeExtractor.{MaybeExtractor}
+use Rattle.units.specs.declared.MaybeExtractor.the-variants.{Extractor, Nothing}
+use Rattle.bundles.specs.Limits.{bundleMost}
+use Rattle.bundles.specs.Recordings.{Layout, Recording, trackAt}
+use Rattle.tables.specs.Tables.{spelled}
+use Rattle.links.specs.Links.{sampleNamed, nameFault}
+use Rattle.copies.specs.Written.{refusal, copyOf}
+use Rattle.copies.specs.declared.Copy.{Copy}
+use Rattle.resolving.specs.Resolving.{sampleOf, delivered, judged}
+use Rattle.resolving.specs.Calls.{output}
+use Rattle.judging.specs.declared.Amount.{Amount}
+use Rattle.judging.specs.declared.Judged.{Judged}
+use Rattle.judging.specs.declared.Judged.the-variants.{Refused, Good}
+
+abbrev pub trackFor : Layout → ℕ → Track
+trackFor y n = record { kind = trackAt y n .kind; «length_size» = trackAt y n .lengthSize }
+
+unfoldable pub extracting : Recording → ℕ → fields.Extractor → Copy
+extracting r n f =
+    let fault = nameFault (r .layout) n (f .«track_ref_index») (f .«sample_offset») in
+    let named = sampleNamed (r .layout) n (f .«track_ref_index») (f .«sample_offset») in
+    pick (fault ≡? 0) (copyOf (sampleOf r named) (f .«data_offset» .0) (f .«data_length»)) (refusal fault)
+
+-- in a well-formed sample `Nothing` does not come
+abbrev pub extractingBy : Recording → ℕ → MaybeExtractor → Copy
+extractingBy r n (Extractor f) = extracting r n f
+extractingBy r n Nothing = refusal 0
+
+unfoldable pub amountAt : Recording → ℕ → Sample → ℕ → Copy
+amountAt r n x p =
+    pick (isExtractor x p)
+    (extractingBy r n (extractorAt x (end x) p))
+    (record { fault = 0; count = 1; bytes = size x p })
+
+unfoldable pub judgement : Recording → ℕ → Answer Amount
+judgement r n = judged r n andThen ok (record { count = length (delivered r n); size = length (output r (delivered r n)) })
+
+unfoldable pub judgementIn : List ℕ → List ℕ → ℕ → Answer Amount
+judgementIn b t n = (bundleTooLong if bundleMost <? length b) atPlace 0 andThen judgement (spelled b t) n
+
+abbrev pub answerOf : Judged → Answer Amount
+answerOf (Refused f) = refused (f .number) (f .place .0)
+answerOf (Good a) = ok a
