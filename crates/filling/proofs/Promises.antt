@@ -8,6 +8,7 @@
 --   table-refused, table-no-room    a refused bundle and a table without room leave it as it was
 --   table-room         16,708 numbers are enough for every accepted bundle
 --   says-refused, says-done, never-short    what the answer of filling says; with so many numbers it is never that there is no room
+--   table-short, table-accepted, table-means    a table that was filled: the bundle is not too long, is accepted, and its recording is spelled
 --   any-range          in any table, a track's range is the track's samples in the layout that the table says
 --   any-flag           in any table, a flag that is set changes nothing that the table says or spells
 use Prim.Native.Nat.{ℕ, zero, suc, _+_, _-_, _*_, _≤_, _<_}
@@ -23,6 +24,7 @@ use Rattle.words.specs.Tests.{_≤?_, pick}
 use Rattle.words.specs.Refusals.{Answer, refused, ok, Verdict}
 use Rattle.words.proofs.Tests.{by-bool}
 use Rattle.bundles.specs.Recordings.{Layout, Recording, samplesIn}
+use Rattle.bundles.specs.Limits.{bundleMost}
 use Rattle.bundles.specs.Samples.{entryCount}
 use Rattle.bundles.specs.Bundles.{bundleVerdict, recordingOf, meaning}
 use Rattle.bundles.proofs.Sections.{Accepted, accepted}
@@ -155,3 +157,15 @@ any-range = range-samples
 
 pub any-flag : (b t : List ℕ) (n v : ℕ) → (laidOut (flagged t n v) ≡ laidOut t) × (spelled b (flagged t n v) ≡ spelled b t)
 any-flag b t n v = (flagged-layout t n v, flagged-spells b t n v)
+
+-- a table that was filled: the bundle is accepted, the table spells its recording
+pub table-short : (b : List ℕ) (room : ℕ) → filling b room ≡ Done → length b ≤ bundleMost
+table-short b room done = accepted b (says-done b room done) .size
+
+module _ (b t : List ℕ) (done : filling b (length t) ≡ Done) where
+  pub table-accepted : meaning b ≡ ok (recordingOf b)
+  unfolding meaning
+  table-accepted = rw (says-done b (length t) done)
+
+  pub table-means : spelled b (tableAfter b t) ≡ recordingOf b
+  table-means = table-spells b t (recordingOf b) table-accepted done

@@ -8,6 +8,7 @@ ghost use Rattle.samples.specs.Check.{check};
 ghost use Rattle.bundles.specs.Limits.{bundleMost};
 ghost use Rattle.tables.specs.Tables.{laidOut, spelled};
 ghost use Rattle.resolving.specs.Resolving.{sampleOf};
+ghost use Rattle.resolving.specs.Calls.{numberFault};
 ghost use Rattle.judging.specs.Steps.{trackFor, extracting, amountAt, judgement, judgementIn, answerOf};
 use copies::Copy;
 use links::Named;
@@ -31,6 +32,19 @@ pub struct Amount {
 pub enum Judged {
     Refused(Refusal),
     Good(Amount),
+}
+
+// 30: a number 0 or past the last.
+pub fn number_fault(count: usize, n: usize) -> u8
+    ensures { λ r. ⌜ r ≡ numberFault count n ⌝ }
+{
+    if n == 0 {
+        return refusals::NO_SUCH_NUMBER;
+    }
+    if count < n {
+        return refusals::NO_SUCH_NUMBER;
+    }
+    0
 }
 
 // What the track of a sample says of it.

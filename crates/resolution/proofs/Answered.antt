@@ -5,7 +5,6 @@
 --   find-number, find-sample, find-past, find-good    one delivered unit
 --   found-inside                           it lies in its sample
 --   part-same                              it is the part of the bundle that is promised
---   table-accepted, table-means, table-short    a table that was filled
 --   call-filled, unit-filled, part-filled    the calls by that table
 use Prim.Native.Nat.{ℕ, _≤_, _<_}
 use mathlib.Core.Path.{_≡_, refl, ap, sym, _∙_}
@@ -26,7 +25,7 @@ use Rattle.bundles.proofs.Sections.{accepted}
 use Rattle.tables.specs.Tables.{spelled}
 use Rattle.filling.specs.Filling.{filling, tableAfter}
 use Rattle.filling.specs.declared.Filled.the-variants.{Done}
-use Rattle.filling.proofs.Promises.{says-done, table-spells}
+use Rattle.filling.proofs.Promises.{table-accepted, table-means}
 use Rattle.resolving.specs.Resolving.{Span, delivered, judged}
 use Rattle.resolving.specs.Calls.{output, noSpan, numberFault, resolve, unitOf, resolveCall, unitCall, unitPart, spanBytes}
 use Rattle.judging.specs.Steps.{judgement}
@@ -114,24 +113,14 @@ module _ (b : List ℕ) (r : Recording) (e : meaning b ≡ ok r) (n i : ℕ) whe
   part-same = by-answer (unitOf r n i) refl ∙ ap (unitPart b) (sym (unit-means b n i e))
 
 -- a table that was filled
-pub table-short : (b : List ℕ) (room : ℕ) → filling b room ≡ Done → length b ≤ bundleMost
-table-short b room done = accepted b (says-done b room done) .size
-
 module _ (b t : List ℕ) (done : filling b (length t) ≡ Done) where
-  pub table-accepted : meaning b ≡ ok (recordingOf b)
-  unfolding meaning
-  table-accepted = rw (says-done b (length t) done)
-
-  pub table-means : spelled b (tableAfter b t) ≡ recordingOf b
-  table-means = table-spells b t (recordingOf b) table-accepted done
-
   -- whatever is said by the table that is left
   module _ {s : List ℕ} (f : s ≡ tableAfter b t) (n i : ℕ) where
     pub call-filled : within i (resolve (spelled b s) n) ≡ resolveCall b n i
-    call-filled = rw (f, table-means) (sym (call-means b n i table-accepted))
+    call-filled = rw (f, table-means b t done) (sym (call-means b n i (table-accepted b t done)))
 
     pub unit-filled : unitOf (spelled b s) n i ≡ unitCall b n i
-    unit-filled = rw (f, table-means) (sym (unit-means b n i table-accepted))
+    unit-filled = rw (f, table-means b t done) (sym (unit-means b n i (table-accepted b t done)))
 
     pub part-filled : partOf (spelled b s) (unitOf (spelled b s) n i) ≡ unitPart b (unitCall b n i)
-    part-filled = rw (f, table-means) (part-same b (recordingOf b) table-accepted n i)
+    part-filled = rw (f, table-means b t done) (part-same b (recordingOf b) (table-accepted b t done) n i)

@@ -9,7 +9,7 @@ ghost use Rattle.samples.specs.Check.{check};
 ghost use Rattle.bundles.specs.Limits.{bundleMost};
 ghost use Rattle.tables.specs.Tables.{spelled};
 ghost use Rattle.resolving.specs.Resolving.{sampleOf, spanOf, delivered, judged};
-ghost use Rattle.resolving.specs.Calls.{noSpan, numberFault, unitOf};
+ghost use Rattle.resolving.specs.Calls.{noSpan, unitOf};
 ghost use Rattle.resolution.specs.Steps.{spanFor, copiedSpan, spanAt, partOf};
 ghost use Rattle.resolution.specs.Answers.{unitAnswerOf};
 use crate::UnitFound;
@@ -20,7 +20,6 @@ use numbers::ByteOffset;
 use numbers::LengthSize;
 use numbers::Refusal;
 use numbers::SampleNumber;
-use numbers::refusals;
 use units::Extractor;
 use units::MaybeExtractor;
 use units::Track;
@@ -116,19 +115,6 @@ fn find(b: &[u8], t: &[u64], n: SampleNumber, k: Track, x: &[u8], i: usize) -> U
     no_unit()
 }
 
-// 30: a number 0 or past the last.
-pub(crate) fn number_fault(count: usize, n: usize) -> u8
-    ensures { λ r. ⌜ r ≡ numberFault count n ⌝ }
-{
-    if n == 0 {
-        return refusals::NO_SUCH_NUMBER;
-    }
-    if count < n {
-        return refusals::NO_SUCH_NUMBER;
-    }
-    0
-}
-
 // A refusal at 0.
 pub(crate) fn refused(number: u8) -> UnitFound
     ensures { λ r. ⌜ unitAnswerOf r ≡ refused number 0 ⌝ }
@@ -144,7 +130,7 @@ pub(crate) fn find_unit(b: &[u8], t: &[u64], n: SampleNumber, i: usize) -> UnitF
     requires { ⌜ length (now b) ≤ bundleMost ⌝ }
     ensures { λ r. ⌜ unitAnswerOf r ≡ unitOf (spelled (now (b .entry)) (now (t .entry))) (n .0) i ⌝ }
 {
-    let fault = number_fault(tables::sample_count(t), n.0);
+    let fault = judging::number_fault(tables::sample_count(t), n.0);
     if fault != 0 {
         return refused(fault);
     }
@@ -152,7 +138,7 @@ pub(crate) fn find_unit(b: &[u8], t: &[u64], n: SampleNumber, i: usize) -> UnitF
     match judged {
         Judged::Refused(f) => UnitFound::Refused(f),
         Judged::Good(a) => {
-            let past = number_fault(a.count, i);
+            let past = judging::number_fault(a.count, i);
             if past != 0 {
                 return refused(past);
             }

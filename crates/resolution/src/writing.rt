@@ -13,7 +13,6 @@ ghost use Rattle.resolving.specs.Calls.{output, resolve};
 ghost use Rattle.resolution.specs.Steps.{extractBytes, bytesAt};
 ghost use Rattle.resolution.specs.Answers.{answerOf};
 use crate::Resolved;
-use crate::finding;
 use judging::Judged;
 use links::Named;
 use numbers::ByteOffset;
@@ -129,7 +128,7 @@ pub(crate) fn resolve_sample(b: &[u8], t: &[u64], n: SampleNumber, out: &mut [u8
     ensures { λ r. ⌜ Wrote (now (out .entry)) (now (out .exit)) (answerOf r)
         (within (length (now (out .entry))) (resolve (spelled (now (b .entry)) (now (t .entry))) (n .0))) ⌝ }
 {
-    let fault = finding::number_fault(tables::sample_count(t), n.0);
+    let fault = judging::number_fault(tables::sample_count(t), n.0);
     if fault != 0 {
         return refused(fault);
     }

@@ -1,6 +1,7 @@
 -- What a table says, number by number, for any table. Assumes nothing.
 --
 --   tracks-count, references-count, samples-count    the counts
+--   samples-most                                     there are at most so many samples
 --   track-here, track-none, track-past               track k
 --   entry-here, entry-none, entry-past               sample n, but its bytes
 --   content-here, content-none, content-past         its bytes
@@ -9,12 +10,15 @@ use Prim.Native.Nat.{ℕ, zero, suc, _+_, _≤_, _<_}
 use mathlib.Core.Path.{_≡_, refl, ap, sym, _∙_}
 use mathlib.Core.List.{List, [], _∷_, map}
 use native.Mathlib.Omega.{arith}
-use borrow.Author.Tests.{le-leb, lt-leb}
+use borrow.Author.Tests.{le-leb, lt-leb, leb-true}
+use lib.Dec.{leb}
 use lib.ListN.{length, length-map}
 use Rattle.words.specs.Tests.{pick}
 use Rattle.words.specs.Lists.{nth, upto}
+use Rattle.words.proofs.Tests.{by-bool}
+use Rattle.bundles.specs.Limits.{sampleMost}
 use Rattle.bundles.specs.Recordings.{Layout, Recording, noTrack, noEntry, sampleCount, contentOf}
-use Rattle.tables.specs.Tables.{atMost, trackTotal, referenceTotal, sampleTotal, trackIn, referenceIn, entryIn, contentIn, laidOut, spelled}
+use Rattle.tables.specs.Tables.{atMost, countsRow, samplesColumn, cell, trackTotal, referenceTotal, sampleTotal, trackIn, referenceIn, entryIn, contentIn, laidOut, spelled}
 use Rattle.words.proofs.Rows.{upto-length, nth-upto, nth-past, nth-none}
 
 pub total-fits : (most n : ℕ) → n ≤ most → atMost most n ≡ n
@@ -35,6 +39,9 @@ module _ (t : List ℕ) where
   pub samples-count : sampleCount (laidOut t) ≡ sampleTotal t
   unfolding laidOut
   samples-count = length-map (upto (sampleTotal t)) (entryIn t) ∙ upto-length (sampleTotal t)
+
+  pub samples-most : sampleCount (laidOut t) ≤ sampleMost
+  samples-most = rw samples-count (by-bool (leb (cell t countsRow samplesColumn) sampleMost) (λ q. rw q (leb-true (cell t countsRow samplesColumn) sampleMost q)) (λ q. rw q (omega arith)))
 
   pub track-here : (k : ℕ) → 0 < k → k ≤ trackTotal t → nth (laidOut t .tracks) k noTrack ≡ trackIn t k
   unfolding laidOut

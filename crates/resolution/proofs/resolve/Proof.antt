@@ -5,9 +5,9 @@ use mathlib.Core.Path.{sym, _∙_}
 use lib.ListN.{length}
 use Rattle.resolution.proofs.resolve.Statement.{statement}
 use Rattle.words.proofs.Buffers.{refuse}
-use Rattle.filling.proofs.Promises.{says-refused, never-short}
+use Rattle.filling.proofs.Promises.{says-refused, never-short, table-short}
 use Rattle.resolving.proofs.Calls.{call-bundle}
-use Rattle.resolution.proofs.Answered.{table-short, call-filled}
+use Rattle.resolution.proofs.Answered.{call-filled}
 use Rattle.resolution.proofs.resolve.Tie as tie
 
 slice-aggregate-fill-table : tie.Need-slice-aggregate-fill-table

@@ -3,9 +3,9 @@ use borrow.Author.Needs.{needs}
 use native.Mathlib.Omega.{arith}
 use mathlib.Core.Path.{sym, _∙_}
 use Rattle.resolution.proofs.unit_answer.Statement.{statement}
-use Rattle.filling.proofs.Promises.{says-refused, never-short}
+use Rattle.filling.proofs.Promises.{says-refused, never-short, table-short}
 use Rattle.resolving.proofs.Calls.{unit-bundle}
-use Rattle.resolution.proofs.Answered.{table-short, unit-filled}
+use Rattle.resolution.proofs.Answered.{unit-filled}
 use Rattle.resolution.proofs.unit_answer.Tie as tie
 
 slice-aggregate-fill-table : tie.Need-slice-aggregate-fill-table

@@ -3,10 +3,10 @@ use borrow.Author.Needs.{needs}
 use native.Mathlib.Omega.{arith}
 use mathlib.Core.Path.{sym, ap, _∙_}
 use Rattle.resolution.proofs.unit_bytes.Statement.{statement}
-use Rattle.filling.proofs.Promises.{says-refused, never-short}
+use Rattle.filling.proofs.Promises.{says-refused, never-short, table-short}
 use Rattle.resolving.specs.Calls.{unitPart}
 use Rattle.resolving.proofs.Calls.{unit-bundle}
-use Rattle.resolution.proofs.Answered.{table-short, part-filled}
+use Rattle.resolution.proofs.Answered.{part-filled}
 use Rattle.resolution.proofs.unit_bytes.Tie as tie
 
 slice-aggregate-fill-table : tie.Need-slice-aggregate-fill-table

@@ -1,8 +1,8 @@
 -- Each return is a test of 30. Assumes nothing.
-use Rattle.resolution.proofs.finding.number_fault.Statement.{statement}
+use Rattle.judging.proofs.number_fault.Statement.{statement}
 use Rattle.words.proofs.Tests.{tests}
 use Rattle.resolving.specs.Calls.{numberFault}
-use Rattle.resolution.proofs.finding.number_fault.Tie as tie
+use Rattle.judging.proofs.number_fault.Tie as tie
 
 returns : tie.Need-returns
 unfolding numberFault

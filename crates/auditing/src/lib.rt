@@ -1,0 +1,1 @@
+// No code: what an audit of a bundle says of each sample, and what is promised of it.

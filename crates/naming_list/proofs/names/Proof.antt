@@ -1,0 +1,65 @@
+-- A bundle that is refused is so by its own refusal; a table so long is never too short. Assumes nothing.
+use borrow.Author.Needs.{needs}
+use native.Mathlib.Omega.{arith}
+use mathlib.Core.Path.{sym, _∙_}
+use lib.ListN.{length}
+use Rattle.words.proofs.Buffers.{refuse}
+use Rattle.filling.proofs.Promises.{says-refused, never-short, table-short}
+use Rattle.naming_list.proofs.Listings.{call-bundle, call-filled}
+use Rattle.naming_list.proofs.names.Statement.{statement}
+use Rattle.naming_list.proofs.names.Tie as tie
+
+slice-aggregate-fill-table : tie.Need-slice-aggregate-fill-table
+slice-aggregate-fill-table c = search needs
+
+fill-table-requires : tie.Need-fill-table-requires
+fill-table-requires c κs = search needs
+
+enum-known-filled : tie.Need-enum-known-filled
+enum-known-filled c = search needs
+
+enum-told : tie.Need-enum-told
+enum-told c = search needs
+
+refused-requires : tie.Need-refused-requires
+refused-requires c κs = search needs
+
+enum-told-2 : tie.Need-enum-told-2
+enum-told-2 c = search needs
+
+slice-aggregate-list-sample : tie.Need-slice-aggregate-list-sample
+slice-aggregate-list-sample c = search needs
+
+list-sample-requires : tie.Need-list-sample-requires
+list-sample-requires c κs = (table-short _ _ (sym (c .before .before .before .before .before .fill-table .ensures .0) ∙ c .before .before .enum-told2 .given .1), omega arith)
+
+returns : tie.Need-returns
+returns c =
+    let a = c .before .before .before .before .before .before .before .before .args in
+    refuse (call-bundle (a .b .now) (a .s .0) _ (says-refused (a .b .now) _ (c .before .filled .given .0 .0) (sym (c .before .before .before .before .fill-table .ensures .0) ∙ c .before .filled .given .1)))
+
+returns-2 : tie.Need-returns-2
+returns-2 c = absurd (never-short _ _ _ (omega arith) (sym (c .before .before .before .before .fill-table .ensures .0) ∙ c .before .enum-told .given .1))
+
+same-length : tie.Need-same-length
+same-length c = search needs
+
+returns-3 : tie.Need-returns-3
+returns-3 c = let a = c .before .before .before .before .before .before .before .before .before .before .before .before .before .args in rw (← call-filled _ _ (sym (c .before .before .before .before .before .before .before .before .before .fill-table .ensures .0) ∙ c .before .before .before .before .before .before .enum-told2 .given .1) (c .before .before .before .before .before .before .before .before .before .fill-table .ensures .1) (a .s .0) (length (a .out .now))) (c .before .before .before .list-sample .ensures)
+
+pub names-spec : {M : Type 1} → statement M
+names-spec =
+    tie.close
+    (tie.spec
+    slice-aggregate-fill-table
+    fill-table-requires
+    enum-known-filled
+    enum-told
+    refused-requires
+    enum-told-2
+    slice-aggregate-list-sample
+    list-sample-requires
+    returns
+    returns-2
+    same-length
+    returns-3)

@@ -1,0 +1,227 @@
+// The naming list: the extractors that name a sample.
+ghost use mathlib.Core.Path.{_≡_};
+ghost use mathlib.Core.List.{map};
+ghost use Prim.Native.Nat.{ℕ, _+_, _*_, _≤_, _<_};
+ghost use lib.ListN.{length};
+ghost use Rattle.words.specs.Tests.{pick};
+ghost use Rattle.words.specs.Refusals.{refused, ok};
+ghost use Rattle.words.specs.Buffers.{writeAt, overwrite, within, Wrote};
+ghost use Rattle.units.specs.Units.{sample};
+ghost use Rattle.samples.specs.Check.{check};
+ghost use Rattle.bundles.specs.Limits.{bundleMost};
+ghost use Rattle.bundles.specs.Recordings.{sampleCount};
+ghost use Rattle.tables.specs.Tables.{tableMost, laidOut, spelled, flagIn};
+ghost use Rattle.naming.specs.Naming.{namer, namersIn, namingList, listBytes, names, namesCall};
+ghost use Rattle.naming_list.specs.Steps.{namesWith, namesAt, namersFrom, entrySize, listMost, withEntry, answerOf};
+use filling::Filled;
+use links::Named;
+use numbers::ByteOffset;
+use numbers::LengthSize;
+use numbers::Refusal;
+use numbers::SampleNumber;
+use numbers::refusals;
+use samples::Checked;
+use units::Extractor;
+use units::MaybeExtractor;
+use units::Track;
+
+// An entry of the list: the number of the extractor's own sample in 2 bytes, its place there in 4.
+const SAMPLE_SIZE: usize = 2;
+
+const PLACE_SIZE: usize = 4;
+
+const ENTRY_SIZE: usize = 6;
+
+// The naming list of a sample: how many bytes of the output are written, or a refusal.
+pub enum Listed {
+    Refused(Refusal),
+    Count(usize),
+}
+
+// Whether an extractor in sample n names sample s.
+fn names_with(t: &[u64], n: SampleNumber, f: Extractor, s: SampleNumber) -> bool
+    ensures { λ r. ⌜ r ≡ namesWith (laidOut (now (t .entry))) (s .0) (n .0) f ⌝ }
+{
+    let named = links::name(t, n, f.track_ref_index, f.sample_offset);
+    match named {
+        Named::Refused(_) => false,
+        Named::Sample(m) => m.0 == s.0,
+    }
+}
+
+// Whether the unit at a place of sample n, which is x, is an extractor that names sample s.
+fn names_at(t: &[u64], n: SampleNumber, k: Track, x: &[u8], at: ByteOffset, s: SampleNumber) -> bool
+    ensures { λ r. ⌜ r ≡ namesAt (laidOut (now (t .entry))) (s .0) (n .0) (sample k (now (x .entry))) (at .0) ⌝ }
+{
+    if units::type_at(k, x, at) != units::EXTRACTOR {
+        return false;
+    }
+    let found = units::extractor_at(k, x, at, ByteOffset(x.len()));
+    match found {
+        MaybeExtractor::Extractor(f) => names_with(t, n, f, s),
+        MaybeExtractor::Nothing => false,
+    }
+}
+
+// An entry over a buffer, where there is room for it.
+fn put_entry(out: &mut [u8], at: usize, n: SampleNumber, p: ByteOffset)
+    requires { ⌜ at ≤ listMost * 2 ⌝ }
+    ensures { λ _. ⌜ now (out .exit) ≡ withEntry (now (out .entry)) at (n .0) (p .0) ⌝ }
+{
+    numbers::put_number(out, at, SAMPLE_SIZE, n.0);
+    numbers::put_number(out, at + SAMPLE_SIZE, PLACE_SIZE, p.0);
+}
+
+// The entry of the unit at a place of sample n, which is x, if that names sample s: how many entries this is.
+fn put_namer(
+    out: &mut [u8],
+    at: usize,
+    t: &[u64],
+    n: SampleNumber,
+    k: Track,
+    x: &[u8],
+    p: ByteOffset,
+    s: SampleNumber,
+) -> usize
+    requires { ⌜ at ≤ listMost * 2 ⌝ }
+    ensures { λ r. ⌜ (r ≡ pick (namesAt (laidOut (now (t .entry))) (s .0) (n .0) (sample k (now (x .entry))) (p .0)) 1 0)
+        × (now (out .exit) ≡ pick (namesAt (laidOut (now (t .entry))) (s .0) (n .0) (sample k (now (x .entry))) (p .0)) (withEntry (now (out .entry)) at (n .0) (p .0)) (now (out .entry))) ⌝ }
+{
+    if names_at(t, n, k, x, p, s) {
+        put_entry(out, at, n, p);
+        return 1;
+    }
+    0
+}
+
+// The extractors of sample n, which is x and well formed, that name sample s: how many they are. Their entries are written where there is
+// room for them all.
+fn put_namers(
+    out: &mut [u8],
+    at: usize,
+    t: &[u64],
+    n: SampleNumber,
+    k: Track,
+    x: &[u8],
+    s: SampleNumber,
+) -> usize
+    requires { ⌜ (check (sample k (now x)) ≡ ok tt) × (length (now x) ≤ bundleMost) × (at ≤ listMost) ⌝ }
+    ensures { λ r. ⌜ (r ≡ length (namersFrom (laidOut (now (t .entry))) (s .0) (n .0) (sample k (now (x .entry))) 0))
+        × (at + r * entrySize ≤ length (now (out .entry))
+        → now (out .exit) ≡ writeAt (now (out .entry)) at (listBytes (map (namer (n .0)) (namersFrom (laidOut (now (t .entry))) (s .0) (n .0) (sample k (now (x .entry))) 0)))) ⌝ }
+{
+    let l = k.length_size;
+    let w = l.bytes();
+    let mut count: usize = 0;
+    let mut p: usize = 0;
+    while p < x.len() {
+        if units::type_at(k, x, ByteOffset(p)) == units::AGGREGATOR {
+            p = p + w + LengthSize::HEADER + w;
+        } else {
+            let found = put_namer(out, at + count * ENTRY_SIZE, t, n, k, x, ByteOffset(p), s);
+            count += found;
+            p = p + w + l.number(x, p);
+        }
+    }
+    count
+}
+
+// How many extractors of sample n name sample s; none where sample n is not well formed.
+fn count_in(b: &[u8], t: &[u64], n: SampleNumber, s: SampleNumber) -> usize
+    requires { ⌜ length (now b) ≤ bundleMost ⌝ }
+    ensures { λ r. ⌜ r ≡ length (namersIn (spelled (now (b .entry)) (now (t .entry))) (s .0) (n .0)) ⌝ }
+{
+    let k = judging::track_of(t, n);
+    let x = tables::sample_bytes(b, t, n);
+    let checked = samples::check_sample(k, x);
+    match checked {
+        Checked::Refused(_) => 0,
+        Checked::WellFormed => {
+            let mut nothing = [0u8; 1];
+            put_namers(&mut nothing, 0, t, n, k, x, s)
+        }
+    }
+}
+
+// How many extractors name sample s. The flag of each sample tells how many of them stand in it.
+fn count_all(b: &[u8], t: &mut [u64], s: SampleNumber) -> usize
+    requires { ⌜ (length (now b) ≤ bundleMost) × (tableMost ≤ length (now t)) ⌝ }
+    ensures { λ r. ⌜ (r ≡ length (namingList (spelled (now (b .entry)) (now (t .entry))) (s .0)))
+        × (spelled (now (b .entry)) (now (t .exit)) ≡ spelled (now (b .entry)) (now (t .entry)))
+        × ((m : ℕ) → 0 < m → m ≤ sampleCount (laidOut (now (t .entry))) → flagIn (now (t .exit)) m ≡ length (namersIn (spelled (now (b .entry)) (now (t .entry))) (s .0) m)) ⌝ }
+{
+    let total = tables::sample_count(t);
+    let mut count: usize = 0;
+    let mut n: usize = 0;
+    while n < total {
+        n += 1;
+        let found = count_in(b, t, SampleNumber(n), s);
+        tables::set_flag(t, SampleNumber(n), found as u64);
+        count += found;
+    }
+    count
+}
+
+// The naming list of sample s over the start of a buffer that has room, by a table with its flags set.
+fn put_list(out: &mut [u8], b: &[u8], t: &[u64], s: SampleNumber)
+    requires { ⌜ (length (now b) ≤ bundleMost)
+        × (length (listBytes (namingList (spelled (now b) (now t)) (s .0))) ≤ length (now out))
+        × ((m : ℕ) → 0 < m → m ≤ sampleCount (laidOut (now t)) → flagIn (now t) m ≡ length (namersIn (spelled (now b) (now t)) (s .0) m)) ⌝ }
+    ensures { λ _. ⌜ now (out .exit) ≡ overwrite (now (out .entry)) (listBytes (namingList (spelled (now (b .entry)) (now (t .entry))) (s .0))) ⌝ }
+{
+    let total = tables::sample_count(t);
+    let mut at: usize = 0;
+    let mut n: usize = 0;
+    while n < total {
+        n += 1;
+        if tables::flag(t, SampleNumber(n)) != 0 {
+            let k = judging::track_of(t, SampleNumber(n));
+            let x = tables::sample_bytes(b, t, SampleNumber(n));
+            let found = put_namers(out, at, t, SampleNumber(n), k, x, s);
+            at += found * ENTRY_SIZE;
+        }
+    }
+}
+
+// A refusal at 0.
+fn refused(number: u8) -> Listed
+    ensures { λ r. ⌜ answerOf r ≡ refused number 0 ⌝ }
+{
+    Listed::Refused(Refusal {
+        number: number,
+        place: ByteOffset(0),
+    })
+}
+
+// The naming list of sample s: 30, 29, or the list over the start of the buffer.
+fn list_sample(b: &[u8], t: &mut [u64], s: SampleNumber, out: &mut [u8]) -> Listed
+    requires { ⌜ (length (now b) ≤ bundleMost) × (tableMost ≤ length (now t)) ⌝ }
+    ensures { λ r. ⌜ Wrote (now (out .entry)) (now (out .exit)) (answerOf r)
+        (within (length (now (out .entry))) (names (spelled (now (b .entry)) (now (t .entry))) (s .0))) ⌝ }
+{
+    let fault = judging::number_fault(tables::sample_count(t), s.0);
+    if fault != 0 {
+        return refused(fault);
+    }
+    let count = count_all(b, t, s);
+    let size = count * ENTRY_SIZE;
+    if out.len() < size {
+        return refused(refusals::OUTPUT_TOO_LONG);
+    }
+    put_list(out, b, t, s);
+    Listed::Count(size)
+}
+
+// The extractors that name sample s: 1 to 13, 30, 29; or the list over the start of the buffer, 6 bytes an extractor, and how many bytes
+// that is. After a refusal the buffer is as it was.
+pub fn names(b: &[u8], s: SampleNumber, out: &mut [u8]) -> Listed
+    ensures { λ r. ⌜ Wrote (now (out .entry)) (now (out .exit)) (answerOf r) (namesCall (now (b .entry)) (s .0) (length (now (out .entry)))) ⌝ }
+{
+    let mut t = [0u64; tables::TABLE_SIZE];
+    let filled = filling::fill_table(b, &mut t);
+    match filled {
+        Filled::Refused(f) => Listed::Refused(f),
+        Filled::NoRoom(_) => refused(refusals::OUTPUT_TOO_LONG),
+        Filled::Done => list_sample(b, &mut t, s, out),
+    }
+}
