@@ -4,6 +4,7 @@
 --   table-spells       a table that was filled from an accepted bundle spells its recording
 --   table-lays-out     and says its layout
 --   table-ranges       and each track's samples
+--   table-starts       and where each sample starts in the bundle
 --   table-unflagged    its flags are 0
 --   table-refused, table-no-room    a refused bundle and a table without room leave it as it was
 --   table-room         16,708 numbers are enough for every accepted bundle
@@ -17,22 +18,22 @@ use mathlib.Core.Bool.{Bool, true, false}
 use mathlib.Core.List.{List}
 use native.Mathlib.Omega.{arith}
 use native.Mathlib.Nat.{pos-of-ne-zero}
-use borrow.Author.Tests.{leb-true, le-leb, ltb-false, eqb-false}
+use borrow.Author.Tests.{leb-true, le-leb, ltb-false, eqb-false, ne-eqb, le-ltb}
 use lib.Dec.{leb, ltb, eqb}
 use lib.ListN.{length}
 use Rattle.words.specs.Tests.{_≤?_, pick}
 use Rattle.words.specs.Refusals.{Answer, refused, ok, Verdict}
 use Rattle.words.proofs.Tests.{by-bool}
-use Rattle.bundles.specs.Recordings.{Layout, Recording, samplesIn}
+use Rattle.bundles.specs.Recordings.{Layout, Recording, sampleCount, samplesIn}
 use Rattle.bundles.specs.Limits.{bundleMost}
 use Rattle.bundles.specs.Samples.{entryCount}
-use Rattle.bundles.specs.Bundles.{bundleVerdict, recordingOf, meaning}
-use Rattle.bundles.proofs.Sections.{Accepted, accepted}
+use Rattle.bundles.specs.Bundles.{bundleVerdict, layoutOf, recordingOf, meaning, contentAt}
+use Rattle.bundles.proofs.Sections.{Accepted, accepted, sample-count}
 use Rattle.bundles.proofs.Promises.{means}
 use Rattle.filling.specs.declared.Filled.{Filled}
 use Rattle.filling.specs.declared.Filled.the-variants.{Refused, NoRoom, Done}
 use Rattle.numbers.specs.declared.Refusal.{Refusal}
-use Rattle.tables.specs.Tables.{tableSize, tableMost, cell, sampleTotal, sampleRow, laidOut, spelled, rangeIn, numbersIn, flagIn, flagged}
+use Rattle.tables.specs.Tables.{tableSize, tableMost, cell, sampleTotal, sampleRow, laidOut, spelled, rangeIn, numbersIn, startIn, flagIn, flagged}
 use Rattle.filling.specs.Filling.{tableOf, fillAnswer, fillTable, filling, tableAfter}
 use Rattle.filling.proofs.Spelling.{filled, filled-is, filled-layout, filled-spells, sample-cell, sample-total}
 use Rattle.tables.proofs.Ranges.{range-samples}
@@ -78,6 +79,22 @@ module _ (b t : List ℕ) (r : Recording) (means-r : meaning b ≡ ok r) (done :
   flag-cell n h l =
       let e : n - 1 + 1 ≡ n = omega arith in
       rw e at (sample-cell b t (accepted b good) room (n - 1) 3 (omega arith) (omega arith))
+
+  start-cell : (n : ℕ) → 0 < n → n ≤ entryCount b → cell x (sampleRow n) 1 ≡ contentAt b n
+  start-cell n h l =
+      let e : n - 1 + 1 ≡ n = omega arith in
+      rw e at (sample-cell b t (accepted b good) room (n - 1) 1 (omega arith) (omega arith))
+
+  starts : (n : ℕ) → 0 < n → n ≤ entryCount b → startIn x n ≡ contentAt b n
+  unfolding startIn
+  starts n h l =
+      let s = sample-total b t (accepted b good) room in
+      rw (ne-eqb n 0 (λ z. omega arith), le-ltb (sampleTotal x) n (omega arith)) (start-cell n h l)
+
+  pub table-starts : (n : ℕ) → 0 < n → n ≤ sampleCount (r .layout) → startIn (tableAfter b t) n ≡ contentAt b n
+  table-starts n h l =
+      let e : sampleCount (r .layout) ≡ entryCount b = ap (λ (y : Recording). sampleCount (y .layout)) (sym (means b means-r .1)) ∙ (unfold recordingOf layoutOf in sample-count b) in
+      rw (written, filled-is b t (accepted b good) room) (starts n h (omega arith))
 
   unflagged : (n : ℕ) → flagIn x n ≡ 0
   unfolding flagIn

@@ -5,13 +5,13 @@
 --   find-number, find-sample, find-past, find-good    one delivered unit
 --   found-inside                           it lies in its sample
 --   part-same                              it is the part of the bundle that is promised
---   call-filled, unit-filled, part-filled    the calls by that table
-use Prim.Native.Nat.{ℕ, _≤_, _<_}
+--   call-filled, unit-filled, part-filled, place-filled    the calls by a table that was filled
+--   starts-inside                          samples start within the bundle
+use Prim.Native.Nat.{ℕ, _-_, _≤_, _<_}
 use mathlib.Core.Path.{_≡_, refl, ap, sym, _∙_}
 use mathlib.Core.List.{List, []}
 use native.Mathlib.Omega.{arith}
 use lib.ListN.{length}
-use Rattle.bundles.specs.Limits.{bundleMost}
 use Rattle.words.specs.Refusals.{Answer, refused, ok, _andThen_}
 use Rattle.words.specs.RefusalNumbers.{outputTooLong}
 use Rattle.words.specs.Lists.{nth}
@@ -20,14 +20,16 @@ use Rattle.words.proofs.Refusals.{at-ok, at-none, at-refused, and-ok, by-verdic
 use Rattle.words.proofs.Lists.{nth-mem}
 use Rattle.words.proofs.Buffers.{within-room, within-not}
 use Rattle.bundles.specs.Recordings.{Recording, sampleCount}
-use Rattle.bundles.specs.Bundles.{bundleVerdict, meaning, recordingOf}
-use Rattle.bundles.proofs.Sections.{accepted}
-use Rattle.tables.specs.Tables.{spelled}
+use Rattle.bundles.specs.Samples.{lengths}
+use Rattle.bundles.specs.Bundles.{meaning, recordingOf, contentAt}
+use Rattle.bundles.proofs.Promises.{sum-exact}
+use Rattle.words.proofs.Rows.{take-sum-le}
+use Rattle.tables.specs.Tables.{laidOut, spelled, startIn}
 use Rattle.filling.specs.Filling.{filling, tableAfter}
 use Rattle.filling.specs.declared.Filled.the-variants.{Done}
-use Rattle.filling.proofs.Promises.{table-accepted, table-means}
+use Rattle.filling.proofs.Promises.{table-accepted, table-means, table-starts, table-lays-out}
 use Rattle.resolving.specs.Resolving.{Span, delivered, judged}
-use Rattle.resolving.specs.Calls.{output, noSpan, numberFault, resolve, unitOf, resolveCall, unitCall, unitPart, spanBytes}
+use Rattle.resolving.specs.Calls.{output, noSpan, numberFault, resolve, unitOf, standing, resolveCall, unitCall, placeCall, unitPart, spanBytes}
 use Rattle.judging.specs.Steps.{judgement}
 use Rattle.resolution.specs.Steps.{partOf}
 use Rattle.judging.specs.declared.Amount.{Amount}
@@ -112,8 +114,21 @@ module _ (b : List ℕ) (r : Recording) (e : meaning b ≡ ok r) (n i : ℕ) whe
   pub part-same : partOf r (unitOf r n i) ≡ unitPart b (unitCall b n i)
   part-same = by-answer (unitOf r n i) refl ∙ ap (unitPart b) (sym (unit-means b n i e))
 
+-- where a sample starts in an accepted bundle
+content-most : (b : List ℕ) (r : Recording) → meaning b ≡ ok r → (n : ℕ) → contentAt b n ≤ length b
+unfolding contentAt
+content-most b r e n = let a = take-sum-le (lengths b) (n - 1) in let z = sum-exact b r e .1 in omega arith
+
+-- where a unit stands, by two tellings of where samples start
+stands-same : (f g : ℕ → ℕ) (a : Answer Span) → ((u : Span) → a ≡ ok u → f (u .sample) ≡ g (u .sample)) → standing f a ≡ standing g a
+stands-same f g (refused m p) h = refl
+stands-same f g (ok u) h = rw (h u refl)
+
 -- a table that was filled
 module _ (b t : List ℕ) (done : filling b (length t) ≡ Done) where
+  starts-at : (n : ℕ) → 0 < n → n ≤ sampleCount (recordingOf b .layout) → startIn (tableAfter b t) n ≡ contentAt b n
+  starts-at = table-starts b t (recordingOf b) (table-accepted b t done) done
+
   -- whatever is said by the table that is left
   module _ {s : List ℕ} (f : s ≡ tableAfter b t) (n i : ℕ) where
     pub call-filled : within i (resolve (spelled b s) n) ≡ resolveCall b n i
@@ -124,3 +139,17 @@ module _ (b t : List ℕ) (done : filling b (length t) ≡ Done) where
 
     pub part-filled : partOf (spelled b s) (unitOf (spelled b s) n i) ≡ unitPart b (unitCall b n i)
     part-filled = rw (f, table-means b t done) (part-same b (recordingOf b) (table-accepted b t done) n i)
+
+    pub place-filled : standing (startIn s) (unitOf (spelled b s) n i) ≡ placeCall b n i
+    unfolding placeCall
+    place-filled =
+        rw (f, table-means b t done)
+        (stands-same (startIn (tableAfter b t)) (contentAt b) (unitOf (recordingOf b) n i) (λ u e. let w = found-there (recordingOf b) n i u e in starts-at (u .sample) (w .0) (w .1))
+        ∙ ap (standing (contentAt b)) (sym (unit-means b n i (table-accepted b t done))))
+
+  pub starts-inside : {s : List ℕ} → s ≡ tableAfter b t → (m : ℕ) → 0 < m → m ≤ sampleCount (laidOut s) → startIn s m ≤ length b
+  starts-inside {s} f m h l =
+      let y : laidOut s ≡ recordingOf b .layout = ap laidOut f ∙ table-lays-out b t (recordingOf b) (table-accepted b t done) done in
+      let k = rw y at l in
+      let c = content-most b (recordingOf b) (table-accepted b t done) m in
+      rw (f, starts-at m h k) c

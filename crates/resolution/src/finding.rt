@@ -1,18 +1,21 @@
 // One delivered unit by its number, by a bundle and any table beside it.
 ghost use mathlib.Core.Path.{_≡_};
-ghost use Prim.Native.Nat.{_≤_, _<_};
+ghost use Prim.Native.Nat.{ℕ, _≤_, _<_};
 ghost use lib.ListN.{length};
 ghost use Rattle.words.specs.Refusals.{refused, ok};
 ghost use Rattle.words.specs.Lists.{nth};
 ghost use Rattle.units.specs.Units.{sample, next};
 ghost use Rattle.samples.specs.Check.{check};
 ghost use Rattle.bundles.specs.Limits.{bundleMost};
-ghost use Rattle.tables.specs.Tables.{spelled};
+ghost use Rattle.bundles.specs.Recordings.{sampleCount};
+ghost use Rattle.tables.specs.Tables.{laidOut, spelled, startIn};
 ghost use Rattle.resolving.specs.Resolving.{sampleOf, spanOf, delivered, judged};
-ghost use Rattle.resolving.specs.Calls.{noSpan, unitOf};
+ghost use Rattle.resolving.specs.Calls.{noSpan, unitOf, standing};
 ghost use Rattle.resolution.specs.Steps.{spanFor, copiedSpan, spanAt, partOf};
-ghost use Rattle.resolution.specs.Answers.{unitAnswerOf};
+ghost use Rattle.resolution.specs.Answers.{unitAnswerOf, placeAnswerOf};
 use crate::UnitFound;
+use crate::UnitPart;
+use crate::UnitPlaced;
 use crate::UnitSpan;
 use judging::Judged;
 use links::Named;
@@ -145,6 +148,35 @@ pub(crate) fn find_unit(b: &[u8], t: &[u64], n: SampleNumber, i: usize) -> UnitF
             let k = judging::track_of(t, n);
             let x = tables::sample_bytes(b, t, n);
             UnitFound::Span(find(b, t, n, k, x, i))
+        }
+    }
+}
+
+// A refusal at 0.
+pub(crate) fn unplaced(number: u8) -> UnitPlaced
+    ensures { λ r. ⌜ placeAnswerOf r ≡ refused number 0 ⌝ }
+{
+    UnitPlaced::Refused(Refusal {
+        number: number,
+        place: ByteOffset(0),
+    })
+}
+
+// Where the ith unit that sample n delivers stands, by a table in which samples start within the bundle.
+pub(crate) fn place_unit(b: &[u8], t: &[u64], n: SampleNumber, i: usize) -> UnitPlaced
+    requires { ⌜ (length (now b) ≤ bundleMost) × ((m : ℕ) → 0 < m → m ≤ sampleCount (laidOut (now t)) → startIn (now t) m ≤ length (now b)) ⌝ }
+    ensures { λ r. ⌜ placeAnswerOf r ≡ standing (startIn (now (t .entry))) (unitOf (spelled (now (b .entry)) (now (t .entry))) (n .0) i) ⌝ }
+{
+    let found = find_unit(b, t, n, i);
+    match found {
+        UnitFound::Refused(f) => UnitPlaced::Refused(f),
+        UnitFound::Span(u) => {
+            let sample = tables::sample_start(t, u.sample);
+            let start = sample.0 + u.start.0;
+            UnitPlaced::Part(UnitPart {
+                start: ByteOffset(start),
+                size: u.size,
+            })
         }
     }
 }

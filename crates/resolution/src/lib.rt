@@ -5,8 +5,8 @@ mod writing;
 ghost use mathlib.Core.Path.{_≡_};
 ghost use lib.ListN.{length};
 ghost use Rattle.words.specs.Buffers.{Wrote};
-ghost use Rattle.resolving.specs.Calls.{resolveCall, unitCall, unitPart};
-ghost use Rattle.resolution.specs.Answers.{answerOf, unitAnswerOf};
+ghost use Rattle.resolving.specs.Calls.{resolveCall, unitCall, placeCall, unitPart};
+ghost use Rattle.resolution.specs.Answers.{answerOf, unitAnswerOf, placeAnswerOf};
 use filling::Filled;
 use numbers::ByteOffset;
 use numbers::Refusal;
@@ -24,6 +24,18 @@ pub struct UnitSpan {
 pub enum UnitFound {
     Refused(Refusal),
     Span(UnitSpan),
+}
+
+// A part of the bundle: where it starts, and its size.
+pub struct UnitPart {
+    pub start: ByteOffset,
+    pub size: usize,
+}
+
+// Where in the bundle one delivered unit stands, or a refusal.
+pub enum UnitPlaced {
+    Refused(Refusal),
+    Part(UnitPart),
 }
 
 // A sample resolved: how many bytes of the output are written, or a refusal.
@@ -69,5 +81,18 @@ pub fn unit_bytes<'a>(b: &'a [u8], n: SampleNumber, k: usize) -> &'a [u8]
         Filled::Refused(_) => &b[..0],
         Filled::NoRoom(_) => &b[..0],
         Filled::Done => finding::unit_part(b, &t, n, k),
+    }
+}
+
+// Where in the bundle its bytes stand.
+pub fn unit_place(b: &[u8], n: SampleNumber, k: usize) -> UnitPlaced
+    ensures { λ r. ⌜ placeAnswerOf r ≡ placeCall (now (b .entry)) (n .0) k ⌝ }
+{
+    let mut t = [0u64; tables::TABLE_SIZE];
+    let filled = filling::fill_table(b, &mut t);
+    match filled {
+        Filled::Refused(f) => UnitPlaced::Refused(f),
+        Filled::NoRoom(_) => finding::unplaced(refusals::NO_SUCH_NUMBER),
+        Filled::Done => finding::place_unit(b, &t, n, k),
     }
 }

@@ -8,6 +8,7 @@
 --   unitOf r n k            the kth unit that sample n delivers
 --   resolveCall b n room    the call on a bundle, with room for the output
 --   unitCall b n k          the call for one unit
+--   placeCall b n k         the call for where in the bundle that unit stands
 --   spanIn b u              a delivered unit as a part of the bundle
 --   unitPart b a            that part for the answer of unitCall; empty if refused
 use Prim.Native.Nat.{ℕ, _+_}
@@ -53,6 +54,16 @@ module _ (r : Recording) (n : ℕ) where
       numberFault (sampleCount (r .layout)) n atPlace 0 andThen judged r n andThen
       numberFault (length (delivered r n)) k atPlace 0 andThen ok (nth (delivered r n) k noSpan)
 
+-- A part of the bundle: where it starts, and its size.
+pub record Stretch : Type 0 where
+  pub start : ℕ
+  pub size : ℕ
+
+-- where a delivered unit stands, by where each sample starts
+abbrev pub standing : (ℕ → ℕ) → Answer Span → Answer Stretch
+standing starts (refused n p) = refused n p
+standing starts (ok u) = ok (record { start = starts (u .sample) + u .start; size = u .size })
+
 -- 1 to 13, else what is said of the recording
 abbrev pub onBundle : {A : Type 0} → Answer Recording → (Recording → Answer A) → Answer A
 onBundle (refused n p) call = refused n p
@@ -64,6 +75,9 @@ module _ (b : List ℕ) where
 
   unfoldable pub unitCall : ℕ → ℕ → Answer Span
   unitCall n k = onBundle (meaning b) (λ r. unitOf r n k)
+
+  unfoldable pub placeCall : ℕ → ℕ → Answer Stretch
+  placeCall n k = standing (contentAt b) (unitCall n k)
 
   unfoldable pub spanIn : Span → List ℕ
   spanIn u = part b (contentAt b (u .sample) + u .start) (u .size)

@@ -8,6 +8,7 @@
 --   spelled b t           the recording that it spells with the bytes b
 --   rangeIn t k           the samples of track k: those after `before`, up to `after`
 --   numbersIn r           their numbers
+--   startIn t n           where the bytes of sample n start
 --   flagIn t n            the flag of sample n
 --   flagged t n v         the table with that flag set
 use Prim.Native.Nat.{ℕ, zero, suc, _+_, _-_, _*_}
@@ -145,6 +146,10 @@ module _ (t : List ℕ) where
       pick (k ≡? 0) (record { before = 0; after = 0 })
       (pick (trackTotal <? k) (record { before = 0; after = 0 })
       (record { before = beforeIn k; after = afterIn k trackTotal }))
+
+  -- where the bytes of sample n start in the bundle
+  unfoldable pub startIn : ℕ → ℕ
+  startIn n = pick (n ≡? 0) 0 (pick (sampleTotal <? n) 0 (cell (sampleRow n) startColumn))
 
   unfoldable pub flagIn : ℕ → ℕ
   flagIn n = pick (n ≡? 0) 0 (pick (sampleTotal <? n) 0 (cell (sampleRow n) flagColumn))

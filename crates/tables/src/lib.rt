@@ -9,7 +9,8 @@ ghost use Rattle.numbers.specs.Kinds.{kindOf};
 ghost use Rattle.numbers.specs.Sizes.{lengthSizeOf};
 ghost use Rattle.bundles.specs.Recordings.{noTrack, noReference, sampleCount, trackOf, timeOf, referencesFrom, contentOf};
 ghost use Rattle.bundles.specs.Tracks.{knownKind, knownSize};
-ghost use Rattle.tables.specs.Tables.{inside, flagIn, flagged, cell, trackTotal, referenceTotal, sampleTotal, ownerIn, afterIn, rangeIn, laidOut, spelled};
+ghost use Rattle.tables.specs.Tables.{inside, startIn, flagIn, flagged, cell, trackTotal, referenceTotal, sampleTotal, ownerIn, afterIn, rangeIn, laidOut, spelled};
+use numbers::ByteOffset;
 use numbers::Kind;
 use numbers::LengthSize;
 use numbers::MaybeKind;
@@ -247,6 +248,20 @@ pub fn sample_bytes<'a>(b: &'a [u8], t: &[u64], n: SampleNumber) -> &'a [u8]
         cell(t, SAMPLE_ROW + m, START),
         cell(t, SAMPLE_ROW + m, LENGTH),
     )
+}
+
+// Where the bytes of a sample start in the bundle; 0 where there is no such sample.
+pub fn sample_start(t: &[u64], n: SampleNumber) -> ByteOffset
+    ensures { λ r. ⌜ r .0 ≡ startIn (now (t .entry)) (n .0) ⌝ }
+{
+    let m = n.0;
+    if m == 0 {
+        return ByteOffset(0);
+    }
+    if sample_total(t) < m {
+        return ByteOffset(0);
+    }
+    ByteOffset(cell(t, SAMPLE_ROW + m, START))
 }
 
 // The end of track k's samples, lowered by where a later track j's start.

@@ -1,0 +1,65 @@
+-- A bundle that is refused is so by its own refusal; a table so long is never too short. Assumes nothing.
+use borrow.Author.Needs.{needs}
+use native.Mathlib.Omega.{arith}
+use mathlib.Core.Path.{sym, ap, _∙_}
+use Rattle.bundles.specs.Bundles.{contentAt}
+use Rattle.filling.proofs.Promises.{says-refused, never-short, table-short}
+use Rattle.resolving.specs.Calls.{standing, placeCall}
+use Rattle.resolving.proofs.Calls.{unit-bundle}
+use Rattle.resolution.proofs.Answered.{place-filled, starts-inside}
+use Rattle.resolution.proofs.unit_place.Statement.{statement}
+use Rattle.resolution.proofs.unit_place.Tie as tie
+
+slice-aggregate-fill-table : tie.Need-slice-aggregate-fill-table
+slice-aggregate-fill-table c = search needs
+
+fill-table-requires : tie.Need-fill-table-requires
+fill-table-requires c κs = search needs
+
+enum-known-filled : tie.Need-enum-known-filled
+enum-known-filled c = search needs
+
+enum-told : tie.Need-enum-told
+enum-told c = search needs
+
+unplaced-requires : tie.Need-unplaced-requires
+unplaced-requires c κs = search needs
+
+enum-told-2 : tie.Need-enum-told-2
+enum-told-2 c = search needs
+
+slice-aggregate-place-unit : tie.Need-slice-aggregate-place-unit
+slice-aggregate-place-unit c = search needs
+
+place-unit-requires : tie.Need-place-unit-requires
+place-unit-requires c κs =
+    let d = sym (c .before .before .before .before .fill-table .ensures .0) ∙ c .before .enum-told2 .given .1 in
+    (table-short _ _ d, starts-inside _ _ d (c .before .before .before .before .fill-table .ensures .1))
+
+returns : tie.Need-returns
+unfolding placeCall
+returns c =
+    let a = c .before .before .before .before .before .before .before .args in
+    sym (ap (standing (contentAt (a .b .now))) (unit-bundle (a .b .now) (a .n .0) (a .k) (says-refused (a .b .now) _ (c .before .filled .given .0 .0) (sym (c .before .before .before .before .fill-table .ensures .0) ∙ c .before .filled .given .1))))
+
+returns-2 : tie.Need-returns-2
+returns-2 c = absurd (never-short _ _ _ (omega arith) (sym (c .before .before .before .before .fill-table .ensures .0) ∙ c .before .enum-told .given .1))
+
+returns-3 : tie.Need-returns-3
+returns-3 c = c .place-unit .ensures ∙ place-filled _ _ (sym (c .before .before .before .before .before .fill-table .ensures .0) ∙ c .before .before .enum-told2 .given .1) (c .before .before .before .before .before .fill-table .ensures .1) _ _
+
+pub unit-place-spec : {M : Type 1} → statement M
+unit-place-spec =
+    tie.close
+    (tie.spec
+    slice-aggregate-fill-table
+    fill-table-requires
+    enum-known-filled
+    enum-told
+    unplaced-requires
+    enum-told-2
+    slice-aggregate-place-unit
+    place-unit-requires
+    returns
+    returns-2
+    returns-3)
