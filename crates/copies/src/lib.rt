@@ -249,7 +249,7 @@ pub fn extracted<'a>(
 ) -> &'a [u8]
     ensures { λ r. ⌜ now r ≡ extracted (sample kx (now (x .entry))) (at .0) (sample kz (now (z .entry))) i ⌝ }
 {
-    let found = units::extractor_at(kx, x, at, ByteOffset(x.len()));
+    let found = unit_steps::extractor_at(kx, x, at, ByteOffset(x.len()));
     match found {
         MaybeExtractor::Extractor(f) => copied_unit(kz, z, f.data_offset, f.data_length, i),
         MaybeExtractor::Nothing => &z[..0],

@@ -89,7 +89,7 @@ pub fn amount_at(b: &[u8], t: &[u64], n: SampleNumber, k: Track, x: &[u8], at: B
             bytes: l.number(x, at.0),
         };
     }
-    let found = units::extractor_at(k, x, at, ByteOffset(x.len()));
+    let found = unit_steps::extractor_at(k, x, at, ByteOffset(x.len()));
     match found {
         MaybeExtractor::Extractor(f) => extract(b, t, n, f),
         MaybeExtractor::Nothing => Copy {

@@ -25,6 +25,7 @@ use Rattle.words.specs.Buffers.{writeAt, overwrite, within}
 use Rattle.words.proofs.Tests.{by-bool}
 use Rattle.words.proofs.Refusals.{by-verdict, at-refused}
 use Rattle.words.proofs.Lists.{each-append}
+use Rattle.words.proofs.Kept.{keep-few}
 use Rattle.words.proofs.Rows.{upto-more}
 use Rattle.words.proofs.Numbered.{put-after}
 use Rattle.words.proofs.Buffers.{write-none, write-first, write-length, write-write, within-room, within-not}
@@ -47,11 +48,6 @@ use Rattle.judging.proofs.Amounts.{spelled-most}
 use Rattle.naming.specs.Naming.{Namer, namer, namesSample, namersIn, namingList, listBytes, names, namesCall}
 use Rattle.naming.proofs.Listing.{list-size}
 use Rattle.naming_list.proofs.Namers.{namers-not, list-none, list-append}
-
-keep-few : {A : Type 0} (t : A → Bool) (xs : List A) → length (keep t xs) ≤ length xs
-unfolding keep
-keep-few t [] = omega arith
-keep-few t (x ∷ xs) = let h = keep-few t xs in by-bool (t x) (λ q. rw q (omega arith)) (λ q. rw q (omega arith))
 
 module _ (r : Recording) (s : ℕ) where
   abbrev pub entriesOf : ℕ → List Namer

@@ -56,7 +56,7 @@ fn names_at(t: &[u64], n: SampleNumber, k: Track, x: &[u8], at: ByteOffset, s: S
     if units::type_at(k, x, at) != units::EXTRACTOR {
         return false;
     }
-    let found = units::extractor_at(k, x, at, ByteOffset(x.len()));
+    let found = unit_steps::extractor_at(k, x, at, ByteOffset(x.len()));
     match found {
         MaybeExtractor::Extractor(f) => names_with(t, n, f, s),
         MaybeExtractor::Nothing => false,

@@ -4,7 +4,9 @@
 -- Demand 1. Every public entry takes any bytes, ends, and either answers or refuses with a number of the table and a place. After a refusal each output
 -- buffer holds what it held before, and the count returned is zero. No caller is asked to have checked anything.
 -- Demand 2. Records, units, aggregators and extractors mean what ISO/IEC 14496-15:2010 says, as narrowed by document 01. Given room, a record read and
--- written again gives the same bytes, and a record written from valid fields reads back as them.
+-- written again gives the same bytes, and a record written from valid fields reads back as them. With room for the lines, every sample of an accepted
+-- bundle, after a blank or bad one too, gets exactly one line, in order: empty exactly if its length is zero, passed exactly if it has bytes and its whole
+-- length is good.
 -- Demand 3. For any sample of an accepted bundle, and with room, the naming list is exactly the extractors, in well-formed samples, that name it: every
 -- one, each once, in order, nothing else. Put any bytes of the same length in place of that sample's: the bundle is still accepted, and every other
 -- sample without an extractor in the list taken before, itself well formed or not, resolves with the same room to the same number, place and count, and
@@ -43,6 +45,10 @@ use Rattle.resolving.proofs.Promises as resolving
 use Rattle.naming.specs.Naming.{Namer, namer, namingList, listBytes, namesCall}
 use Rattle.naming.specs.Rules.{Names, Before, timesListed, Unlisted, SameAnswer}
 use Rattle.naming.proofs.Promises as naming
+use Rattle.tally.specs.declared.Outcome.the-variants.{Passed, Empty}
+use Rattle.auditing.specs.Auditing.{lineSize, lines, tally, auditCall, tallyCall}
+use Rattle.auditing.specs.Rules.{lineAt, said, LineEach, Counts}
+use Rattle.auditing.proofs.Promises as auditing
 use Rattle.promises.specs.Refused.{InSample}
 use Rattle.promises.specs.Refused as refusals
 
@@ -83,6 +89,13 @@ unit-refused = refusals.unit-refused
 pub names-refused : (b : List ℕ) (s room m p : ℕ) → namesCall b s room ≡ refused m p → Within b m p ⊎ (((m ≡ 29) ⊎ (m ≡ 30)) × (p ≡ 0))
 names-refused = naming.call-refused-with
 
+-- the audit: 1 to 13 of the bundle, or 29 at 0, for the lines and the tally alike (crates/auditing/proofs/Promises)
+pub audit-refused : (b : List ℕ) (room m p : ℕ) → auditCall b room ≡ refused m p → Within b m p ⊎ ((m ≡ 29) × (p ≡ 0))
+audit-refused = auditing.call-refused-with
+
+pub tally-refused : (b : List ℕ) (room m p : ℕ) → (auditCall b room ≡ refused m p) ↔ (tallyCall b room ≡ refused m p)
+tally-refused = auditing.refused-alike
+
 -- after a refusal (crates/words/proofs/Buffers): every entry with a buffer promises `Wrote`
 pub refusal-leaves : {out out₁ : List ℕ} {a : Answer ℕ} {is : Answer (List ℕ)} → Wrote out out₁ a is → passed a ≡ false → (countOf a ≡ 0) × (out₁ ≡ out)
 refusal-leaves = buffers.refused-leaves
@@ -113,7 +126,24 @@ reads-back = records.reads-back
 pub misfits-exactly : MisfitsExactly
 misfits-exactly = records.misfits-exactly
 
--- The audit's part joins with the audit.
+-- the audit of a bundle b that is accepted and means r, with room for the lines (crates/auditing/proofs/Promises)
+module _ (b : List ℕ) (r : Recording) (accepted : meaning b ≡ ok r) (room : ℕ) (fits : lineSize * sampleCount (r .layout) ≤ room) where
+  -- every sample, after a blank or bad one too, gets exactly one line, in order
+  pub one-line-each : (auditCall b room ≡ ok (lines r)) × LineEach r (lines r)
+  one-line-each = auditing.every-sample-one-line b r accepted room fits
+
+  -- a sample is empty, by its line and its length, exactly if its length is zero
+  module _ (n : ℕ) (some : 0 < n) (there : n ≤ sampleCount (r .layout)) where
+    pub empty-exactly : (said (lineAt (lines r) n) (length (contentOf r n)) ≡ Empty) ↔ (length (contentOf r n) ≡ 0)
+    empty-exactly = auditing.line-empty-exactly b r accepted room fits n some there
+
+    -- passed exactly if it has bytes and its whole length is good
+    pub passed-exactly : (said (lineAt (lines r) n) (length (contentOf r n)) ≡ Passed) ↔ ((0 < length (contentOf r n)) × (judged r n ≡ ok tt))
+    passed-exactly = auditing.line-passed-exactly b r accepted room fits n some there
+
+-- the tally counts the samples, and adds to the sample count (crates/auditing/proofs/Promises)
+pub tally-counts : (r : Recording) → Counts r (tally r)
+tally-counts = auditing.tally-counts
 
 -- Demand 3, of sample s of a bundle b that is accepted and means r. All in crates/naming/proofs/Promises.
 module _ (b : List ℕ) (r : Recording) (accepted : meaning b ≡ ok r) (s : ℕ) (some : 0 < s) (there : s ≤ sampleCount (r .layout)) where

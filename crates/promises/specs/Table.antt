@@ -24,6 +24,7 @@ use Rattle.links.specs.Links.{linkFault, linkedTrack, base, sampleNamed, nameFa
 use Rattle.copies.specs.Copies.{among, copyEnd, copied, borderFault, copyFault}
 use Rattle.resolving.specs.Resolving.{sampleOf, named, nameFaultAt, copyFaultAt, extractFault, copiedAt, deliveredAt, delivered, judged}
 use Rattle.resolving.specs.Calls.{written, output, numberFault, resolve, resolveCall}
+use Rattle.auditing.specs.Auditing.{lineBytes, lineOf, lines, auditCall}
 use Rattle.naming.specs.Naming.{namersIn, namingList, listBytes, names, namesCall}
 
 -- an answer, without bytes where there are none to give, and what it should be
@@ -88,6 +89,7 @@ table =
     gives (second slice (extractor 1 0 0 0)) resolved
     ∷ gives (namesCall (bundle slice (extractor 1 0 0 0)) 1 6) (0x00 ∷ 0x02 ∷ 0x00 ∷ 0x00 ∷ 0x00 ∷ 0x00 ∷ [])
     ∷ gives (namesCall (bundle slice (extractor 1 0 0 0)) 2 0) []
+    ∷ gives (auditCall (bundle slice (extractor 1 0 0 0)) 26) (bytes 13 1 ++ bytes 13 1)
     -- M1, M2, M3
     ∷ gives (second slice (extractor 1 0 0 3)) resolved
     ∷ refuses (second slice (extractor 1 0 0 2)) 27 0
@@ -142,5 +144,5 @@ unfolding bundle slice extractor bench bytes
 bench-spelled = refl
 
 marked : map (λ row. row .answer) table ≡ map (λ row. row .expected) table
-unfolding table gives passes refuses fails recordVerdict bundle slice extractor including covering resolved second first firstOf keep some nth lastThat each upto sum entries skip big bytes cuts setFault byteFault trailerFault headFault sequencesEnd picturesEnd recordFault readAs readRecord size type unitFault placesFrom topUnits border topBetween coverFault includedFault withIncluded units extractors contentVerdict check countFault referencesFrom samplesIn sizeAt trackFault tracksVerdict tracks referencesAt noSuchTrack referenceFault referencesVerdict references samplesAt orderFault entryFault samplesVerdict sampleEntries lengths bytesAt endFault bytesVerdict bundleVerdict layoutOf recordingOf meaning linkFault linkedTrack base sampleNamed nameFault among copyEnd copied borderFault copyFault sampleOf named nameFaultAt copyFaultAt extractFault copiedAt deliveredAt delivered judged written output numberFault resolve resolveCall namersIn namingList listBytes names namesCall
+unfolding table gives passes refuses fails recordVerdict bundle slice extractor including covering resolved second first firstOf keep some nth lastThat each upto sum entries skip big bytes cuts setFault byteFault trailerFault headFault sequencesEnd picturesEnd recordFault readAs readRecord size type unitFault placesFrom topUnits border topBetween coverFault includedFault withIncluded units extractors contentVerdict check countFault referencesFrom samplesIn sizeAt trackFault tracksVerdict tracks referencesAt noSuchTrack referenceFault referencesVerdict references samplesAt orderFault entryFault samplesVerdict sampleEntries lengths bytesAt endFault bytesVerdict bundleVerdict layoutOf recordingOf meaning linkFault linkedTrack base sampleNamed nameFault among copyEnd copied borderFault copyFault sampleOf named nameFaultAt copyFaultAt extractFault copiedAt deliveredAt delivered judged written output numberFault resolve resolveCall namersIn namingList listBytes names namesCall lineBytes lineOf lines auditCall
 marked = refl

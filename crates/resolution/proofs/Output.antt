@@ -2,7 +2,6 @@
 --
 --   extract-refused, extract-named     what is written for an extractor, by what it names
 --   with-size                          the size of a unit as it is written
---   put-put                            two writes, one after the other
 --   bytes-at                           what is written for a unit of a good sample is what is delivered for it
 --   Writing, writing-start, -length, -skip, -room, -take, -end    a loop that writes
 use Prim.Native.Nat.{ℕ, _+_, _≤_, _<_}
@@ -54,11 +53,6 @@ module _ (r : Recording) (n : ℕ) (f : Extractor) where
   pub extract-named : {m : ℕ} → nameFault (r .layout) n (f .«track_ref_index») (f .«sample_offset») ≡ 0 → sampleNamed (r .layout) n (f .«track_ref_index») (f .«sample_offset») ≡ m → {z : Sample} → z ≡ sampleOf r m → extractBytes r n f ≡ copyBytes z (f .«data_offset» .0) (f .«data_length»)
   unfolding extractBytes
   extract-named e g h = rw (e, g, h)
-
-pub put-put : (o b c : List ℕ) (at next : ℕ) → next ≡ at + length b → at + length (b ++ c) ≤ length o → put (put o at b) next c ≡ put o at (b ++ c)
-put-put o b c at next e h =
-    let s = length-append b c in
-    ap (λ (w : List ℕ). put w next c) (put-fits o at b (omega arith)) ∙ put-after o b c at next e (omega arith) ∙ sym (put-fits o at (b ++ c) h)
 
 -- the size of a unit as it is written
 pub with-size : (x : Sample) (p : ℕ) → units.next x p ≤ end x → length (withLength x p) ≡ 4 + units.size x p

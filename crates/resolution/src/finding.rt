@@ -87,7 +87,7 @@ fn span_at(
     if units::type_at(k, x, ByteOffset(at)) != units::EXTRACTOR {
         return span_of(n, k, x, at);
     }
-    let found = units::extractor_at(k, x, ByteOffset(at), ByteOffset(x.len()));
+    let found = unit_steps::extractor_at(k, x, ByteOffset(at), ByteOffset(x.len()));
     match found {
         MaybeExtractor::Extractor(f) => copied_span(b, t, n, f, i),
         MaybeExtractor::Nothing => no_unit(),

@@ -84,7 +84,7 @@ fn put_at(
     if units::type_at(k, x, ByteOffset(p)) != units::EXTRACTOR {
         return put_own(out, at, k, x, p);
     }
-    let found = units::extractor_at(k, x, ByteOffset(p), ByteOffset(x.len()));
+    let found = unit_steps::extractor_at(k, x, ByteOffset(p), ByteOffset(x.len()));
     match found {
         MaybeExtractor::Extractor(f) => put_extract(out, at, b, t, n, f),
         MaybeExtractor::Nothing => 0,

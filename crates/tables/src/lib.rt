@@ -126,13 +126,6 @@ fn size_of(n: usize) -> LengthSize
     }
 }
 
-// How many tracks there are.
-pub fn track_count(t: &[u64]) -> usize
-    ensures { λ r. ⌜ r ≡ length (laidOut (now (t .entry)) .tracks) ⌝ }
-{
-    track_total(t)
-}
-
 // How many samples there are.
 pub fn sample_count(t: &[u64]) -> usize
     ensures { λ r. ⌜ r ≡ sampleCount (laidOut (now (t .entry))) ⌝ }

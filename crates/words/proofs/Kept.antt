@@ -3,6 +3,7 @@
 --   keep-yes, keep-no         one element more in front
 --   keep-same, keep-all       `keep` of tests that are equal on the list; where all pass
 --   keep-keep                 two tests, in either order
+--   keep-few                  no more than there are
 --   keep-each                 `keep` over joined lists
 --   each-keep                 joined lists of the elements that pass
 --   some-false                where none passes
@@ -88,3 +89,8 @@ rising-count a b (x ∷ xs) r h =
     let i = h x (List·Memᴰ·head refl) in
     let below = rising-count (x + 1) b xs (r .1) (λ y m. let l = r .0 y m in let j = h y (List·Memᴰ·tail m) in (omega arith, j .1)) in
     omega arith
+
+pub keep-few : {A : Type 0} (t : A → Bool) (xs : List A) → length (keep t xs) ≤ length xs
+unfolding keep
+keep-few t [] = omega arith
+keep-few t (x ∷ xs) = let h = keep-few t xs in by-bool (t x) (λ q. rw q (omega arith)) (λ q. rw q (omega arith))

@@ -4,12 +4,13 @@
 --   nth-other, nth-map      an nth element that is not the default; of a `map`
 --   part-past               a part past the end is empty
 --   put-after               a write right after what was written
+--   put-put                 two writes, one right after the other, where there is room for both
 use Prim.Native.Nat.{ℕ, zero, suc, _+_, _-_, _≤_, _<_}
-use mathlib.Core.Path.{_≡_, refl, ap, _∙_}
+use mathlib.Core.Path.{_≡_, refl, ap, sym, _∙_}
 use mathlib.Core.List.{List, [], _∷_, _++_, map, List·Memᴰ, List·Memᴰ·head, List·Memᴰ·tail}
 use native.Mathlib.Omega.{arith}
 use native.Mathlib.Numerals.{sub-one}
-use lib.ListN.{length, drop}
+use lib.ListN.{length, drop, length-append}
 use lib.Seq.{drop-nil, take-nil}
 use Rattle.words.specs.Bytes.{part}
 use Rattle.words.specs.Buffers.{writeAt, put}
@@ -63,3 +64,8 @@ pub put-after : (o done b : List ℕ) (at next : ℕ) → next ≡ at + length d
 put-after o done b at next e h =
     let n = write-length o at done (omega arith) in
     put-fits (writeAt o at done) next b (omega arith) ∙ ap (λ (q : ℕ). writeAt (writeAt o at done) q b) e ∙ write-write o at done b (omega arith)
+
+pub put-put : (o b c : List ℕ) (at next : ℕ) → next ≡ at + length b → at + length (b ++ c) ≤ length o → put (put o at b) next c ≡ put o at (b ++ c)
+put-put o b c at next e h =
+    let s = length-append b c in
+    ap (λ (w : List ℕ). put w next c) (put-fits o at b (omega arith)) ∙ put-after o b c at next e (omega arith) ∙ sym (put-fits o at (b ++ c) h)

@@ -10,7 +10,8 @@ use Rattle.samples.proofs.Walks.{next-is}
 use Rattle.words.proofs.Bytes.{bytes-length}
 use Rattle.copies.specs.Written.{withLength}
 use native.Mathlib.Nat.{add-sub-cancel-left}
-use Rattle.resolution.proofs.Output.{with-size, put-put}
+use Rattle.words.proofs.Numbered.{put-put}
+use Rattle.resolution.proofs.Output.{with-size}
 use Rattle.resolution.proofs.writing.put_own.Tie as tie
 
 abbrev X : tie.After-bytes → Sample

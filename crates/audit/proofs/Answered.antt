@@ -1,0 +1,56 @@
+-- What the calls answer, step by step as the code takes them. Assumes nothing.
+--
+--   count-spelled                 the count that a table says
+--   lines-not, tally-not          a recording without room for its lines
+--   lines-fit, tally-fits         one with room
+--   lines-filled, tally-filled    the calls by a table that was filled
+use Prim.Native.Nat.{ℕ, _*_, _≤_, _<_}
+use mathlib.Core.Path.{_≡_, sym}
+use mathlib.Core.List.{List}
+use borrow.Author.Tests.{lt-ltb, le-ltb}
+use lib.ListN.{length}
+use Rattle.words.specs.RefusalNumbers.{outputTooLong}
+use Rattle.words.specs.Refusals.{refused, ok}
+use Rattle.words.specs.Buffers.{within}
+use Rattle.words.proofs.Buffers.{within-room, within-not}
+use Rattle.bundles.specs.Recordings.{Recording, sampleCount}
+use Rattle.bundles.specs.Bundles.{meaning}
+use Rattle.tables.specs.Tables.{laidOut, spelled}
+use Rattle.filling.specs.Filling.{filling, tableAfter}
+use Rattle.filling.specs.declared.Filled.the-variants.{Done}
+use Rattle.filling.proofs.Promises.{table-accepted, table-means}
+use Rattle.auditing.specs.Auditing.{lineSize, lines, tally, auditCall, tallyCall}
+use Rattle.auditing.proofs.Lines.{lines-length}
+use Rattle.auditing.proofs.Calls.{audit-means}
+use Rattle.audit.specs.Steps.{tallyWithin}
+
+pub count-spelled : (b t : List ℕ) {count : ℕ} → count ≡ sampleCount (laidOut t) → count ≡ sampleCount (spelled b t .layout)
+unfolding spelled
+count-spelled b t e = e
+
+module _ (r : Recording) (room : ℕ) where
+  pub lines-not : room < lineSize * sampleCount (r .layout) → within room (ok (lines r)) ≡ refused outputTooLong 0
+  lines-not h = within-not room (lines r) (rw (lines-length r) h)
+
+  pub tally-not : room < lineSize * sampleCount (r .layout) → tallyWithin r room ≡ refused outputTooLong 0
+  unfolding tallyWithin
+  tally-not h = rw (lines-length r, lt-ltb room (lineSize * sampleCount (r .layout)) h)
+
+  pub lines-fit : lineSize * sampleCount (r .layout) ≤ room → within room (ok (lines r)) ≡ ok (lines r)
+  lines-fit h = within-room room (lines r) (rw (lines-length r) h)
+
+  pub tally-fits : lineSize * sampleCount (r .layout) ≤ room → tallyWithin r room ≡ ok (tally r)
+  unfolding tallyWithin
+  tally-fits h = rw (lines-length r, le-ltb room (lineSize * sampleCount (r .layout)) h)
+
+tally-means : (b : List ℕ) (room : ℕ) {r : Recording} → meaning b ≡ ok r → tallyCall b room ≡ tallyWithin r room
+unfolding tallyCall tallyWithin
+tally-means b room e = rw e
+
+-- a table that was filled: whatever is said by the table that is left
+module _ (b t : List ℕ) (done : filling b (length t) ≡ Done) {s : List ℕ} (f : s ≡ tableAfter b t) (room : ℕ) where
+  pub lines-filled : within room (ok (lines (spelled b s))) ≡ auditCall b room
+  lines-filled = rw (f, table-means b t done) (sym (audit-means b room (table-accepted b t done)))
+
+  pub tally-filled : tallyWithin (spelled b s) room ≡ tallyCall b room
+  tally-filled = rw (f, table-means b t done) (sym (tally-means b room (table-accepted b t done)))

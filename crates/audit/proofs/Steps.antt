@@ -1,0 +1,115 @@
+-- The steps of the code. Assumes nothing.
+--
+--   put-three                      three writes, one after the other
+--   line-judged, outcome-judged    the line and the outcome of a sample that was judged
+--   Auditing, auditing-start, -length, -room, -more, -end    a loop over the samples
+use Prim.Native.Nat.{ℕ, _+_, _*_, _≤_, _<_}
+use mathlib.Core.Path.{_≡_, ap, sym, _∙_}
+use mathlib.Core.List.{List, [], _++_}
+use native.Mathlib.Omega.{arith}
+use borrow.Author.Tests.{eq-eqb, ne-eqb}
+use lib.ListN.{length, length-append}
+use Rattle.words.specs.Bytes.{bytes}
+use Rattle.words.specs.Buffers.{writeAt, overwrite, put}
+use Rattle.words.proofs.Tests.{by-number}
+use Rattle.words.proofs.Bytes.{bytes-length}
+use Rattle.words.proofs.Numbered.{put-put}
+use Rattle.words.proofs.Buffers.{write-none, write-first, write-length}
+use Rattle.bundles.specs.Limits.{bundleMost, sampleMost}
+use Rattle.bundles.specs.Recordings.{Recording, sampleCount, contentOf}
+use Rattle.tables.specs.Tables.{spelled}
+use Rattle.tables.proofs.Layouts.{samples-most}
+use Rattle.judging.specs.Steps.{judgementIn, answerOf}
+use Rattle.judging.specs.declared.Judged.{Judged}
+use Rattle.judging.specs.declared.Judged.the-variants as judged
+use Rattle.judging.proofs.Judgements.{judged-refused, judged-good}
+use Rattle.tally.specs.Tallies.{tallied, raisedBy}
+use Rattle.tally.specs.declared.Tally.{Tally}
+use Rattle.auditing.specs.Auditing.{refusalSize, placeSize, unitsSize, lineSize, lineBytes, outcomeOf, lineOf, lines, tally}
+use Rattle.auditing.proofs.Outcomes.{outcome-empty, outcome-passed, outcome-refused}
+use Rattle.auditing.proofs.Lines.{line-length, joined-length}
+use Rattle.auditing.proofs.Steps.{firstLines, firstTally, lines-start, lines-put, lines-end, tally-start, tally-more, tally-end}
+use Rattle.audit.specs.Steps.{verdictOf, unitsIn, outcomeIn}
+
+-- writes, one after the other
+pub put-three : (o : List ℕ) (at m p units : ℕ) → at + lineSize ≤ length o
+    → put (put (put o at (bytes refusalSize m)) (at + refusalSize) (bytes placeSize p)) (at + refusalSize + placeSize) (bytes unitsSize units)
+    ≡ put o at (bytes refusalSize m ++ bytes placeSize p ++ bytes unitsSize units)
+put-three o at m p units h =
+    let a = bytes refusalSize m in
+    let b = bytes placeSize p in
+    let c = bytes unitsSize units in
+    let x = bytes-length refusalSize m in
+    let y = bytes-length placeSize p in
+    let z = bytes-length unitsSize units in
+    let s = length-append a b in
+    let t = length-append (a ++ b) c in
+    ap (λ (w : List ℕ). put w (at + refusalSize + placeSize) c) (put-put o a b at (at + refusalSize) (omega arith) (omega arith))
+    ∙ put-put o (a ++ b) c at (at + refusalSize + placeSize) (omega arith) (omega arith)
+
+-- a sample that was judged
+module _ (b t : List ℕ) (n : ℕ) (short : length b ≤ bundleMost) where
+  pub line-judged : (x : Judged) → answerOf x ≡ judgementIn b t n → lineBytes (verdictOf x) (unitsIn x) ≡ lineOf (spelled b t) n
+  unfolding lineOf lineBytes
+  line-judged (judged.Refused f) e = rw (judged-refused b t n short (sym e))
+  line-judged (judged.Good a) e = let w = judged-good b t n short a (sym e) in rw (w .0, w .1)
+
+  pub outcome-judged : (x : Judged) → answerOf x ≡ judgementIn b t n → outcomeIn x (length (contentOf (spelled b t) n)) ≡ outcomeOf (spelled b t) n
+  outcome-judged (judged.Refused f) e = sym (outcome-refused (spelled b t) n (judged-refused b t n short (sym e)))
+  outcome-judged (judged.Good a) e =
+      let r = spelled b t in
+      let size = length (contentOf r n) in
+      by-number size
+      (λ z. rw (eq-eqb size 0 z) (sym (outcome-empty r n z)))
+      (λ k z. rw (ne-eqb size 0 (λ y. absurd (omega arith))) (sym (outcome-passed r n (omega arith) (judged-good b t n short a (sym e) .0))))
+
+-- a loop over the samples that turned o into out: the first n have their lines, and t is their tally
+pub record Auditing (r : Recording) (o : List ℕ) (n : ℕ) (out : List ℕ) (t : Tally) : Type 0 where
+  pub few : sampleCount (r .layout) ≤ sampleMost
+  pub fits : lineSize * sampleCount (r .layout) ≤ length o
+  pub inside : n ≤ sampleCount (r .layout)
+  pub wrote : out ≡ writeAt o 0 (firstLines r n)
+  pub counts : t ≡ firstTally r n
+
+pub auditing-start : (b t o : List ℕ) (u : Tally) → lineSize * sampleCount (spelled b t .layout) ≤ length o → u ≡ tallied [] → Auditing (spelled b t) o 0 o u
+unfolding spelled
+auditing-start b t o u h e =
+    record {
+      few = samples-most t;
+      fits = h;
+      inside = omega arith;
+      wrote = write-none o 0 ∙ ap (writeAt o 0) (sym (lines-start (spelled b t)));
+      counts = e ∙ sym (tally-start (spelled b t));
+    }
+
+module _ (r : Recording) (o : List ℕ) (n : ℕ) (out : List ℕ) (t : Tally) (w : Auditing r o n out t) where
+  pub auditing-length : length out ≡ length o
+  auditing-length =
+      let a = joined-length (lineOf r) (line-length r) n in
+      let i = w .inside in
+      let f = w .fits in
+      ap length (w .wrote) ∙ write-length o 0 (firstLines r n) (omega arith)
+
+  -- a sample more
+  module _ (more : n < sampleCount (r .layout)) where
+    pub auditing-room : lineSize * n + lineSize ≤ length out
+    auditing-room = let l = auditing-length in let f = w .fits in omega arith
+
+    pub auditing-more : (out' : List ℕ) (t' : Tally) → out' ≡ put out (lineSize * n) (lineOf r (n + 1)) → t' ≡ raisedBy (outcomeOf r (n + 1)) t → Auditing r o (n + 1) out' t'
+    auditing-more out' t' e f =
+        let s = w .few in
+        let h = w .fits in
+        record {
+          few = s;
+          fits = h;
+          inside = omega arith;
+          wrote = e ∙ ap (λ (x : List ℕ). put x (lineSize * n) (lineOf r (n + 1))) (w .wrote) ∙ lines-put r o n (omega arith);
+          counts = f ∙ ap (raisedBy (outcomeOf r (n + 1))) (w .counts) ∙ sym (tally-more r n (omega arith));
+        }
+
+  -- no sample more
+  pub auditing-end : sampleCount (r .layout) ≤ n → (t ≡ tally r) × (out ≡ overwrite o (lines r))
+  auditing-end h =
+      let i = w .inside in
+      let e : n ≡ sampleCount (r .layout) = omega arith in
+      (w .counts ∙ tally-end r n e, w .wrote ∙ ap (writeAt o 0) (lines-end r n e) ∙ write-first o (lines r))

@@ -1,0 +1,194 @@
+// The audit of a bundle: a line a sample, and a tally.
+ghost use mathlib.Core.Path.{_≡_};
+ghost use mathlib.Core.List.{_++_};
+ghost use Prim.Native.Nat.{_+_, _*_, _≤_};
+ghost use lib.ListN.{length};
+ghost use Rattle.words.specs.Refusals.{refused, ok};
+ghost use Rattle.words.specs.Bytes.{bytes};
+ghost use Rattle.words.specs.Buffers.{put, overwrite, within, Wrote};
+ghost use Rattle.bundles.specs.Limits.{bundleMost};
+ghost use Rattle.bundles.specs.Recordings.{sampleCount};
+ghost use Rattle.tables.specs.Tables.{spelled};
+ghost use Rattle.tally.specs.Tallies.{raisedBy};
+ghost use Rattle.auditing.specs.Auditing.{refusalSize, placeSize, unitsSize, lineSize, lineBytes, outcomeOf, lineOf, lines, tally, auditCall, tallyCall};
+ghost use Rattle.audit.specs.Steps.{verdictOf, unitsIn, outcomeIn, tallyWithin};
+ghost use Rattle.audit.specs.Answers.{linesAnswer, tallyAnswer, lineThere, lineSays};
+use filling::Filled;
+use judging::Judged;
+use numbers::ByteOffset;
+use numbers::Refusal;
+use numbers::SampleNumber;
+use numbers::refusals;
+use tally::Outcome;
+use tally::Tally;
+
+// A line: the refusal, its place, and how many units are delivered.
+const REFUSAL_SIZE: usize = 1;
+
+const PLACE_SIZE: usize = 4;
+
+const UNITS_SIZE: usize = 8;
+
+const LINE_SIZE: usize = 13;
+
+// How many bytes of lines are written, and the tally.
+pub struct Report {
+    pub count: usize,
+    pub tally: Tally,
+}
+
+// A bundle audited, or refused.
+pub enum Audited {
+    Refused(Refusal),
+    Done(Report),
+}
+
+// What a line says of a sample: it passed with so many units, is empty, or is refused.
+pub enum Line {
+    Passed(usize),
+    Empty,
+    Refused(Refusal),
+}
+
+// The three numbers of a line over a buffer that has room.
+fn put_numbers(out: &mut [u8], at: usize, refusal: u8, place: ByteOffset, units: usize)
+    requires { ⌜ at + lineSize ≤ length (now out) ⌝ }
+    ensures { λ _. ⌜ now (out .exit) ≡ put (now (out .entry)) at (bytes refusalSize refusal ++ bytes placeSize (place .0) ++ bytes unitsSize units) ⌝ }
+{
+    numbers::put_number(out, at, REFUSAL_SIZE, refusal as usize);
+    numbers::put_number(out, at + REFUSAL_SIZE, PLACE_SIZE, place.0);
+    numbers::put_number(out, at + REFUSAL_SIZE + PLACE_SIZE, UNITS_SIZE, units);
+}
+
+// The line of a judged sample over a buffer that has room.
+fn put_line(out: &mut [u8], at: usize, judged: Judged)
+    requires { ⌜ at + lineSize ≤ length (now out) ⌝ }
+    ensures { λ _. ⌜ now (out .exit) ≡ put (now (out .entry)) at (lineBytes (verdictOf judged) (unitsIn judged)) ⌝ }
+{
+    match judged {
+        Judged::Refused(f) => put_numbers(out, at, f.number, f.place, 0),
+        Judged::Good(a) => put_numbers(out, at, 0, ByteOffset(0), a.count),
+    }
+}
+
+// What the audit finds of a judged sample of so many bytes.
+fn outcome(judged: Judged, size: usize) -> Outcome
+    ensures { λ r. ⌜ r ≡ outcomeIn judged size ⌝ }
+{
+    match judged {
+        Judged::Refused(_) => Outcome::Refused,
+        Judged::Good(_) => {
+            if size == 0 {
+                return Outcome::Empty;
+            }
+            Outcome::Passed
+        }
+    }
+}
+
+// Sample n judged once: its line written, and the tally raised by it.
+fn audit_sample(
+    b: &[u8],
+    t: &[u64],
+    n: SampleNumber,
+    out: &mut [u8],
+    at: usize,
+    tally: Tally,
+) -> Tally
+    requires { ⌜ (length (now b) ≤ bundleMost) × (at + lineSize ≤ length (now out)) ⌝ }
+    ensures { λ r. ⌜ (r ≡ raisedBy (outcomeOf (spelled (now (b .entry)) (now (t .entry))) (n .0)) tally)
+        × (now (out .exit) ≡ put (now (out .entry)) at (lineOf (spelled (now (b .entry)) (now (t .entry))) (n .0))) ⌝ }
+{
+    let judged = judging::judge(b, t, n);
+    let x = tables::sample_bytes(b, t, n);
+    put_line(out, at, judged);
+    tally::raised_lent(tally, outcome(judged, x.len()))
+}
+
+// All samples, of which there are count: a line each over the start of a buffer that has room, and their tally.
+fn audit_samples(b: &[u8], t: &[u64], count: usize, out: &mut [u8]) -> Tally
+    requires { ⌜ (length (now b) ≤ bundleMost) × (count ≡ sampleCount (spelled (now b) (now t) .layout)) × (lineSize * count ≤ length (now out)) ⌝ }
+    ensures { λ r. ⌜ (r ≡ tally (spelled (now (b .entry)) (now (t .entry))))
+        × (now (out .exit) ≡ overwrite (now (out .entry)) (lines (spelled (now (b .entry)) (now (t .entry))))) ⌝ }
+{
+    let mut tally = tally::start();
+    let mut done: usize = 0;
+    while done < count {
+        tally = audit_sample(b, t, SampleNumber(done + 1), out, LINE_SIZE * done, tally);
+        done += 1;
+    }
+    tally
+}
+
+// A refusal at 0.
+fn refused(number: u8) -> Audited
+    ensures { λ r. ⌜ (linesAnswer r ≡ refused number 0) × (tallyAnswer r ≡ refused number 0) ⌝ }
+{
+    Audited::Refused(Refusal {
+        number: number,
+        place: ByteOffset(0),
+    })
+}
+
+// An accepted bundle by its table: 29, or all lines and the tally. 29 is known before the first byte is written.
+fn audit_accepted(b: &[u8], t: &[u64], out: &mut [u8]) -> Audited
+    requires { ⌜ length (now b) ≤ bundleMost ⌝ }
+    ensures { λ r. ⌜ Wrote (now (out .entry)) (now (out .exit)) (linesAnswer r) (within (length (now (out .entry))) (ok (lines (spelled (now (b .entry)) (now (t .entry))))))
+        × (tallyAnswer r ≡ tallyWithin (spelled (now (b .entry)) (now (t .entry))) (length (now (out .entry)))) ⌝ }
+{
+    let count = tables::sample_count(t);
+    let size = LINE_SIZE * count;
+    if out.len() < size {
+        return refused(refusals::OUTPUT_TOO_LONG);
+    }
+    let tally = audit_samples(b, t, count, out);
+    Audited::Done(Report { count: size, tally })
+}
+
+// A bundle audited: 1 to 13, 29; or a line a sample over the start of the buffer, how many bytes that is, and the tally. After a refusal
+// the buffer is as it was.
+pub fn audit(b: &[u8], lines: &mut [u8]) -> Audited
+    ensures { λ r. ⌜ Wrote (now (lines .entry)) (now (lines .exit)) (linesAnswer r) (auditCall (now (b .entry)) (length (now (lines .entry))))
+        × (tallyAnswer r ≡ tallyCall (now (b .entry)) (length (now (lines .entry)))) ⌝ }
+{
+    let mut t = [0u64; tables::TABLE_SIZE];
+    let filled = filling::fill_table(b, &mut t);
+    match filled {
+        Filled::Refused(f) => Audited::Refused(f),
+        Filled::NoRoom(_) => refused(refusals::OUTPUT_TOO_LONG),
+        Filled::Done => audit_accepted(b, &t, lines),
+    }
+}
+
+// Line n, or nothing where it is not there whole.
+fn line_part<'a>(lines: &'a [u8], n: SampleNumber) -> &'a [u8]
+    ensures { λ r. ⌜ now r ≡ lineThere (now (lines .entry)) (n .0) ⌝ }
+{
+    let m = n.0;
+    if m == 0 {
+        return &lines[..0];
+    }
+    if lines.len() / LINE_SIZE < m {
+        return &lines[..0];
+    }
+    let at = LINE_SIZE * (m - 1);
+    &lines[at..at + LINE_SIZE]
+}
+
+// What line n of an audit says of a sample of so many bytes. A line that is not there is all zeros.
+pub fn line_of(lines: &[u8], n: SampleNumber, size: usize) -> Line
+    ensures { λ r. ⌜ r ≡ lineSays (lineThere (now (lines .entry)) (n .0)) size ⌝ }
+{
+    let line = line_part(lines, n);
+    let refusal = numbers::byte(line, 0);
+    if refusal != 0 {
+        return Line::Refused(Refusal {
+            number: refusal,
+            place: ByteOffset(numbers::number(line, REFUSAL_SIZE, PLACE_SIZE)),
+        });
+    }
+    if size == 0 {
+        return Line::Empty;
+    }
+    Line::Passed(numbers::number(line, REFUSAL_SIZE + PLACE_SIZE, UNITS_SIZE))
+}

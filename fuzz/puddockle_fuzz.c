@@ -1,0 +1,392 @@
+/*
+ * libFuzzer target over all functions of include/puddockle.h.
+ *
+ * Every slice is lent exactly, once with a forbidden page after it and once with one before it. After each call:
+ * the number is one that the call may give, what is written ends at the count, nothing is written on a refusal, the
+ * input is unchanged, both calls agree. Between calls: a record read and written again is the same bytes; the units
+ * of a resolved sample are those asked for one by one; the audit's line agrees with resolving.
+ *
+ * The answers themselves are fed back to the fuzzer as counters, since the library brings none of its own.
+ */
+#include <stdio.h>
+#include <stdlib.h>
+#include <string.h>
+
+#include "../include/puddockle.h"
+#include "build.h"
+#include "input.h"
+#include "lend.h"
+
+/* Room for what is built and for most outputs; an output that is longer gives 29. */
+#define ROOM 8192
+#define UNSET 0xDEADBEEF5A5AA5A5u
+
+enum call { READ_RECORD, WRITE_RECORD, CHECK_SAMPLE, CHECK_BUNDLE, RESOLVE, UNIT, NAMES, AUDIT, CALLS };
+
+static const char *const names[CALLS] = {"read_record", "write_record", "check_sample", "check_bundle",
+                                         "resolve",     "unit",         "names",        "audit"};
+
+/* Bit n is set where the call may give number n. */
+#define RANGE(first, last) (((uint64_t)2 << (last)) - ((uint64_t)1 << (first)))
+static const uint64_t allowed[CALLS] = {
+    RANGE(0, 0) | RANGE(4, 4) | RANGE(8, 13) | RANGE(29, 29),
+    RANGE(0, 0) | RANGE(4, 4) | RANGE(29, 29) | RANGE(31, 31),
+    RANGE(0, 0) | RANGE(4, 4) | RANGE(11, 11) | RANGE(14, 22),
+    RANGE(0, 13),
+    RANGE(0, 30),
+    RANGE(0, 28) | RANGE(30, 30),
+    RANGE(0, 13) | RANGE(29, 30),
+    RANGE(0, 13) | RANGE(29, 29),
+};
+
+__attribute__((section("__libfuzzer_extra_counters"))) static uint8_t counters[CALLS * 32 * 16];
+static uint64_t reached[CALLS][32];
+
+#define MUST(condition)                                                       \
+    do {                                                                      \
+        if (!(condition)) {                                                   \
+            fprintf(stderr, "%s:%d: %s\n", __FILE__, __LINE__, #condition);   \
+            abort();                                                          \
+        }                                                                     \
+    } while (0)
+
+/* What a call returned and set. */
+struct answer {
+    uint32_t number;
+    uint64_t place, count, start, length, passed, empty, refused;
+};
+
+static const struct answer unset = {0, UNSET, UNSET, UNSET, UNSET, UNSET, UNSET, UNSET};
+
+/* What holds of every answer; `detail` tells like answers apart for the fuzzer. */
+static void judge(enum call call, const struct answer *a, uint64_t detail) {
+    MUST(a->number < 32 && (allowed[call] >> a->number & 1));
+    MUST(a->place != UNSET);
+    MUST(a->number != 0 || a->place == 0);
+    MUST(a->number < 29 || a->place == 0);
+    reached[call][a->number]++;
+    counters[(call * 32 + a->number) * 16 + detail % 16] = 1;
+}
+
+/* What holds of the slice lent for the output. */
+static void judge_output(const struct answer *a, const uint8_t *out, size_t room) {
+    MUST(a->count <= room);
+    MUST(a->number == 0 || a->count == 0);
+    MUST(untouched(out, a->count, room));
+}
+
+static void print_reached(void) {
+    for (int call = 0; call < CALLS; call++) {
+        fprintf(stderr, "%12s ", names[call]);
+        for (int number = 0; number < 32; number++)
+            if (allowed[call] >> number & 1)
+                fprintf(stderr, " %d:%llu", number, (unsigned long long)reached[call][number]);
+        fprintf(stderr, "\n");
+    }
+}
+
+int LLVMFuzzerInitialize(int *argc, char ***argv) {
+    (void)argc, (void)argv;
+    lend_init();
+    atexit(print_reached);
+    return 0;
+}
+
+/* A slice that is read. */
+struct slice {
+    const uint8_t *bytes;
+    size_t length;
+};
+
+/* Records. */
+
+static struct answer read_record(uint32_t kind, struct slice record, uint64_t *fields, size_t room) {
+    struct answer a[2];
+    for (int side = AT_END; side <= AT_START; side++) {
+        a[side] = unset;
+        const uint8_t *lent = lend_copy(IN_1, side, record.bytes, record.length);
+        uint8_t *out = lend(OUT, side, room * 8);
+        fill(out, room * 8);
+        a[side].number = puddockle_read_record(kind, lent, record.length, (uint64_t *)out, room, &a[side].place);
+        judge(READ_RECORD, &a[side], record.length);
+        MUST(a[side].place == 0);
+        MUST(untouched(out, a[side].number == 0 ? PUDDOCKLE_FIELDS * 8 : 0, room * 8));
+        MUST(record.length == 0 || memcmp(lent, record.bytes, record.length) == 0);
+        if (a[side].number == 0)
+            memcpy(fields, out, PUDDOCKLE_FIELDS * 8);
+    }
+    MUST(memcmp(&a[0], &a[1], sizeof a[0]) == 0);
+    return a[0];
+}
+
+static struct answer write_record(uint32_t kind, const uint64_t *fields, size_t field_count, const struct slice sets[3],
+                                  uint8_t *written, size_t room) {
+    struct answer a[2];
+    for (int side = AT_END; side <= AT_START; side++) {
+        a[side] = unset;
+        const uint8_t *numbers = lend_copy(IN_1, side, (const uint8_t *)fields, field_count * 8);
+        const uint8_t *sequence = lend_copy(IN_2, side, sets[0].bytes, sets[0].length);
+        const uint8_t *picture = lend_copy(IN_3, side, sets[1].bytes, sets[1].length);
+        const uint8_t *extension = lend_copy(IN_4, side, sets[2].bytes, sets[2].length);
+        uint8_t *out = lend(OUT, side, room);
+        fill(out, room);
+        a[side].number = puddockle_write_record(kind, (const uint64_t *)numbers, field_count, sequence, sets[0].length,
+                                                picture, sets[1].length, extension, sets[2].length, out, room,
+                                                &a[side].place, &a[side].count);
+        judge(WRITE_RECORD, &a[side], a[side].count);
+        MUST(a[side].place == 0);
+        judge_output(&a[side], out, room);
+        if (a[side].count > 0)
+            memcpy(written, out, a[side].count);
+    }
+    MUST(memcmp(&a[0], &a[1], sizeof a[0]) == 0);
+    return a[0];
+}
+
+/* A record read; where it is accepted, written again, which must give the same bytes. */
+static void try_read_record(struct input *in) {
+    static uint8_t written[ROOM];
+    uint64_t fields[PUDDOCKLE_FIELDS];
+    uint32_t kind = (uint32_t)take_mostly_small(in) & ((take(in) & 1) ? 1 : UINT32_MAX);
+    size_t room = take_below(in, 8) == 0 ? take_below(in, 24) : PUDDOCKLE_FIELDS;
+    struct slice record = {in->bytes, in->left};
+    if (read_record(kind, record, fields, room).number != 0)
+        return;
+    struct slice sets[3];
+    for (int i = 0; i < 3; i++) {
+        size_t at = i == 0 ? PUDDOCKLE_SEQUENCE_COUNT : i == 1 ? PUDDOCKLE_PICTURE_COUNT : PUDDOCKLE_EXTENSION_COUNT;
+        MUST(fields[at + 1] <= record.length && fields[at + 2] <= record.length - fields[at + 1]);
+        sets[i] = (struct slice){record.bytes + fields[at + 1], fields[at + 2]};
+    }
+    struct answer a = write_record(kind, fields, PUDDOCKLE_FIELDS, sets, written, record.length);
+    MUST(a.number == 0 && a.count == record.length && memcmp(written, record.bytes, record.length) == 0);
+    a = write_record(kind, fields, PUDDOCKLE_FIELDS, sets, written, record.length - 1);
+    MUST(a.number == 29);
+}
+
+/* Sets of these bytes, each after its 2-byte length: `count` of them, of 1 to 4 bytes. */
+static struct slice build_sets(struct input *in, uint8_t type, unsigned count, uint8_t *out) {
+    size_t at = 0;
+    while (count-- > 0) {
+        unsigned length = 1 + take_below(in, 4);
+        out[at++] = 0;
+        out[at++] = (uint8_t)length;
+        out[at++] = type;
+        for (unsigned i = 1; i < length; i++)
+            out[at++] = take(in);
+    }
+    return (struct slice){out, at};
+}
+
+/* Fields that fit a record, or all but one do; where they are accepted, the record is read again. */
+static void try_write_record(struct input *in) {
+    static const uint8_t types[] = {0x67, 0x68, 0x6D};
+    static const size_t counts[] = {PUDDOCKLE_SEQUENCE_COUNT, PUDDOCKLE_PICTURE_COUNT, PUDDOCKLE_EXTENSION_COUNT};
+    static uint8_t written[ROOM], lent[3][64];
+    uint64_t fields[24] = {0}, again[PUDDOCKLE_FIELDS];
+    uint8_t shape = take(in), spoil = take(in);
+    uint32_t kind = spoil == 0xFF ? (uint32_t)take_number(in, 4) : shape & 1;
+    int trailer = kind == 0 && (shape & 2);
+    fields[PUDDOCKLE_PROFILE] = trailer ? 100 : 66;
+    fields[PUDDOCKLE_LEVEL] = take(in);
+    fields[PUDDOCKLE_COMPLETE_REPRESENTATION] = kind == 1 && (shape & 4);
+    fields[PUDDOCKLE_LENGTH_SIZE] = 1u << (shape >> 3 & 3) % 3;
+    fields[PUDDOCKLE_TRAILER] = trailer ? PUDDOCKLE_TRAILER_PRESENT : PUDDOCKLE_TRAILER_NONE;
+    struct slice sets[3];
+    for (int i = 0; i < 3; i++) {
+        fields[counts[i]] = i < 2 || trailer ? take_below(in, 5) : 0;
+        sets[i] = build_sets(in, types[i], (unsigned)fields[counts[i]], lent[i]);
+    }
+    if (spoil < 24)
+        fields[spoil] = (shape & 0x80) ? take_number(in, 8) : take(in);
+    struct slice *spoilt = &sets[spoil % 3];
+    if (spoil >= 24 && spoil < 27 && spoilt->length > 0)
+        lent[spoil % 3][take(in) % spoilt->length] = take(in);
+    if (spoil >= 27 && spoil < 30 && spoilt->length > 0)
+        spoilt->length--;
+    size_t count = spoil == 0xFE ? take_below(in, 24) : PUDDOCKLE_FIELDS + (shape >> 6 & 1);
+    size_t room = spoil == 0xFD ? take(in) : ROOM;
+    struct answer a = write_record(kind, fields, count, sets, written, room);
+    if (a.number == 0) {
+        struct slice record = {written, a.count};
+        MUST(read_record(kind, record, again, PUDDOCKLE_FIELDS).number == 0);
+    }
+}
+
+/* One sample. */
+
+static void try_check_sample(struct input *in) {
+    static uint8_t built[ROOM];
+    uint8_t shape = take(in);
+    uint32_t kind = (shape & 0xF0) == 0 ? (uint32_t)take_number(in, 4) : shape & 1;
+    uint32_t size = (shape & 0xF0) == 0x10 ? (uint32_t)take_number(in, 4) : 1u << (shape >> 1 & 3) % 3;
+    struct slice sample = {in->bytes, in->left};
+    if (shape & 8)
+        sample = (struct slice){built, build_sample(in, size == 2 || size == 4 ? (int)size : 1, built, ROOM)};
+    struct answer a[2];
+    for (int side = AT_END; side <= AT_START; side++) {
+        a[side] = unset;
+        const uint8_t *lent = lend_copy(IN_1, side, sample.bytes, sample.length);
+        a[side].number = puddockle_check_sample(kind, size, lent, sample.length, &a[side].place);
+        judge(CHECK_SAMPLE, &a[side], a[side].place);
+        MUST(a[side].number == 0 || a[side].number < 14 || a[side].place < sample.length);
+    }
+    MUST(memcmp(&a[0], &a[1], sizeof a[0]) == 0);
+}
+
+/* A bundle. */
+
+static struct answer check_bundle(const uint8_t *bundle, size_t length) {
+    struct answer a = unset;
+    a.number = puddockle_check_bundle(bundle, length, &a.place);
+    judge(CHECK_BUNDLE, &a, a.place);
+    MUST(a.place <= length);
+    return a;
+}
+
+static struct answer resolve(const uint8_t *bundle, size_t length, uint64_t sample, uint8_t *out, size_t room) {
+    struct answer a = unset;
+    fill(out, room);
+    a.number = puddockle_resolve(bundle, length, sample, out, room, &a.place, &a.count);
+    judge(RESOLVE, &a, a.count);
+    judge_output(&a, out, room);
+    return a;
+}
+
+static struct answer unit(const uint8_t *bundle, size_t length, uint64_t sample, uint64_t number) {
+    struct answer a = unset;
+    a.number = puddockle_unit(bundle, length, sample, number, &a.place, &a.start, &a.length);
+    judge(UNIT, &a, a.length);
+    MUST(a.start <= length && a.length <= length - a.start);
+    MUST(a.number == 0 ? a.length > 0 : a.start == 0 && a.length == 0);
+    return a;
+}
+
+static struct answer list(const uint8_t *bundle, size_t length, uint64_t sample, uint8_t *out, size_t room) {
+    struct answer a = unset;
+    fill(out, room);
+    a.number = puddockle_names(bundle, length, sample, out, room, &a.place, &a.count);
+    judge(NAMES, &a, a.count / PUDDOCKLE_NAMES_ENTRY);
+    judge_output(&a, out, room);
+    MUST(a.count % PUDDOCKLE_NAMES_ENTRY == 0);
+    return a;
+}
+
+static struct answer audit(const uint8_t *bundle, size_t length, uint8_t *lines, size_t room) {
+    struct answer a = unset;
+    fill(lines, room);
+    a.number = puddockle_audit(bundle, length, lines, room, &a.place, &a.count, &a.passed, &a.empty, &a.refused);
+    judge(AUDIT, &a, a.passed);
+    judge_output(&a, lines, room);
+    MUST(a.passed + a.empty + a.refused == a.count / PUDDOCKLE_LINE && a.count % PUDDOCKLE_LINE == 0);
+    for (size_t at = 0; at < a.count; at += PUDDOCKLE_LINE) {
+        MUST(lines[at] == 0 || (lines[at] >= 14 && lines[at] <= 28));
+        counters[(AUDIT * 32 + lines[at]) * 16 + 15] = 1;
+    }
+    return a;
+}
+
+/* The units of a resolved sample, one by one, are what was written; the audit counts them. */
+static void compare_units(const uint8_t *bundle, size_t length, uint64_t sample, const uint8_t *out, uint64_t count,
+                          uint64_t units) {
+    uint64_t at = 0;
+    for (uint64_t number = 1; number <= units && number <= 40; number++) {
+        struct answer a = unit(bundle, length, sample, number);
+        MUST(a.number == 0 && at + 4 + a.length <= count);
+        uint64_t said = (uint64_t)out[at] << 24 | out[at + 1] << 16 | out[at + 2] << 8 | out[at + 3];
+        MUST(said == a.length && memcmp(out + at + 4, bundle + a.start, a.length) == 0);
+        at += 4 + a.length;
+    }
+    MUST(units > 40 || at == count);
+    MUST(unit(bundle, length, sample, units + 1).number == 30);
+    MUST(unit(bundle, length, sample, 0).number == 30);
+}
+
+/* All calls on one bundle. */
+static void try_bundle(const uint8_t *bundle, size_t length, struct input *in, enum side side, struct answer all[5]) {
+    static uint8_t lines[ROOM];
+    all[0] = check_bundle(bundle, length);
+    all[1] = audit(bundle, length, lines, sizeof lines);
+    MUST(all[1].number == all[0].number && all[1].place == all[0].place);
+    uint64_t sample = take_mostly_small(in), samples = all[1].count / PUDDOCKLE_LINE;
+    uint8_t *out = lend(OUT, side, ROOM);
+    all[2] = resolve(bundle, length, sample, out, ROOM);
+    if (all[0].number != 0) {
+        MUST(all[2].number == all[0].number && all[2].place == all[0].place);
+    } else if (sample == 0 || sample > samples) {
+        MUST(all[2].number == 30);
+    } else {
+        const uint8_t *line = lines + (sample - 1) * PUDDOCKLE_LINE;
+        uint64_t place = (uint64_t)line[1] << 24 | line[2] << 16 | line[3] << 8 | line[4], units = 0;
+        for (int i = 5; i < PUDDOCKLE_LINE; i++)
+            units = units << 8 | line[i];
+        MUST(all[2].number == 29 || (all[2].number == line[0] && all[2].place == place));
+        if (all[2].number == 0)
+            compare_units(bundle, length, sample, out, all[2].count, units);
+    }
+    /* Exact rooms are enough, one byte less is not. */
+    if (all[2].number == 0 && all[2].count > 0) {
+        uint64_t count = all[2].count;
+        MUST(resolve(bundle, length, sample, lend(OUT, side, count), count).number == 0);
+        MUST(resolve(bundle, length, sample, lend(OUT, side, count - 1), count - 1).number == 29);
+    }
+    all[3] = list(bundle, length, sample, lend(OUT, side, ROOM), ROOM);
+    if (all[3].number == 0 && all[3].count > 0) {
+        uint64_t count = all[3].count;
+        MUST(list(bundle, length, sample, lend(OUT, side, count), count).number == 0);
+        MUST(list(bundle, length, sample, lend(OUT, side, count - 1), count - 1).number == 29);
+    }
+    if (samples > 0) {
+        size_t room = samples * PUDDOCKLE_LINE;
+        MUST(audit(bundle, length, lend(OUT, side, room), room).number == 0);
+        MUST(audit(bundle, length, lend(OUT, side, room - 1), room - 1).number == 29);
+    }
+    all[4] = unit(bundle, length, sample, take_mostly_small(in));
+}
+
+static void try_both_sides(const uint8_t *bundle, size_t length, struct input in) {
+    struct answer all[2][5];
+    for (int side = AT_END; side <= AT_START; side++) {
+        struct input same = in;
+        const uint8_t *lent = lend_copy(IN_1, side, bundle, length);
+        try_bundle(lent, length, &same, side, all[side]);
+        MUST(length == 0 || memcmp(lent, bundle, length) == 0);
+    }
+    MUST(memcmp(all[0], all[1], sizeof all[0]) == 0);
+}
+
+int LLVMFuzzerTestOneInput(const uint8_t *data, size_t size) {
+    static uint8_t built[ROOM];
+    struct input in = {data, size};
+    switch (take_below(&in, 8)) {
+    case 0:
+        try_read_record(&in);
+        break;
+    case 1:
+        try_write_record(&in);
+        break;
+    case 2:
+        try_check_sample(&in);
+        break;
+    case 3: {
+        /* The rest as it stands is the bundle; two bytes before it are the numbers asked for. */
+        struct input numbers = {in.bytes, in.left < 2 ? in.left : 2};
+        in.bytes += numbers.left;
+        in.left -= numbers.left;
+        try_both_sides(in.bytes, in.left, numbers);
+        break;
+    }
+    default: {
+        struct input numbers = {in.bytes, in.left < 2 ? in.left : 2};
+        in.bytes += numbers.left;
+        in.left -= numbers.left;
+        uint8_t change = take(&in), value = take(&in);
+        size_t length = build_bundle(&in, built, ROOM);
+        /* Now and then one byte near the front is changed. */
+        if (change < 0x40 && change < length)
+            built[change] = value;
+        try_both_sides(built, length, numbers);
+    }
+    }
+    return 0;
+}

@@ -1,0 +1,213 @@
+//! One call, asked of the library and of the peer. What each returns, sets and writes is compared whole.
+
+use std::ptr;
+
+use peer::calls::{self, Answer};
+use peer::record_writer::LentSets;
+use puddockle::raw::*;
+
+use crate::buffer::{self, UNSET};
+use crate::make::fields::MadeFields;
+
+/// A call of the C interface with all its arguments. `room` is the length of the slice lent for the output.
+pub enum Call<'a> {
+    ReadRecord { kind: u32, record: &'a [u8], room: usize },
+    WriteRecord { kind: u32, fields: &'a MadeFields, room: usize },
+    CheckSample { kind: u32, length_size: u32, sample: &'a [u8] },
+    CheckBundle { bundle: &'a [u8] },
+    Resolve { bundle: &'a [u8], sample: u64, room: usize },
+    Unit { bundle: &'a [u8], sample: u64, unit: u64 },
+    Names { bundle: &'a [u8], sample: u64, room: usize },
+    Audit { bundle: &'a [u8], room: usize },
+}
+
+/// What the peer said, and the first difference if there is one.
+pub struct Outcome {
+    pub answer: Answer,
+    /// The audit's lines, or none.
+    pub lines: Vec<u8>,
+    pub difference: Option<String>,
+}
+
+/// The pointer of a slice; null where it is empty, since C callers may give that.
+fn pointer<T>(slice: &[T]) -> *const T {
+    if slice.is_empty() {
+        ptr::null()
+    } else {
+        slice.as_ptr()
+    }
+}
+
+fn pointer_mut<T>(slice: &mut [T]) -> *mut T {
+    if slice.is_empty() {
+        ptr::null_mut()
+    } else {
+        slice.as_mut_ptr()
+    }
+}
+
+impl Call<'_> {
+    /// Asks both.
+    pub fn compare(&self) -> Outcome {
+        match *self {
+            Call::ReadRecord { kind, record, room } => read_record(kind, record, room),
+            Call::WriteRecord { kind, fields, room } => write_record(kind, fields, room),
+            Call::CheckSample { kind, length_size, sample } => check_sample(kind, length_size, sample),
+            Call::CheckBundle { bundle } => check_bundle(bundle),
+            Call::Resolve { bundle, sample, room } => resolve(bundle, sample, room),
+            Call::Unit { bundle, sample, unit } => one_unit(bundle, sample, unit),
+            Call::Names { bundle, sample, room } => names(bundle, sample, room),
+            Call::Audit { bundle, room } => audit(bundle, room),
+        }
+    }
+}
+
+/// The outcome, given both answers and both buffers.
+fn outcome<T: PartialEq>(answer: Answer, given: Answer, expected: &T, written: &T) -> Outcome {
+    let difference = if given != answer {
+        Some(format!("the peer answers {answer:?}, the library {given:?}"))
+    } else if written != expected {
+        Some(format!("both answer {answer:?}, but the buffers differ"))
+    } else {
+        None
+    };
+    Outcome { answer, lines: Vec::new(), difference }
+}
+
+fn read_record(kind: u32, record: &[u8], room: usize) -> Outcome {
+    let mut expected = buffer::numbers(room);
+    let mut written = expected.clone();
+    let answer = calls::read_record(kind, record, expected.lent());
+    let mut given = Answer { place: UNSET, ..Answer::default() };
+    let fields = written.lent();
+    // Sound: slices and their own lengths, and a number of our own. So in all calls below.
+    given.number = unsafe {
+        puddockle_read_record(kind, pointer(record), record.len(), pointer_mut(fields), fields.len(), &mut given.place)
+    };
+    outcome(answer, given, &expected, &written)
+}
+
+fn write_record(kind: u32, fields: &MadeFields, room: usize) -> Outcome {
+    let mut expected = buffer::bytes(room);
+    let mut written = expected.clone();
+    let MadeFields { numbers, sequence, picture, extension } = fields;
+    let sets = LentSets { sequence, picture, extension };
+    let answer = calls::write_record(kind, numbers, sets, expected.lent());
+    let mut given = Answer { place: UNSET, count: UNSET, ..Answer::default() };
+    let out = written.lent();
+    given.number = unsafe {
+        puddockle_write_record(
+            kind,
+            pointer(numbers),
+            numbers.len(),
+            pointer(sequence),
+            sequence.len(),
+            pointer(picture),
+            picture.len(),
+            pointer(extension),
+            extension.len(),
+            pointer_mut(out),
+            out.len(),
+            &mut given.place,
+            &mut given.count,
+        )
+    };
+    outcome(answer, given, &expected, &written)
+}
+
+fn check_sample(kind: u32, length_size: u32, sample: &[u8]) -> Outcome {
+    let answer = calls::check_sample(kind, length_size, sample);
+    let mut given = Answer { place: UNSET, ..Answer::default() };
+    given.number =
+        unsafe { puddockle_check_sample(kind, length_size, pointer(sample), sample.len(), &mut given.place) };
+    outcome(answer, given, &(), &())
+}
+
+fn check_bundle(bundle: &[u8]) -> Outcome {
+    let answer = calls::check_bundle(bundle);
+    let mut given = Answer { place: UNSET, ..Answer::default() };
+    given.number = unsafe { puddockle_check_bundle(pointer(bundle), bundle.len(), &mut given.place) };
+    outcome(answer, given, &(), &())
+}
+
+fn resolve(bundle: &[u8], sample: u64, room: usize) -> Outcome {
+    let mut expected = buffer::bytes(room);
+    let mut written = expected.clone();
+    let answer = calls::resolve_sample(bundle, sample, expected.lent());
+    let mut given = Answer { place: UNSET, count: UNSET, ..Answer::default() };
+    let out = written.lent();
+    given.number = unsafe {
+        puddockle_resolve(
+            pointer(bundle),
+            bundle.len(),
+            sample,
+            pointer_mut(out),
+            out.len(),
+            &mut given.place,
+            &mut given.count,
+        )
+    };
+    outcome(answer, given, &expected, &written)
+}
+
+fn one_unit(bundle: &[u8], sample: u64, unit: u64) -> Outcome {
+    let answer = calls::one_unit(bundle, sample, unit);
+    let mut given = Answer { place: UNSET, start: UNSET, length: UNSET, ..Answer::default() };
+    given.number = unsafe {
+        puddockle_unit(
+            pointer(bundle),
+            bundle.len(),
+            sample,
+            unit,
+            &mut given.place,
+            &mut given.start,
+            &mut given.length,
+        )
+    };
+    outcome(answer, given, &(), &())
+}
+
+fn names(bundle: &[u8], sample: u64, room: usize) -> Outcome {
+    let mut expected = buffer::bytes(room);
+    let mut written = expected.clone();
+    let answer = calls::naming_list(bundle, sample, expected.lent());
+    let mut given = Answer { place: UNSET, count: UNSET, ..Answer::default() };
+    let out = written.lent();
+    given.number = unsafe {
+        puddockle_names(
+            pointer(bundle),
+            bundle.len(),
+            sample,
+            pointer_mut(out),
+            out.len(),
+            &mut given.place,
+            &mut given.count,
+        )
+    };
+    outcome(answer, given, &expected, &written)
+}
+
+fn audit(bundle: &[u8], room: usize) -> Outcome {
+    let mut expected = buffer::bytes(room);
+    let mut written = expected.clone();
+    let answer = calls::audit_bundle(bundle, expected.lent());
+    let mut given = Answer { place: UNSET, count: UNSET, tally: [UNSET; 3], ..Answer::default() };
+    let [mut passed, mut empty, mut refused] = given.tally;
+    let lines = written.lent();
+    given.number = unsafe {
+        puddockle_audit(
+            pointer(bundle),
+            bundle.len(),
+            pointer_mut(lines),
+            lines.len(),
+            &mut given.place,
+            &mut given.count,
+            &mut passed,
+            &mut empty,
+            &mut refused,
+        )
+    };
+    given.tally = [passed, empty, refused];
+    let lines = expected.lent()[..answer.count as usize].to_vec();
+    Outcome { lines, ..outcome(answer, given, &expected, &written) }
+}

@@ -1,0 +1,123 @@
+//! Compares the library with the peer: `differential [--seed S] [--cases N]`.
+//!
+//! Every run has the fixed cases, then rounds of random ones until N more calls were compared. Ends with status 1
+//! at the first differences, or if a number was not reached by a call that can give it.
+
+mod buffer;
+mod call;
+mod fixed;
+mod make;
+mod random;
+mod report;
+mod rounds;
+mod text;
+
+use std::process::exit;
+use std::time::Instant;
+
+use call::Call;
+use random::Random;
+use report::Report;
+
+/// After so many differences the run ends.
+const MOST_DIFFERENCES: usize = 5;
+
+fn main() {
+    let (seed, cases) = arguments();
+    let begin = Instant::now();
+    let mut run = Run { report: Report::default(), differences: 0, whence: String::new() };
+    run.fixed();
+    println!("{} fixed calls, then random ones with seed {seed}", run.report.cases);
+    let mut round = 0;
+    let last = run.report.cases + cases;
+    while run.report.cases < last {
+        run.whence = format!("seed {seed} round {round}");
+        rounds::round(&mut Random::of_round(seed, round), &mut |call| run.ask(call));
+        round += 1;
+    }
+    let missing = run.report.print();
+    println!(
+        "{} calls compared in {:.1} s, {} differ",
+        run.report.cases,
+        begin.elapsed().as_secs_f64(),
+        run.differences
+    );
+    if !missing.is_empty() {
+        println!("not reached: {}", missing.join(", "));
+    }
+    exit((run.differences > 0 || !missing.is_empty()) as i32);
+}
+
+/// The seed and the number of calls.
+fn arguments() -> (u64, u64) {
+    let (mut seed, mut cases) = (1, 100_000);
+    let mut words = std::env::args().skip(1);
+    while let Some(word) = words.next() {
+        let number = words.next().and_then(|word| word.parse().ok());
+        match (word.as_str(), number) {
+            ("--seed", Some(number)) => seed = number,
+            ("--cases", Some(number)) => cases = number,
+            _ => {
+                eprintln!("differential [--seed S] [--cases N]");
+                exit(2);
+            }
+        }
+    }
+    (seed, cases)
+}
+
+struct Run {
+    report: Report,
+    differences: usize,
+    /// Where the case comes from.
+    whence: String,
+}
+
+impl Run {
+    fn fixed(&mut self) {
+        for (index, bundle) in fixed::bundles().iter().enumerate() {
+            self.whence = format!("fixed bundle {index}");
+            rounds::fixed_round(bundle, &mut |call| self.ask(call));
+        }
+        for (index, bundle) in fixed::longest().iter().enumerate() {
+            self.whence = format!("longest bundle {index}");
+            self.ask(Call::CheckBundle { bundle });
+            self.ask(Call::Audit { bundle, room: 13 });
+            self.ask(Call::Resolve { bundle, sample: 1, room: bundle.len() });
+            self.ask(Call::Resolve { bundle, sample: 1, room: 100 });
+            self.ask(Call::Unit { bundle, sample: 1, unit: 1 });
+            self.ask(Call::Names { bundle, sample: 1, room: 0 });
+        }
+        for (kind, record) in fixed::records() {
+            self.whence = "fixed record".to_string();
+            for (kind, room) in [(kind as u32, 18), (1 - kind as u32, 18), (kind as u32, 17), (kind as u32 + 2, 18)] {
+                self.ask(Call::ReadRecord { kind, record: &record, room });
+            }
+        }
+        for (kind, fields) in fixed::fields() {
+            self.whence = "fixed fields".to_string();
+            for (kind, room) in [(kind as u32, 30), (kind as u32, 12), (1 - kind as u32, 30), (kind as u32 + 256, 30)] {
+                self.ask(Call::WriteRecord { kind, fields: &fields, room });
+            }
+        }
+        for sample in fixed::samples() {
+            self.whence = format!("fixed sample {sample:02x?}");
+            for (kind, length_size) in [(0, 1), (1, 1), (1, 2), (0, 4), (2, 1), (1, 3), (256, 1), (1, 257)] {
+                self.ask(Call::CheckSample { kind, length_size, sample: &sample });
+            }
+        }
+    }
+
+    fn ask(&mut self, call: Call) {
+        let outcome = call.compare();
+        self.report.note(&call, &outcome);
+        if let Some(difference) = outcome.difference {
+            println!("{}: {difference}\n  {}", self.whence, call.text());
+            self.differences += 1;
+            if self.differences == MOST_DIFFERENCES {
+                println!("stopped after {MOST_DIFFERENCES} differences");
+                exit(1);
+            }
+        }
+    }
+}

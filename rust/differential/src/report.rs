@@ -1,0 +1,77 @@
+//! What was reached: how often each call gave each number.
+
+use std::collections::BTreeMap;
+
+use crate::call::{Call, Outcome};
+
+/// The calls by name, with the numbers that document 01 lets each give (0: accepted).
+const CALLS: [(&str, &[(u32, u32)]); 9] = [
+    ("read_record", &[(0, 0), (4, 4), (8, 13), (29, 29)]),
+    ("write_record", &[(0, 0), (4, 4), (29, 29), (31, 31)]),
+    ("check_sample", &[(0, 0), (4, 4), (11, 11), (14, 22)]),
+    ("check_bundle", &[(0, 13)]),
+    ("resolve", &[(0, 30)]),
+    ("unit", &[(0, 28), (30, 30)]),
+    ("names", &[(0, 13), (29, 30)]),
+    ("audit", &[(0, 13), (29, 29)]),
+    ("audit lines", &[(0, 0), (14, 28)]),
+];
+
+#[derive(Default)]
+pub struct Report {
+    pub cases: u64,
+    counts: BTreeMap<(&'static str, u32), u64>,
+    /// How many accepted calls wrote something.
+    written: BTreeMap<&'static str, u64>,
+}
+
+impl Call<'_> {
+    pub fn name(&self) -> &'static str {
+        match self {
+            Call::ReadRecord { .. } => "read_record",
+            Call::WriteRecord { .. } => "write_record",
+            Call::CheckSample { .. } => "check_sample",
+            Call::CheckBundle { .. } => "check_bundle",
+            Call::Resolve { .. } => "resolve",
+            Call::Unit { .. } => "unit",
+            Call::Names { .. } => "names",
+            Call::Audit { .. } => "audit",
+        }
+    }
+}
+
+impl Report {
+    pub fn note(&mut self, call: &Call, outcome: &Outcome) {
+        self.cases += 1;
+        *self.counts.entry((call.name(), outcome.answer.number)).or_default() += 1;
+        if outcome.answer.count > 0 {
+            *self.written.entry(call.name()).or_default() += 1;
+        }
+        for line in outcome.lines.chunks_exact(13) {
+            *self.counts.entry(("audit lines", line[0] as u32)).or_default() += 1;
+        }
+    }
+
+    /// Prints the counts, and answers what was not reached though it can be.
+    pub fn print(&self) -> Vec<String> {
+        let mut missing = Vec::new();
+        for (name, ranges) in CALLS {
+            let numbers = ranges.iter().flat_map(|&(first, last)| first..=last);
+            let counts: Vec<String> = numbers
+                .map(|number| {
+                    let count = self.counts.get(&(name, number)).copied().unwrap_or(0);
+                    if count == 0 {
+                        missing.push(format!("{name} {number}"));
+                    }
+                    format!("{number}:{count}")
+                })
+                .collect();
+            let written = match self.written.get(name) {
+                Some(count) => format!(", {count} wrote something"),
+                None => String::new(),
+            };
+            println!("{name:>12}  {}{written}", counts.join(" "));
+        }
+        missing
+    }
+}

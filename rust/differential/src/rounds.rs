@@ -1,0 +1,166 @@
+//! Rounds: a thing is made, and several calls are made on it.
+
+use peer::calls;
+
+use crate::call::Call;
+use crate::make::bundle::make_bundle;
+use crate::make::fields::{make_fields, MadeFields};
+use crate::make::record::make_bytes;
+use crate::make::sample::{make_sample, Manner};
+use crate::random::Random;
+
+/// A kind: mostly 0 or 1, sometimes one that only looks so in fewer bits.
+fn kind(random: &mut Random) -> u32 {
+    match random.below(24) {
+        0 => 2,
+        1 => 256 + random.below(2) as u32,
+        2 => random.next() as u32,
+        _ => random.below(2) as u32,
+    }
+}
+
+/// One round of a run.
+pub fn round(random: &mut Random, ask: &mut impl FnMut(Call)) {
+    match random.below(8) {
+        0 => record_round(random, ask),
+        1 => fields_round(random, ask),
+        2 => sample_round(random, ask),
+        _ => {
+            let bundle = make_bundle(random);
+            bundle_round(random, &bundle, ask);
+        }
+    }
+}
+
+fn record_round(random: &mut Random, ask: &mut impl FnMut(Call)) {
+    let kind = kind(random);
+    let record = make_bytes(random, kind as u8 & 1);
+    let room = random.pick(&[18, 18, 18, 18, 19, 25, 17, 1, 0]);
+    ask(Call::ReadRecord { kind, record: &record, room });
+}
+
+fn fields_round(random: &mut Random, ask: &mut impl FnMut(Call)) {
+    let kind = kind(random);
+    let fields = make_fields(random, kind as u8 & 1);
+    for _ in 0..2 {
+        let needed = record_length(kind, &fields);
+        let room = room(random, needed);
+        ask(Call::WriteRecord { kind, fields: &fields, room });
+    }
+}
+
+/// The length of the record, or 0.
+fn record_length(kind: u32, fields: &MadeFields) -> u64 {
+    let sets = peer::record_writer::LentSets {
+        sequence: &fields.sequence,
+        picture: &fields.picture,
+        extension: &fields.extension,
+    };
+    let mut out = vec![0; 64 + fields.sequence.len() + fields.picture.len() + fields.extension.len()];
+    calls::write_record(kind, &fields.numbers, sets, &mut out).count
+}
+
+fn sample_round(random: &mut Random, ask: &mut impl FnMut(Call)) {
+    let kind = kind(random);
+    let size = random.pick(&[1, 2, 4]);
+    let manner = Manner {
+        kind: kind as u8 & 1,
+        length_size: size,
+        most_units: random.pick(&[1, 3, 8, 30]),
+        linked: random.once_in(2),
+        faults: random.once_in(2),
+    };
+    let mut sample = make_sample(random, &manner).bytes;
+    if random.once_in(3) {
+        random.damage(&mut sample);
+    }
+    let length_size = match random.below(24) {
+        0 => 0,
+        1 => 3,
+        2 => 256 + size as u32,
+        3 => random.next() as u32,
+        _ => size as u32,
+    };
+    ask(Call::CheckSample { kind, length_size, sample: &sample });
+    for other in [1, 2, 4] {
+        ask(Call::CheckSample { kind: kind & 1, length_size: other, sample: &sample });
+    }
+}
+
+/// All calls on a bundle, for random samples, units and rooms.
+fn bundle_round(random: &mut Random, bundle: &[u8], ask: &mut impl FnMut(Call)) {
+    ask(Call::CheckBundle { bundle });
+    let samples = peer::bundle::Bundle::read(bundle).map_or(2, |bundle| bundle.sample_count()) as u64;
+    let needed = 13 * samples;
+    ask(Call::Audit { bundle, room: room(random, needed) });
+    for _ in 0..3 {
+        let sample = random.near(samples);
+        let needed = resolved_length(bundle, sample);
+        ask(Call::Resolve { bundle, sample, room: room(random, needed) });
+        let units = unit_count(bundle, sample);
+        ask(Call::Unit { bundle, sample, unit: random.near(units) });
+    }
+    for _ in 0..2 {
+        // The first samples are named most.
+        let sample = if random.once_in(2) { random.near(samples) } else { random.between(1, 4) as u64 };
+        let needed = names_length(bundle, sample);
+        ask(Call::Names { bundle, sample, room: room(random, needed) });
+    }
+}
+
+/// All calls on a fixed bundle: samples 0 to 4 and numbers that only look like 1, exact rooms and one byte less.
+pub fn fixed_round(bundle: &[u8], ask: &mut impl FnMut(Call)) {
+    ask(Call::CheckBundle { bundle });
+    let samples = peer::bundle::Bundle::read(bundle).map_or(0, |bundle| bundle.sample_count());
+    for room in [13 * samples, (13 * samples).saturating_sub(1), 13 * samples + 5] {
+        ask(Call::Audit { bundle, room });
+    }
+    for sample in [0, 1, 2, 3, 4, 1 << 32 | 1] {
+        let needed = resolved_length(bundle, sample) as usize;
+        for room in [needed, needed.saturating_sub(1), needed + 3] {
+            ask(Call::Resolve { bundle, sample, room });
+        }
+        let needed = names_length(bundle, sample) as usize;
+        for room in [needed, needed.saturating_sub(1), needed + 3] {
+            ask(Call::Names { bundle, sample, room });
+        }
+        for unit in [0, 1, 2, 1 << 32 | 1] {
+            ask(Call::Unit { bundle, sample, unit });
+        }
+    }
+}
+
+/// A room for `needed` bytes: exact, one less, more, none.
+fn room(random: &mut Random, needed: u64) -> usize {
+    let needed = needed as usize;
+    match random.below(8) {
+        0 => needed.saturating_sub(1),
+        1 => 0,
+        2 => random.below(needed + 1),
+        3 | 4 => needed,
+        _ => needed + random.between(1, 40),
+    }
+}
+
+/// How long the sample's resolved units are; 0 where it is refused.
+fn resolved_length(bundle: &[u8], sample: u64) -> u64 {
+    (1..=unit_count(bundle, sample)).map(|unit| 4 + calls::one_unit(bundle, sample, unit).length).sum()
+}
+
+/// How many units the sample delivers; 0 where it is refused.
+fn unit_count(bundle: &[u8], sample: u64) -> u64 {
+    let Ok(bundle) = peer::bundle::Bundle::read(bundle) else { return 0 };
+    let Ok(number) = bundle.number(sample) else { return 0 };
+    let mut units = 0;
+    let mut forms = peer::forms::Forms::new(&bundle);
+    match peer::deliver::deliver(&bundle, &mut forms, number, &mut |_| units += 1) {
+        Ok(()) => units,
+        Err(_) => 0,
+    }
+}
+
+/// How long the sample's naming list is.
+fn names_length(bundle: &[u8], sample: u64) -> u64 {
+    let mut out = vec![0; 6 * bundle.len()];
+    calls::naming_list(bundle, sample, &mut out).count
+}

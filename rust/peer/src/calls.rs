@@ -1,0 +1,154 @@
+//! Every call of the C interface, on slices: the refusal number (0: accepted) and all that the call sets.
+
+use crate::audit::{audit, Tally};
+use crate::bundle::Bundle;
+use crate::form;
+use crate::kind::Kind;
+use crate::length_size::LengthSize;
+use crate::names::names;
+use crate::record::{self, Record, Sets};
+use crate::record_writer::{self, Fields, LentSets, TrailerFields};
+use crate::refusal::*;
+use crate::resolve::{resolve, unit};
+
+/// How many numbers describe a record.
+pub const FIELD_COUNT: usize = 18;
+
+/// The number returned and the numbers set. What a call does not set stays 0.
+#[derive(Clone, Copy, Debug, Default, PartialEq, Eq)]
+pub struct Answer {
+    pub number: u32,
+    pub place: u64,
+    pub count: u64,
+    pub start: u64,
+    pub length: u64,
+    pub tally: [u64; 3],
+}
+
+/// The answer of a refusal, or else the one that `accepted` makes.
+fn answer<T>(result: Result<T, Refusal>, accepted: impl FnOnce(T) -> Answer) -> Answer {
+    match result {
+        Ok(value) => accepted(value),
+        Err(no) => Answer { number: no.number as u32, place: no.place as u64, ..Answer::default() },
+    }
+}
+
+fn counted(count: usize) -> Answer {
+    Answer { count: count as u64, ..Answer::default() }
+}
+
+pub fn read_record(kind: u32, bytes: &[u8], fields: &mut [u64]) -> Answer {
+    let result = Kind::of_number(kind, 0).and_then(|kind| {
+        let record = record::read(kind, bytes)?;
+        if fields.len() < FIELD_COUNT {
+            return refuse(ROOM, 0);
+        }
+        fields[..FIELD_COUNT].copy_from_slice(&numbers_of(&record));
+        Ok(())
+    });
+    answer(result, |()| Answer::default())
+}
+
+pub fn write_record(kind: u32, fields: &[u64], sets: LentSets, out: &mut [u8]) -> Answer {
+    let result = Kind::of_number(kind, 0).and_then(|kind| match fields_of(fields) {
+        Some(fields) => record_writer::write(kind, &fields, sets, out),
+        None => refuse(FIELDS, 0),
+    });
+    answer(result, counted)
+}
+
+pub fn check_sample(kind: u32, length_size: u32, sample: &[u8]) -> Answer {
+    let result = Kind::of_number(kind, 0).and_then(|kind| match LengthSize::of_bytes(length_size as u64) {
+        Some(size) => form::check(kind, size, sample),
+        None => refuse(LENGTH_SIZE, 0),
+    });
+    answer(result, |()| Answer::default())
+}
+
+pub fn check_bundle(bundle: &[u8]) -> Answer {
+    answer(Bundle::read(bundle), |_| Answer::default())
+}
+
+pub fn resolve_sample(bundle: &[u8], sample: u64, out: &mut [u8]) -> Answer {
+    answer(resolve(bundle, sample, out), counted)
+}
+
+pub fn one_unit(bundle: &[u8], sample: u64, number: u64) -> Answer {
+    answer(unit(bundle, sample, number), |part| Answer {
+        start: part.start as u64,
+        length: part.length as u64,
+        ..Answer::default()
+    })
+}
+
+pub fn naming_list(bundle: &[u8], sample: u64, out: &mut [u8]) -> Answer {
+    answer(names(bundle, sample, out), counted)
+}
+
+pub fn audit_bundle(bundle: &[u8], lines: &mut [u8]) -> Answer {
+    answer(audit(bundle, lines), |(count, Tally { passed, empty, refused })| Answer {
+        count: count as u64,
+        tally: [passed, empty, refused],
+        ..Answer::default()
+    })
+}
+
+/// A record as the 18 numbers of the C interface. Where there is no trailer its numbers are 0.
+fn numbers_of(record: &Record) -> [u64; FIELD_COUNT] {
+    let sets = |sets: Sets| [sets.count as u64, sets.start as u64, sets.length as u64];
+    let [sequences, sequence_start, sequence_length] = sets(record.sequence);
+    let [pictures, picture_start, picture_length] = sets(record.picture);
+    let (trailer, values, extension) = match record.trailer {
+        Some(t) => (2, [t.chroma_format, t.luma_depth_less_8, t.chroma_depth_less_8], sets(t.extension)),
+        None => (0, [0; 3], [0; 3]),
+    };
+    [
+        record.profile as u64,
+        record.compatibility as u64,
+        record.level as u64,
+        (record.complete_representation == Some(true)) as u64,
+        record.length_size.bytes() as u64,
+        sequences,
+        sequence_start,
+        sequence_length,
+        pictures,
+        picture_start,
+        picture_length,
+        trailer,
+        values[0] as u64,
+        values[1] as u64,
+        values[2] as u64,
+        extension[0],
+        extension[1],
+        extension[2],
+    ]
+}
+
+/// The writer's fields from the 18 numbers, if there are so many and the trailer's is 0, 1 or 2.
+/// Starts and lengths are not looked at, nor a trailer's numbers where none is said to be present.
+fn fields_of(numbers: &[u64]) -> Option<Fields> {
+    if numbers.len() < FIELD_COUNT {
+        return None;
+    }
+    let trailer = match numbers[11] {
+        0 => TrailerFields::None,
+        1 => TrailerFields::Absent,
+        2 => TrailerFields::Present {
+            chroma_format: numbers[12],
+            luma_depth_less_8: numbers[13],
+            chroma_depth_less_8: numbers[14],
+            extension_count: numbers[15],
+        },
+        _ => return None,
+    };
+    Some(Fields {
+        profile: numbers[0],
+        compatibility: numbers[1],
+        level: numbers[2],
+        complete_representation: numbers[3],
+        length_size: numbers[4],
+        sequence_count: numbers[5],
+        picture_count: numbers[8],
+        trailer,
+    })
+}

@@ -1,0 +1,39 @@
+//! An independent implementation of document 01, written from the paper.
+//!
+//! The verified library is compared with it, answer by answer and in speed. Nothing here is shared with the
+//! library. Layouts are those of ISO/IEC 14496-15:2010, 5.2.4.1 and Annexes A and B; refusal numbers, places and
+//! their order are document 01's.
+//!
+//! | module | what it has |
+//! |---|---|
+//! | `refusal` | a number and a place, and the names of the numbers |
+//! | `kind`, `length_size`, `numbers` | the small types |
+//! | `record`, `record_writer` | configuration records read and written |
+//! | `unit`, `form` | units of a sample, and the check of a sample's form |
+//! | `bundle`, `forms` | a bundle read; its samples' forms, each checked once |
+//! | `extractor`, `link`, `copy` | an extractor, the sample it names, what it copies |
+//! | `deliver`, `resolve` | the units that a sample delivers, written out or one of them |
+//! | `names`, `audit`, `program` | the naming list, the audit, the program's text |
+//! | `calls` | every call of the C interface, on slices |
+
+#![forbid(unsafe_code)]
+
+pub mod audit;
+pub mod bundle;
+pub mod calls;
+pub mod copy;
+pub mod deliver;
+pub mod extractor;
+pub mod form;
+pub mod forms;
+pub mod kind;
+pub mod length_size;
+pub mod link;
+pub mod names;
+pub mod numbers;
+pub mod program;
+pub mod record;
+pub mod record_writer;
+pub mod refusal;
+pub mod resolve;
+pub mod unit;

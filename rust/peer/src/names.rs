@@ -1,0 +1,62 @@
+//! The naming list: which extractors name a sample.
+
+use crate::bundle::Bundle;
+use crate::extractor::Extractor;
+use crate::forms::Forms;
+use crate::link::named;
+use crate::numbers::SampleNumber;
+use crate::refusal::*;
+use crate::unit::*;
+
+/// Sample number in 2 bytes, place in 4.
+const ENTRY: usize = 6;
+
+/// Writes an entry for each extractor that names the sample and answers how many bytes that is.
+/// Refused with 1 to 13, 30, 29.
+pub fn names(bytes: &[u8], sample: u64, out: &mut [u8]) -> Result<usize, Refusal> {
+    let bundle = Bundle::read(bytes)?;
+    let asked = bundle.number(sample)?;
+    let list = naming_list(&bundle, asked);
+    if list.len() * ENTRY > out.len() {
+        return refuse(ROOM, 0);
+    }
+    for ((number, place), entry) in list.iter().zip(out.chunks_exact_mut(ENTRY)) {
+        entry[..2].copy_from_slice(&(number.0 as u16).to_be_bytes());
+        entry[2..].copy_from_slice(&(*place as u32).to_be_bytes());
+    }
+    Ok(list.len() * ENTRY)
+}
+
+/// Sample and place of each extractor that names `asked`, by sample and then place.
+fn naming_list(bundle: &Bundle, asked: SampleNumber) -> Vec<(SampleNumber, usize)> {
+    let mut forms = Forms::new(bundle);
+    let mut list = Vec::new();
+    for number in bundle.numbers() {
+        if forms.of(number).is_ok() {
+            for_each_extractor(bundle, number, |place, extractor| {
+                if named(bundle, number, extractor) == Ok(asked) {
+                    list.push((number, place));
+                }
+            });
+        }
+    }
+    list
+}
+
+/// The extractors of a well-formed sample, top-level and included, by place.
+fn for_each_extractor(bundle: &Bundle, number: SampleNumber, mut take: impl FnMut(usize, &Extractor)) {
+    let sample = bundle.sample_bytes(number);
+    let size = bundle.track_of(number).length_size;
+    let mut one = |unit: Unit| {
+        if unit.unit_type(sample) == EXTRACTOR {
+            take(unit.place, &Extractor::read(sample, size, unit));
+        }
+    };
+    for unit in top_level(sample, size) {
+        if unit.unit_type(sample) == AGGREGATOR {
+            included(sample, size, unit).for_each(&mut one);
+        } else {
+            one(unit);
+        }
+    }
+}

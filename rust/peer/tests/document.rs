@@ -1,0 +1,128 @@
+//! Document 01's own cases: B0, M1 to M12, and the case with times.
+
+use peer::calls::{self, Answer};
+use peer::program;
+
+/// The first 59 bytes of B0, up to sample 2: two tracks, sample 1 with one unit.
+const B0_HEAD: [u8; 59] = [
+    0x02, 0x00, 0x00, 0x07, 0x01, 0x42, 0x00, 0x1E, 0xFC, 0xE0, 0x00, 0x01, 0x00, 0x07, 0x01, 0x53, 0x00, 0x1E, 0xFC,
+    0x00, 0x00, 0x01, 0x02, 0x01, 0x00, 0x02, 0x01, 0, 0, 0, 0, 0, 0, 0, 0, 0, 0, 0, 3, 0x02, 0, 0, 0, 0, 0, 0, 0, 0,
+    0, 0, 0, 9, 0, 0, 0, 0x0C, 0x02, 0x65, 0x88,
+];
+const EXTRACTOR: [u8; 9] = [0x08, 0x7F, 0x80, 0x00, 0x03, 0x01, 0x00, 0x00, 0x00];
+const RESOLVED: [u8; 6] = [0, 0, 0, 2, 0x65, 0x88];
+
+fn b0() -> Vec<u8> {
+    [&B0_HEAD[..], &EXTRACTOR].concat()
+}
+
+/// B0 with other sample bytes.
+fn with_samples(first: &[u8], second: &[u8]) -> Vec<u8> {
+    let mut bundle = B0_HEAD[..56].to_vec();
+    bundle[38] = first.len() as u8;
+    bundle[51] = second.len() as u8;
+    bundle[55] = (first.len() + second.len()) as u8;
+    [&bundle, first, second].concat()
+}
+
+fn extractor(index: u8, offset: i8, data_offset: u8, data_length: u8) -> [u8; 9] {
+    [0x08, 0x7F, 0x80, 0x00, 0x03, index, offset as u8, data_offset, data_length]
+}
+
+fn refused(number: u32, place: u64) -> Answer {
+    Answer { number, place, ..Answer::default() }
+}
+
+/// What sample 2 resolves to, or the refusal.
+fn second(bundle: &[u8]) -> Result<Vec<u8>, Answer> {
+    let mut out = [0xEE; 64];
+    let answer = calls::resolve_sample(bundle, 2, &mut out);
+    assert!(out[answer.count as usize..].iter().all(|&byte| byte == 0xEE));
+    match answer.number {
+        0 => Ok(out[..answer.count as usize].to_vec()),
+        _ => Err(answer),
+    }
+}
+
+#[test]
+fn bench_bundle() {
+    assert_eq!(b0().len(), 68);
+    assert_eq!(second(&b0()), Ok(RESOLVED.to_vec()));
+    assert_eq!(program::text(&b0()), "1 passed 1\n2 passed 1\npassed 2 empty 0 refused 0\n");
+    assert_eq!(program::text(&b0()[..15]), "bundle refused 2 at 11\n");
+    assert_eq!(program::text(&[]), "bundle refused 2 at 0\n");
+    assert_eq!(program::text(&[0; 65537]), "bundle too big for this program\n");
+    let mut out = [0xEE; 6];
+    assert_eq!(calls::naming_list(&b0(), 1, &mut out).count, 6);
+    assert_eq!(out, [0, 2, 0, 0, 0, 0]);
+    assert_eq!(calls::naming_list(&b0(), 2, &mut []), Answer::default());
+}
+
+#[test]
+fn m1_to_m6() {
+    let one = [0x02, 0x65, 0x88];
+    let case = |e: [u8; 9]| second(&with_samples(&one, &e));
+    assert_eq!(case(extractor(1, 0, 0, 3)), Ok(RESOLVED.to_vec()));
+    assert_eq!(case(extractor(1, 0, 0, 2)), Err(refused(27, 0)));
+    assert_eq!(case(extractor(1, 0, 0, 4)), Err(refused(27, 0)));
+    assert_eq!(case(extractor(1, 0, 1, 0)), Err(refused(26, 0)));
+    assert_eq!(case(extractor(1, 0, 1, 9)), Err(refused(26, 0)));
+    assert_eq!(case(extractor(0, 0, 0, 0)), Err(refused(23, 0)));
+    assert_eq!(case(extractor(2, 0, 0, 0)), Err(refused(23, 0)));
+    assert_eq!(case(extractor(1, 1, 0, 0)), Err(refused(24, 0)));
+    assert_eq!(case(extractor(1, -1, 0, 0)), Err(refused(24, 0)));
+}
+
+#[test]
+fn m7_to_m9() {
+    let m7 = [0x08, 0x7E, 0x80, 0x00, 0x03, 0x00, 0x02, 0x65, 0x88];
+    assert_eq!(second(&with_samples(&[], &m7)), Ok(RESOLVED.to_vec()));
+    assert_eq!(calls::check_sample(1, 1, &m7), Answer::default());
+    assert_eq!(calls::check_sample(0, 1, &m7), refused(20, 6));
+    let m8 = |additional| [0x05, 0x7E, 0x80, 0x00, 0x03, additional, 0x02, 0x65, 0x88];
+    assert_eq!(second(&with_samples(&[], &m8(3))), Ok(RESOLVED.to_vec()));
+    assert_eq!(second(&with_samples(&[], &m8(2))), Err(refused(21, 0)));
+    assert_eq!(second(&with_samples(&[], &m8(4))), Err(refused(21, 0)));
+    let case = |length| second(&with_samples(&m8(3), &extractor(1, 0, 0, length)));
+    assert_eq!(case(0), Ok(RESOLVED.to_vec()));
+    assert_eq!(case(6), Ok(Vec::new()));
+    assert_eq!(case(9), Ok(RESOLVED.to_vec()));
+}
+
+#[test]
+fn m10_to_m12() {
+    let mut fields = [0; calls::FIELD_COUNT];
+    let mut record = vec![0x01, 0x64, 0x00, 0x1E, 0xFF, 0xE0, 0x00];
+    assert_eq!(calls::read_record(0, &record, &mut fields), refused(8, 0));
+    record.extend_from_slice(&[0xFD, 0xF8, 0xF8, 0x00]);
+    assert_eq!(calls::read_record(0, &record, &mut fields), Answer::default());
+    assert_eq!(fields, [100, 0, 30, 0, 4, 0, 6, 0, 0, 7, 0, 2, 1, 0, 0, 0, 11, 0]);
+    let m11 = [0x01, 0x42, 0x00, 0x1E, 0xFE, 0xE0, 0x00];
+    assert_eq!(calls::read_record(0, &m11, &mut fields), refused(11, 0));
+    assert_eq!(calls::check_sample(1, 1, &[0x00]), refused(16, 0));
+    assert_eq!(calls::check_sample(1, 1, &[0x02, 0x65]), refused(15, 0));
+    assert_eq!(calls::check_sample(1, 1, &[0x01, 0xE5]), refused(17, 0));
+    assert_eq!(calls::check_sample(1, 1, &[0x03, 0x7F, 0x80, 0x00]), refused(18, 0));
+    assert_eq!(calls::check_sample(1, 2, &[0x00]), refused(14, 0));
+}
+
+/// Own time 5 and linked times 0, 4, 6: offsets 0, 1, -1 name 4, 6, 0; -2 is 24.
+#[test]
+fn times() {
+    let mut head = B0_HEAD[..24].to_vec();
+    head.extend_from_slice(&[0, 4]);
+    for (track, time, length) in [(1, 0, 2), (1, 4, 2), (1, 6, 2), (2, 5, 9)] {
+        head.extend_from_slice(&[track, 0, 0, 0, 0, 0, 0, 0, time, 0, 0, 0, length]);
+    }
+    head.extend_from_slice(&[0, 0, 0, 15, 1, 0x61, 1, 0x62, 1, 0x63]);
+    let case = |offset| {
+        let mut out = [0; 5];
+        let bundle = [&head[..], &extractor(1, offset, 0, 0)].concat();
+        let answer = calls::resolve_sample(&bundle, 4, &mut out);
+        (answer.number, out[4])
+    };
+    assert_eq!(case(0), (0, 0x62));
+    assert_eq!(case(1), (0, 0x63));
+    assert_eq!(case(-1), (0, 0x61));
+    assert_eq!(case(-2), (24, 0));
+}

@@ -1,0 +1,141 @@
+//! Decoder configuration records read and written.
+
+use crate::raw::{puddockle_read_record, puddockle_write_record, FIELDS};
+use crate::{Kind, LengthSize, Refusal};
+
+/// The sets of one kind: how many, and their bytes, each set after its 2-byte length.
+#[derive(Clone, Copy, Debug, Default, PartialEq, Eq)]
+pub struct Sets<'a> {
+    pub count: u64,
+    pub bytes: &'a [u8],
+}
+
+impl<'a> Sets<'a> {
+    /// The sets one by one, without their lengths. Ends where a set is cut.
+    pub fn iter(&self) -> SetsIter<'a> {
+        SetsIter { rest: self.bytes }
+    }
+}
+
+/// See [`Sets::iter`].
+#[derive(Clone, Debug)]
+pub struct SetsIter<'a> {
+    rest: &'a [u8],
+}
+
+impl<'a> Iterator for SetsIter<'a> {
+    type Item = &'a [u8];
+
+    fn next(&mut self) -> Option<&'a [u8]> {
+        let (length, rest) = self.rest.split_first_chunk::<2>()?;
+        let (set, rest) = rest.split_at_checked(u16::from_be_bytes(*length) as usize)?;
+        self.rest = rest;
+        Some(set)
+    }
+}
+
+/// What follows the picture sets.
+#[derive(Clone, Copy, Debug, PartialEq, Eq)]
+pub enum Trailer<'a> {
+    /// No trailer belongs there: an SVC record, or a profile other than 100, 110, 122 and 144.
+    None,
+    /// A trailer belongs there and is left out. Never read, and refused with 31 where it is to be written.
+    Absent,
+    Present {
+        chroma_format: u64,
+        luma_depth_less_8: u64,
+        chroma_depth_less_8: u64,
+        extension: Sets<'a>,
+    },
+}
+
+/// A record. Its sets are lent: where it was read, they are parts of the bytes read. Numbers may be too large for
+/// their bits; the writer refuses them.
+#[derive(Clone, Copy, Debug, PartialEq, Eq)]
+pub struct Record<'a> {
+    pub profile: u64,
+    pub compatibility: u64,
+    pub level: u64,
+    /// False in an AVC record, which has no such bit.
+    pub complete_representation: bool,
+    pub length_size: LengthSize,
+    pub sequence: Sets<'a>,
+    pub picture: Sets<'a>,
+    pub trailer: Trailer<'a>,
+}
+
+/// Reads a whole record. Refused with 8 to 13.
+pub fn read_record(kind: Kind, record: &[u8]) -> Result<Record<'_>, Refusal> {
+    let mut fields = [0; FIELDS];
+    let mut place = 0;
+    // Sound: both slices are valid for their lengths, and `place` is a number of our own.
+    let number = unsafe {
+        puddockle_read_record(kind as u32, record.as_ptr(), record.len(), fields.as_mut_ptr(), fields.len(), &mut place)
+    };
+    Refusal::check(number, place)?;
+    let sets = |at: usize| Sets {
+        count: fields[at],
+        bytes: &record[fields[at + 1] as usize..(fields[at + 1] + fields[at + 2]) as usize],
+    };
+    Ok(Record {
+        profile: fields[0],
+        compatibility: fields[1],
+        level: fields[2],
+        complete_representation: fields[3] == 1,
+        length_size: LengthSize::of_bytes(fields[4]).expect("an accepted record has a length size of 1, 2 or 4"),
+        sequence: sets(5),
+        picture: sets(8),
+        trailer: match fields[11] {
+            0 => Trailer::None,
+            1 => Trailer::Absent,
+            _ => Trailer::Present {
+                chroma_format: fields[12],
+                luma_depth_less_8: fields[13],
+                chroma_depth_less_8: fields[14],
+                extension: sets(15),
+            },
+        },
+    })
+}
+
+/// Writes a record to the front of `out` and answers its length. Refused with 31, then 29; `out` is then untouched.
+pub fn write_record(kind: Kind, record: &Record, out: &mut [u8]) -> Result<usize, Refusal> {
+    let (sequence, picture) = (record.sequence, record.picture);
+    let (trailer, values, extension) = match record.trailer {
+        Trailer::None => (0, [0; 3], Sets::default()),
+        Trailer::Absent => (1, [0; 3], Sets::default()),
+        Trailer::Present { chroma_format, luma_depth_less_8, chroma_depth_less_8, extension } => {
+            (2, [chroma_format, luma_depth_less_8, chroma_depth_less_8], extension)
+        }
+    };
+    let mut fields = [0; FIELDS];
+    fields[..3].copy_from_slice(&[record.profile, record.compatibility, record.level]);
+    fields[3] = record.complete_representation as u64;
+    fields[4] = record.length_size as u64;
+    fields[5] = sequence.count;
+    fields[8] = picture.count;
+    fields[11] = trailer;
+    fields[12..15].copy_from_slice(&values);
+    fields[15] = extension.count;
+    let (mut place, mut count) = (0, 0);
+    // Sound: every slice is valid for its length, `out` is lent to us alone, and the two numbers are our own.
+    let number = unsafe {
+        puddockle_write_record(
+            kind as u32,
+            fields.as_ptr(),
+            fields.len(),
+            sequence.bytes.as_ptr(),
+            sequence.bytes.len(),
+            picture.bytes.as_ptr(),
+            picture.bytes.len(),
+            extension.bytes.as_ptr(),
+            extension.bytes.len(),
+            out.as_mut_ptr(),
+            out.len(),
+            &mut place,
+            &mut count,
+        )
+    };
+    Refusal::check(number, place)?;
+    Ok(count as usize)
+}

@@ -1,0 +1,150 @@
+//! Document 01's bench bundle B0 and some of its neighbours, through the safe functions.
+
+use puddockle::*;
+
+const B0_HEAD: [u8; 56] = [
+    0x02, 0x00, 0x00, 0x07, 0x01, 0x42, 0x00, 0x1E, 0xFC, 0xE0, 0x00, 0x01, 0x00, 0x07, 0x01, 0x53, 0x00, 0x1E, 0xFC,
+    0x00, 0x00, 0x01, 0x02, 0x01, 0x00, 0x02, 0x01, 0, 0, 0, 0, 0, 0, 0, 0, 0, 0, 0, 3, 0x02, 0, 0, 0, 0, 0, 0, 0, 0,
+    0, 0, 0, 9, 0, 0, 0, 0x0C,
+];
+const ONE_UNIT: [u8; 3] = [0x02, 0x65, 0x88];
+const RESOLVED: [u8; 6] = [0, 0, 0, 2, 0x65, 0x88];
+
+/// B0 with these bytes of its two samples.
+fn bundle(first: &[u8], second: &[u8]) -> Vec<u8> {
+    let mut head = B0_HEAD;
+    head[38] = first.len() as u8;
+    head[51] = second.len() as u8;
+    head[55] = (first.len() + second.len()) as u8;
+    [&head, first, second].concat()
+}
+
+fn extractor(index: u8, offset: i8, data_offset: u8, data_length: u8) -> [u8; 9] {
+    [0x08, 0x7F, 0x80, 0x00, 0x03, index, offset as u8, data_offset, data_length]
+}
+
+fn b0() -> Vec<u8> {
+    bundle(&ONE_UNIT, &extractor(1, 0, 0, 0))
+}
+
+/// What sample 2 resolves to; nothing past the count is changed, nothing at all on a refusal.
+fn second(bundle: &[u8]) -> Result<Vec<u8>, Refusal> {
+    let mut out = [0xEE; 64];
+    let result = resolve(bundle, SampleNumber(2), &mut out);
+    assert!(out[result.unwrap_or(0)..].iter().all(|&byte| byte == 0xEE));
+    result.map(|count| out[..count].to_vec())
+}
+
+fn refused<T>(number: u32, place: u64) -> Result<T, Refusal> {
+    Err(Refusal { number, place })
+}
+
+#[test]
+fn b0_is_accepted_and_cut_is_not() {
+    assert_eq!(check_bundle(&b0()), Ok(()));
+    assert_eq!(check_bundle(&b0()[..15]), refused(2, 11));
+    assert_eq!(check_bundle(&[]), refused(2, 0));
+}
+
+#[test]
+fn b0_resolves() {
+    assert_eq!(second(&b0()), Ok(RESOLVED.to_vec()));
+    assert_eq!(resolve(&b0(), SampleNumber(2), &mut [0; 5]), refused(29, 0));
+    assert_eq!(resolve(&b0(), SampleNumber(0), &mut []), refused(30, 0));
+    assert_eq!(resolve(&b0(), SampleNumber(1 << 32 | 1), &mut [0; 64]), refused(30, 0));
+}
+
+#[test]
+fn b0_unit_is_a_part_of_the_bundle() {
+    let bundle = b0();
+    let part = unit(&bundle, SampleNumber(2), UnitNumber(1)).unwrap();
+    assert_eq!(part, [0x65, 0x88]);
+    assert_eq!(part.as_ptr(), bundle[57..].as_ptr());
+    assert_eq!(unit(&bundle, SampleNumber(2), UnitNumber(2)), refused(30, 0));
+    assert_eq!(unit(&bundle, SampleNumber(2), UnitNumber(0)), refused(30, 0));
+}
+
+#[test]
+fn b0_names() {
+    let mut out = [0xEE; 8];
+    let list = names(&b0(), SampleNumber(1), &mut out).unwrap();
+    assert_eq!(list.bytes, [0, 2, 0, 0, 0, 0]);
+    let expected = NamesEntry { sample: SampleNumber(2), place: 0 };
+    assert_eq!(list.entries().collect::<Vec<_>>(), [expected]);
+    assert_eq!(out[6..], [0xEE; 2]);
+    assert_eq!(names(&b0(), SampleNumber(2), &mut []).unwrap().bytes, []);
+    assert_eq!(names(&b0(), SampleNumber(1), &mut [0; 5]).unwrap_err().number, 29);
+}
+
+#[test]
+fn b0_audit() {
+    let mut lines = [0xEE; 30];
+    let both = bundle(&ONE_UNIT, &extractor(1, 0, 1, 0));
+    let audited = audit(&both, &mut lines).unwrap();
+    assert_eq!(audited.tally, Tally { passed: 1, empty: 0, refused: 1 });
+    let expected = [
+        AuditLine { refusal: None, units: 1 },
+        AuditLine { refusal: Some(Refusal { number: 26, place: 0 }), units: 0 },
+    ];
+    assert_eq!(audited.lines().collect::<Vec<_>>(), expected);
+    assert_eq!(lines[26..], [0xEE; 4]);
+    assert_eq!(audit(&both, &mut [0; 25]).unwrap_err().number, 29);
+}
+
+#[test]
+fn extractor_cases() {
+    let case = |e: [u8; 9]| second(&bundle(&ONE_UNIT, &e));
+    assert_eq!(case(extractor(1, 0, 0, 3)), Ok(RESOLVED.to_vec()));
+    assert_eq!(case(extractor(1, 0, 0, 2)), refused(27, 0));
+    assert_eq!(case(extractor(1, 0, 1, 9)), refused(26, 0));
+    assert_eq!(case(extractor(2, 0, 0, 0)), refused(23, 0));
+    assert_eq!(case(extractor(1, -1, 0, 0)), refused(24, 0));
+}
+
+#[test]
+fn aggregator_cases() {
+    let included = [0x08, 0x7E, 0x80, 0x00, 0x03, 0x00, 0x02, 0x65, 0x88];
+    assert_eq!(second(&bundle(&[], &included)), Ok(RESOLVED.to_vec()));
+    assert_eq!(check_sample(Kind::Svc, LengthSize::One, &included), Ok(()));
+    assert_eq!(check_sample(Kind::Avc, LengthSize::One, &included), refused(20, 6));
+    let covering = |additional| [0x05, 0x7E, 0x80, 0x00, 0x03, additional, 0x02, 0x65, 0x88];
+    assert_eq!(second(&bundle(&[], &covering(3))), Ok(RESOLVED.to_vec()));
+    assert_eq!(second(&bundle(&[], &covering(2))), refused(21, 0));
+    let case = |length| second(&bundle(&covering(3), &extractor(1, 0, 0, length)));
+    assert_eq!(case(0), Ok(RESOLVED.to_vec()));
+    assert_eq!(case(6), Ok(Vec::new()));
+    assert_eq!(case(9), Ok(RESOLVED.to_vec()));
+}
+
+#[test]
+fn samples_that_are_not_well_formed() {
+    let check = |size, sample: &[u8]| check_sample(Kind::Svc, size, sample);
+    assert_eq!(check(LengthSize::One, &[0x00]), refused(16, 0));
+    assert_eq!(check(LengthSize::One, &[0x02, 0x65]), refused(15, 0));
+    assert_eq!(check(LengthSize::One, &[0x01, 0xE5]), refused(17, 0));
+    assert_eq!(check(LengthSize::One, &[0x03, 0x7F, 0x80, 0x00]), refused(18, 0));
+    assert_eq!(check(LengthSize::Two, &[0x00]), refused(14, 0));
+    assert_eq!(check(LengthSize::Four, &[]), Ok(()));
+}
+
+#[test]
+fn records() {
+    let high = [0x01, 0x64, 0x00, 0x1E, 0xFF, 0xE0, 0x00, 0xFD, 0xF8, 0xF8, 0x00];
+    assert_eq!(read_record(Kind::Avc, &high[..7]), refused(8, 0));
+    assert_eq!(read_record(Kind::Avc, &[0x01, 0x42, 0x00, 0x1E, 0xFE, 0xE0, 0x00]), refused(11, 0));
+    let mut record = read_record(Kind::Avc, &high).unwrap();
+    assert_eq!((record.profile, record.level, record.length_size), (100, 30, LengthSize::Four));
+    let mut out = [0xEE; 16];
+    assert_eq!(write_record(Kind::Avc, &record, &mut out), Ok(11));
+    assert_eq!((&out[..11], &out[11..]), (&high[..], &[0xEE; 5][..]));
+    assert_eq!(write_record(Kind::Avc, &record, &mut [0; 10]), refused(29, 0));
+    record.trailer = Trailer::None;
+    assert_eq!(write_record(Kind::Avc, &record, &mut out), refused(31, 0));
+    record.profile = 256 + 66;
+    assert_eq!(write_record(Kind::Avc, &record, &mut out), refused(31, 0));
+    let svc = [0x01, 0x53, 0x00, 0x1E, 0xFC, 0x01, 0x00, 0x01, 0x6F, 0x00];
+    let record = read_record(Kind::Svc, &svc).unwrap();
+    assert!(record.complete_representation);
+    assert_eq!(record.sequence.iter().collect::<Vec<_>>(), [&[0x6F]]);
+    assert_eq!((write_record(Kind::Svc, &record, &mut out), &out[..10]), (Ok(10), &svc[..]));
+}
