@@ -19,10 +19,9 @@ use Rattle.tables.specs.Tables.{laidOut, spelled}
 use Rattle.filling.specs.Filling.{filling, tableAfter}
 use Rattle.filling.specs.declared.Filled.the-variants.{Done}
 use Rattle.filling.proofs.Promises.{table-accepted, table-means}
-use Rattle.auditing.specs.Auditing.{lineSize, lines, tally, auditCall, tallyCall}
+use Rattle.auditing.specs.Auditing.{lineSize, lines, tally, auditCall, tallyCall, tallyWithin}
 use Rattle.auditing.proofs.Lines.{lines-length}
 use Rattle.auditing.proofs.Calls.{audit-means}
-use Rattle.audit.specs.Steps.{tallyWithin}
 
 pub count-spelled : (b t : List ℕ) {count : ℕ} → count ≡ sampleCount (laidOut t) → count ≡ sampleCount (spelled b t .layout)
 unfolding spelled
@@ -33,18 +32,16 @@ module _ (r : Recording) (room : ℕ) where
   lines-not h = within-not room (lines r) (rw (lines-length r) h)
 
   pub tally-not : room < lineSize * sampleCount (r .layout) → tallyWithin r room ≡ refused outputTooLong 0
-  unfolding tallyWithin
   tally-not h = rw (lines-length r, lt-ltb room (lineSize * sampleCount (r .layout)) h)
 
   pub lines-fit : lineSize * sampleCount (r .layout) ≤ room → within room (ok (lines r)) ≡ ok (lines r)
   lines-fit h = within-room room (lines r) (rw (lines-length r) h)
 
   pub tally-fits : lineSize * sampleCount (r .layout) ≤ room → tallyWithin r room ≡ ok (tally r)
-  unfolding tallyWithin
   tally-fits h = rw (lines-length r, le-ltb room (lineSize * sampleCount (r .layout)) h)
 
 tally-means : (b : List ℕ) (room : ℕ) {r : Recording} → meaning b ≡ ok r → tallyCall b room ≡ tallyWithin r room
-unfolding tallyCall tallyWithin
+unfolding tallyCall
 tally-means b room e = rw e
 
 -- a table that was filled: whatever is said by the table that is left

@@ -7,16 +7,19 @@
 --   line-empty-exactly       empty exactly if the sample's length is 0
 --   line-refused-exactly     refused with a number and a place exactly if the sample is refused with that number at that place
 --   audit-left               a call that answered left the lines of the recording that the bundle means at the start of the buffer
---   no-line                  a line that is not there is all zeros: passed without units, or empty
+--   no-line                  a line that is not there is 30 at 0
 use Prim.Native.Nat.{ℕ, _+_, _-_, _*_, _≤_, _<_}
 use mathlib.Core.Path.{_≡_, refl, ap, ap₂, sym, _∙_}
 use mathlib.Core.List.{List, [], _++_}
+use mathlib.Core.Logic.{_⊎_, inl, inr}
 use native.Mathlib.Omega.{arith}
 use lib.ListN.{length, take, drop, take-append-drop, length-drop, length-take}
 use lib.Seq.{take-at, take-append-le, drop-append-le}
 use Rattle.words.specs.Refusals.{Answer, refused, ok, Verdict}
-use Rattle.words.specs.Bytes.{big, part}
+use Rattle.words.specs.RefusalNumbers.{noSuchNumber}
+use Rattle.words.specs.Bytes.{part}
 use Rattle.words.specs.Buffers.{overwrite, Wrote}
+use Rattle.words.proofs.Tests.{by-number}
 use Rattle.words.proofs.Refusals.{ok-refused, ok-same}
 use Rattle.numbers.specs.declared.Refusal.{Refusal}
 use Rattle.bundles.specs.Recordings.{Recording, sampleCount, contentOf}
@@ -32,7 +35,7 @@ use Rattle.audit.specs.Answers.{lineThere, lineSays}
 use Rattle.audit.specs.Rules.{lineRead, LineFound}
 use Rattle.audit.specs.declared.Line as line
 use Rattle.audit.specs.declared.Line.the-variants.{Passed, Empty, Refused}
-use Rattle.audit.proofs.Reading.{says-refused, says-empty, says-passed, there-is}
+use Rattle.audit.proofs.Reading.{says-gone, says-refused, says-empty, says-passed, there-none, there-past, there-is}
 
 -- a part at the start
 part-front : (a b : List ℕ) (p n : ℕ) → p + n ≤ length a → part (a ++ b) p n ≡ part a p n
@@ -62,14 +65,18 @@ refusal-same f g a b = ap₂ (λ (m p : ℕ). refusalOf m p) a b
     refusalOf m p = record { number = m; place = record { 0 = p } }
 
 module _ (r : Recording) (n : ℕ) where
+  -- a line that is there has bytes
+  whole : (s : List ℕ) → length s ≡ lineSize → length s ≡ 0 → ⊥
+  whole s e z = absurd (omega arith)
+
   -- from a line that was found
   says : (s : List ℕ) {o : Outcome} → Found r n s o → LineFound r n (lineSays s (length (contentOf r n)))
-  says s (Found.good h j w) = rw (says-passed s (length (contentOf r n)) (w .refusal) (λ z. absurd (omega arith)), w .units) (LineFound.passed h j)
-  says s (Found.empty z w) = rw (says-empty s (length (contentOf r n)) (w .refusal) z) (LineFound.empty z)
+  says s (Found.good h j w) = rw (says-passed s (length (contentOf r n)) (whole s (w .size)) (w .refusal) (λ z. absurd (omega arith)), w .units) (LineFound.passed h j)
+  says s (Found.empty z w) = rw (says-empty s (length (contentOf r n)) (whole s (w .size)) (w .refusal) z) (LineFound.empty z)
   says s (Found.bad {m} {p} j k w) =
       let a = k .0 in
       let e = w .refusal in
-      rw (says-refused s (length (contentOf r n)) (λ z. absurd (omega arith)), w .refusal, w .place) (LineFound.bad (record { number = m; place = record { 0 = p } }) j)
+      rw (says-refused s (length (contentOf r n)) (whole s (w .size)) (λ z. absurd (omega arith)), w .refusal, w .place) (LineFound.bad (record { number = m; place = record { 0 = p } }) j)
 
   -- each answer from what holds, and what holds from the answer
   reads-passed : (l : line.Line) → LineFound r n l → 0 < length (contentOf r n) → judged r n ≡ ok tt → l ≡ Passed (length (delivered r n))
@@ -151,6 +158,8 @@ module _ (b o o' : List ℕ) (count : ℕ) where
   audit-left = left-by (auditCall b (length o)) refl
 
 -- a line that is not there
-pub no-line : (size : ℕ) → (size ≡ 0 → lineSays [] size ≡ Empty) × ((size ≡ 0 → ⊥) → lineSays [] size ≡ Passed 0)
-unfolding big
-no-line size = (says-empty [] size refl, says-passed [] size refl)
+pub no-line : (out : List ℕ) (n size : ℕ) → (n ≡ 0) ⊎ (length out < lineSize * n) → lineSays (lineThere out n) size ≡ Refused (record { number = noSuchNumber; place = record { 0 = 0 } })
+no-line out n size (inl z) = rw (there-none out n z) (says-gone [] size refl)
+no-line out n size (inr l) = by-number n
+    (λ z. rw (there-none out n z) (says-gone [] size refl))
+    (λ k z. rw (there-past out n (λ e. absurd (omega arith)) l) (says-gone [] size refl))

@@ -9,6 +9,7 @@ use mathlib.Core.List.{List, []}
 use lib.ListN.{length}
 use Rattle.words.specs.Tests.{_<?_, _≡?_, pick}
 use Rattle.words.specs.Refusals.{Answer, refused, ok}
+use Rattle.words.specs.RefusalNumbers.{noSuchNumber}
 use Rattle.words.specs.Bytes.{big}
 use Rattle.tally.specs.declared.Tally.{Tally}
 use Rattle.auditing.specs.Auditing.{refusalSize, placeSize, unitsSize, lineSize}
@@ -29,9 +30,10 @@ tallyAnswer (audited.Done r) = ok (r .tally)
 unfoldable pub lineThere : List ℕ → ℕ → List ℕ
 lineThere out n = pick (n ≡? 0) [] (pick (length out <? lineSize * n) [] (lineAt out n))
 
--- A byte past the end reads as 0: a line that is not there is all zeros.
+-- 30 where the line is not there.
 unfoldable pub lineSays : List ℕ → ℕ → line.Line
 lineSays s size =
-    pick (big s 0 refusalSize ≡? 0)
+    pick (length s ≡? 0) (Refused (record { number = noSuchNumber; place = record { 0 = 0 } }))
+    (pick (big s 0 refusalSize ≡? 0)
     (pick (size ≡? 0) Empty (Passed (big s (refusalSize + placeSize) unitsSize)))
-    (Refused (record { number = big s 0 refusalSize; place = record { 0 = big s refusalSize placeSize } }))
+    (Refused (record { number = big s 0 refusalSize; place = record { 0 = big s refusalSize placeSize } })))

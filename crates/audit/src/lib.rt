@@ -10,8 +10,8 @@ ghost use Rattle.bundles.specs.Limits.{bundleMost};
 ghost use Rattle.bundles.specs.Recordings.{sampleCount};
 ghost use Rattle.tables.specs.Tables.{spelled};
 ghost use Rattle.tally.specs.Tallies.{raisedBy};
-ghost use Rattle.auditing.specs.Auditing.{refusalSize, placeSize, unitsSize, lineSize, lineBytes, outcomeOf, lineOf, lines, tally, auditCall, tallyCall};
-ghost use Rattle.audit.specs.Steps.{verdictOf, unitsIn, outcomeIn, tallyWithin};
+ghost use Rattle.auditing.specs.Auditing.{refusalSize, placeSize, unitsSize, lineSize, lineBytes, outcomeOf, lineOf, lines, tally, tallyWithin, auditCall, tallyCall};
+ghost use Rattle.audit.specs.Steps.{verdictOf, unitsIn, outcomeIn};
 ghost use Rattle.audit.specs.Answers.{linesAnswer, tallyAnswer, lineThere, lineSays};
 use filling::Filled;
 use judging::Judged;
@@ -155,6 +155,7 @@ pub fn audit(b: &[u8], lines: &mut [u8]) -> Audited
     let filled = filling::fill_table(b, &mut t);
     match filled {
         Filled::Refused(f) => Audited::Refused(f),
+        // does not come: the table has room for any bundle
         Filled::NoRoom(_) => refused(refusals::OUTPUT_TOO_LONG),
         Filled::Done => audit_accepted(b, &t, lines),
     }
@@ -175,11 +176,17 @@ fn line_part<'a>(lines: &'a [u8], n: SampleNumber) -> &'a [u8]
     &lines[at..at + LINE_SIZE]
 }
 
-// What line n of an audit says of a sample of so many bytes. A line that is not there is all zeros.
+// What line n of an audit says of a sample of so many bytes; 30 where that line is not there.
 pub fn line_of(lines: &[u8], n: SampleNumber, size: usize) -> Line
     ensures { λ r. ⌜ r ≡ lineSays (lineThere (now (lines .entry)) (n .0)) size ⌝ }
 {
     let line = line_part(lines, n);
+    if line.len() == 0 {
+        return Line::Refused(Refusal {
+            number: refusals::NO_SUCH_NUMBER,
+            place: ByteOffset(0),
+        });
+    }
     let refusal = numbers::byte(line, 0);
     if refusal != 0 {
         return Line::Refused(Refusal {

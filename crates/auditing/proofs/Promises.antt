@@ -1,5 +1,5 @@
 -- What the audit promises. `meaning b ≡ ok r` says that the bundle b is accepted and means the recording r, `judged r n ≡ ok tt` that sample n of
--- r is good. Of a recording nothing is needed but what a line says. For any L. Assumes nothing.
+-- r is good. For any L. Assumes nothing but what each theorem states.
 --
 --   empty-exactly            a sample is found empty exactly if its length is zero
 --   passed-exactly           passed exactly if it has bytes and its whole length is good
@@ -17,7 +17,7 @@
 --   audited-exactly, tallied-exactly               the call answers exactly if the bundle is accepted and the lines fit: with the lines, the tally
 --   audit-refused-exactly, tally-refused-exactly   else it is refused: by the bundle, or the lines do not fit
 --   refused-alike            lines and tally are refused alike
---   call-refused-with        with 1 to 13 at a place in the bundle, or 29 at 0
+--   call-refused-with        with 1 to 13 at a place in the bundle or at its end, or 29 at 0
 use Prim.Native.Nat.{ℕ, _+_, _-_, _*_, _≤_, _<_}
 use mathlib.Core.Path.{_≡_, refl, sym, _∙_}
 use mathlib.Core.List.{List, []}

@@ -61,10 +61,14 @@ module _ (r : Recording) where
   unfoldable pub tally : Tally
   tally = tallied (map outcomeOf (upto (sampleCount (r .layout))))
 
+-- 29 where the lines do not fit
+abbrev pub tallyWithin : Recording → ℕ → Answer Tally
+tallyWithin r room = (outputTooLong if room <? length (lines r)) atPlace 0 andThen ok (tally r)
+
 module _ (b : List ℕ) (room : ℕ) where
   unfoldable pub auditCall : Answer (List ℕ)
   auditCall = within room (onBundle (meaning b) (λ r. ok (lines r)))
 
   -- refused exactly as the lines are
   unfoldable pub tallyCall : Answer Tally
-  tallyCall = onBundle (meaning b) (λ r. (outputTooLong if room <? length (lines r)) atPlace 0 andThen ok (tally r))
+  tallyCall = onBundle (meaning b) (λ r. tallyWithin r room)

@@ -129,7 +129,8 @@ fn measure(b: &[u8], t: &[u64], n: SampleNumber, k: Track, x: &[u8]) -> Judged
     Judged::Good(Amount { count, size })
 }
 
-// 14 to 28 of sample n, or how much it delivers. A bundle too long is refused: its amounts would not fit.
+// 14 to 28 of sample n, or how much it delivers; a number that no sample has is one without bytes, which delivers nothing. A bundle too
+// long is refused: its amounts would not fit.
 pub fn judge(b: &[u8], t: &[u64], n: SampleNumber) -> Judged
     ensures { λ r. ⌜ answerOf r ≡ judgementIn (now (b .entry)) (now (t .entry)) (n .0) ⌝ }
 {

@@ -39,7 +39,7 @@ use Rattle.bundles.specs.Bundles.{bundleVerdict, meaning, contentAt}
 use Rattle.bundles.proofs.Refusals.{Within}
 use Rattle.bundles.proofs.Promises as bundles
 use Rattle.resolving.specs.Resolving.{Span, own, delivered, judged}
-use Rattle.resolving.specs.Calls.{resolveCall, unitCall}
+use Rattle.resolving.specs.Calls.{resolveCall, unitCall, placeCall}
 use Rattle.resolving.specs.Rules.{Good, Delivers}
 use Rattle.resolving.proofs.Promises as resolving
 use Rattle.naming.specs.Naming.{Namer, namer, namingList, listBytes, namesCall}
@@ -85,6 +85,10 @@ resolve-refused = refusals.resolve-refused
 pub unit-refused : (b : List ℕ) (n k m p : ℕ) → unitCall b n k ≡ refused m p → Within b m p ⊎ (InSample b n m p ⊎ ((m ≡ 30) × (p ≡ 0)))
 unit-refused = refusals.unit-refused
 
+-- where in the bundle that unit stands: the same (specs/Refused)
+pub place-refused : (b : List ℕ) (n k m p : ℕ) → placeCall b n k ≡ refused m p → Within b m p ⊎ (InSample b n m p ⊎ ((m ≡ 30) × (p ≡ 0)))
+place-refused = refusals.place-refused
+
 -- the naming list: 1 to 13 of the bundle, or 29 or 30 at 0 (crates/naming/proofs/Promises)
 pub names-refused : (b : List ℕ) (s room m p : ℕ) → namesCall b s room ≡ refused m p → Within b m p ⊎ (((m ≡ 29) ⊎ (m ≡ 30)) × (p ≡ 0))
 names-refused = naming.call-refused-with
@@ -96,7 +100,7 @@ audit-refused = auditing.call-refused-with
 pub tally-refused : (b : List ℕ) (room m p : ℕ) → (auditCall b room ≡ refused m p) ↔ (tallyCall b room ≡ refused m p)
 tally-refused = auditing.refused-alike
 
--- after a refusal (crates/words/proofs/Buffers): every entry with a buffer promises `Wrote`
+-- after a refusal (crates/words/proofs/Buffers): `write`, `resolve`, `names` and `audit` promise `Wrote`
 pub refusal-leaves : {out out₁ : List ℕ} {a : Answer ℕ} {is : Answer (List ℕ)} → Wrote out out₁ a is → passed a ≡ false → (countOf a ≡ 0) × (out₁ ≡ out)
 refusal-leaves = buffers.refused-leaves
 

@@ -3,17 +3,20 @@
 --   InSample           14 to 28, at a place in the sample asked for
 --   resolve-refused    resolving: 1 to 13 at a place in the bundle or at its end, 14 to 28, or 29 or 30 at 0
 --   unit-refused       one delivered unit: the same without 29
+--   place-refused      where in the bundle it stands: the same
 use Prim.Native.Nat.{ℕ}
-use mathlib.Core.Path.{_≡_, refl}
+use mathlib.Core.Path.{_≡_, refl, sym}
 use mathlib.Core.List.{List}
 use mathlib.Core.Logic.{_⊎_, inl, inr, ⊎-elim}
 use Rattle.words.specs.RefusalNumbers.{outputTooLong, noSuchNumber}
-use Rattle.words.specs.Refusals.{refused, ok}
+use Rattle.words.specs.Refusals.{Answer, refused, ok}
+use Rattle.words.proofs.Refusals.{ok-refused}
 use Rattle.bundles.specs.Recordings.{Recording}
-use Rattle.bundles.specs.Bundles.{meaning}
+use Rattle.bundles.specs.Bundles.{meaning, contentAt}
 use Rattle.bundles.proofs.Promises.{refusals-within}
 use Rattle.bundles.proofs.Refusals.{Within}
-use Rattle.resolving.specs.Calls.{resolveCall, unitCall}
+use Rattle.resolving.specs.Resolving.{Span}
+use Rattle.resolving.specs.Calls.{placedBy, resolveCall, unitCall, placeCall}
 use Rattle.resolving.specs.Rules.{JudgedRefusal, UnitRefuses, CallRefuses, UnitCallRefuses}
 use Rattle.resolving.proofs.Calls.{call-refused-because, unit-call-because, refused-with}
 use Rattle.resolving.proofs.Good.{judged-refused}
@@ -42,3 +45,11 @@ module _ (b : List ℕ) (n : ℕ) where
 
   pub unit-refused : (k m p : ℕ) → unitCall b n k ≡ refused m p → Within b m p ⊎ (InSample b n m p ⊎ ((m ≡ noSuchNumber) × (p ≡ 0)))
   unit-refused k m p e = unit (unit-call-because b n k m p e)
+
+  placed : (a : Answer Span) {m p : ℕ} → placedBy (contentAt b) a ≡ refused m p → a ≡ refused m p
+  placed (refused n q) {m} {p} e = let i : n ≡ m = cc in let j : q ≡ p = cc in rw (i, j)
+  placed (ok u) e = ok-refused (sym e)
+
+  pub place-refused : (k m p : ℕ) → placeCall b n k ≡ refused m p → Within b m p ⊎ (InSample b n m p ⊎ ((m ≡ noSuchNumber) × (p ≡ 0)))
+  unfolding placeCall
+  place-refused k m p e = unit-refused k m p (placed (unitCall b n k) e)

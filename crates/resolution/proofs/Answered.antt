@@ -29,7 +29,7 @@ use Rattle.filling.specs.Filling.{filling, tableAfter}
 use Rattle.filling.specs.declared.Filled.the-variants.{Done}
 use Rattle.filling.proofs.Promises.{table-accepted, table-means, table-starts, table-lays-out}
 use Rattle.resolving.specs.Resolving.{Span, delivered, judged}
-use Rattle.resolving.specs.Calls.{output, noSpan, numberFault, resolve, unitOf, standing, resolveCall, unitCall, placeCall, unitPart, spanBytes}
+use Rattle.resolving.specs.Calls.{output, noSpan, numberFault, resolve, unitOf, placedBy, resolveCall, unitCall, placeCall, unitPart, spanBytes}
 use Rattle.judging.specs.Steps.{judgement}
 use Rattle.resolution.specs.Steps.{partOf}
 use Rattle.judging.specs.declared.Amount.{Amount}
@@ -120,7 +120,7 @@ unfolding contentAt
 content-most b r e n = let a = take-sum-le (lengths b) (n - 1) in let z = sum-exact b r e .1 in omega arith
 
 -- where a unit stands, by two tellings of where samples start
-stands-same : (f g : ℕ → ℕ) (a : Answer Span) → ((u : Span) → a ≡ ok u → f (u .sample) ≡ g (u .sample)) → standing f a ≡ standing g a
+stands-same : (f g : ℕ → ℕ) (a : Answer Span) → ((u : Span) → a ≡ ok u → f (u .sample) ≡ g (u .sample)) → placedBy f a ≡ placedBy g a
 stands-same f g (refused m p) h = refl
 stands-same f g (ok u) h = rw (h u refl)
 
@@ -140,12 +140,12 @@ module _ (b t : List ℕ) (done : filling b (length t) ≡ Done) where
     pub part-filled : partOf (spelled b s) (unitOf (spelled b s) n i) ≡ unitPart b (unitCall b n i)
     part-filled = rw (f, table-means b t done) (part-same b (recordingOf b) (table-accepted b t done) n i)
 
-    pub place-filled : standing (startIn s) (unitOf (spelled b s) n i) ≡ placeCall b n i
+    pub place-filled : placedBy (startIn s) (unitOf (spelled b s) n i) ≡ placeCall b n i
     unfolding placeCall
     place-filled =
         rw (f, table-means b t done)
         (stands-same (startIn (tableAfter b t)) (contentAt b) (unitOf (recordingOf b) n i) (λ u e. let w = found-there (recordingOf b) n i u e in starts-at (u .sample) (w .0) (w .1))
-        ∙ ap (standing (contentAt b)) (sym (unit-means b n i (table-accepted b t done))))
+        ∙ ap (placedBy (contentAt b)) (sym (unit-means b n i (table-accepted b t done))))
 
   pub starts-inside : {s : List ℕ} → s ≡ tableAfter b t → (m : ℕ) → 0 < m → m ≤ sampleCount (laidOut s) → startIn s m ≤ length b
   starts-inside {s} f m h l =

@@ -6,7 +6,7 @@
 use Prim.Native.Nat.{ℕ}
 use Rattle.words.specs.Refusals.{Answer, refused, ok}
 use Rattle.resolving.specs.Resolving.{Span}
-use Rattle.resolving.specs.Calls.{Stretch}
+use Rattle.resolving.specs.Calls.{BundlePart}
 use Rattle.resolution.specs.Steps.{spanFor}
 use Rattle.resolution.specs.declared.Resolved.{Resolved}
 use Rattle.resolution.specs.declared.Resolved.the-variants.{Refused, Count}
@@ -23,6 +23,6 @@ abbrev pub unitAnswerOf : unit.UnitFound → Answer Span
 unitAnswerOf (units.Refused f) = refused (f .number) (f .place .0)
 unitAnswerOf (units.Span u) = ok (spanFor u)
 
-abbrev pub placeAnswerOf : placed.UnitPlaced → Answer Stretch
+abbrev pub placeAnswerOf : placed.UnitPlaced → Answer BundlePart
 placeAnswerOf (places.Refused f) = refused (f .number) (f .place .0)
 placeAnswerOf (places.Part u) = ok (record { start = u .start .0; size = u .size })

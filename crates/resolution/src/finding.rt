@@ -10,7 +10,7 @@ ghost use Rattle.bundles.specs.Limits.{bundleMost};
 ghost use Rattle.bundles.specs.Recordings.{sampleCount};
 ghost use Rattle.tables.specs.Tables.{laidOut, spelled, startIn};
 ghost use Rattle.resolving.specs.Resolving.{sampleOf, spanOf, delivered, judged};
-ghost use Rattle.resolving.specs.Calls.{noSpan, unitOf, standing};
+ghost use Rattle.resolving.specs.Calls.{noSpan, unitOf, placedBy};
 ghost use Rattle.resolution.specs.Steps.{spanFor, copiedSpan, spanAt, partOf};
 ghost use Rattle.resolution.specs.Answers.{unitAnswerOf, placeAnswerOf};
 use crate::UnitFound;
@@ -165,7 +165,7 @@ pub(crate) fn unplaced(number: u8) -> UnitPlaced
 // Where the ith unit that sample n delivers stands, by a table in which samples start within the bundle.
 pub(crate) fn place_unit(b: &[u8], t: &[u64], n: SampleNumber, i: usize) -> UnitPlaced
     requires { ⌜ (length (now b) ≤ bundleMost) × ((m : ℕ) → 0 < m → m ≤ sampleCount (laidOut (now t)) → startIn (now t) m ≤ length (now b)) ⌝ }
-    ensures { λ r. ⌜ placeAnswerOf r ≡ standing (startIn (now (t .entry))) (unitOf (spelled (now (b .entry)) (now (t .entry))) (n .0) i) ⌝ }
+    ensures { λ r. ⌜ placeAnswerOf r ≡ placedBy (startIn (now (t .entry))) (unitOf (spelled (now (b .entry)) (now (t .entry))) (n .0) i) ⌝ }
 {
     let found = find_unit(b, t, n, i);
     match found {

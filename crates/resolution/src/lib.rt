@@ -53,6 +53,7 @@ pub fn resolve(b: &[u8], n: SampleNumber, out: &mut [u8]) -> Resolved
     let filled = filling::fill_table(b, &mut t);
     match filled {
         Filled::Refused(f) => Resolved::Refused(f),
+        // does not come: the table has room for any bundle
         Filled::NoRoom(_) => writing::refused(refusals::OUTPUT_TOO_LONG),
         Filled::Done => writing::resolve_sample(b, &t, n, out),
     }
@@ -66,6 +67,7 @@ pub fn unit_answer(b: &[u8], n: SampleNumber, k: usize) -> UnitFound
     let filled = filling::fill_table(b, &mut t);
     match filled {
         Filled::Refused(f) => UnitFound::Refused(f),
+        // does not come: the table has room for any bundle
         Filled::NoRoom(_) => finding::refused(refusals::NO_SUCH_NUMBER),
         Filled::Done => finding::find_unit(b, &t, n, k),
     }
@@ -79,6 +81,7 @@ pub fn unit_bytes<'a>(b: &'a [u8], n: SampleNumber, k: usize) -> &'a [u8]
     let filled = filling::fill_table(b, &mut t);
     match filled {
         Filled::Refused(_) => &b[..0],
+        // does not come: the table has room for any bundle
         Filled::NoRoom(_) => &b[..0],
         Filled::Done => finding::unit_part(b, &t, n, k),
     }
@@ -92,6 +95,7 @@ pub fn unit_place(b: &[u8], n: SampleNumber, k: usize) -> UnitPlaced
     let filled = filling::fill_table(b, &mut t);
     match filled {
         Filled::Refused(f) => UnitPlaced::Refused(f),
+        // does not come: the table has room for any bundle
         Filled::NoRoom(_) => finding::unplaced(refusals::NO_SUCH_NUMBER),
         Filled::Done => finding::place_unit(b, &t, n, k),
     }

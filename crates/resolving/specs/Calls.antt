@@ -55,14 +55,14 @@ module _ (r : Recording) (n : ℕ) where
       numberFault (length (delivered r n)) k atPlace 0 andThen ok (nth (delivered r n) k noSpan)
 
 -- A part of the bundle: where it starts, and its size.
-pub record Stretch : Type 0 where
+pub record BundlePart : Type 0 where
   pub start : ℕ
   pub size : ℕ
 
 -- where a delivered unit stands, by where each sample starts
-abbrev pub standing : (ℕ → ℕ) → Answer Span → Answer Stretch
-standing starts (refused n p) = refused n p
-standing starts (ok u) = ok (record { start = starts (u .sample) + u .start; size = u .size })
+abbrev pub placedBy : (ℕ → ℕ) → Answer Span → Answer BundlePart
+placedBy starts (refused n p) = refused n p
+placedBy starts (ok u) = ok (record { start = starts (u .sample) + u .start; size = u .size })
 
 -- 1 to 13, else what is said of the recording
 abbrev pub onBundle : {A : Type 0} → Answer Recording → (Recording → Answer A) → Answer A
@@ -76,8 +76,8 @@ module _ (b : List ℕ) where
   unfoldable pub unitCall : ℕ → ℕ → Answer Span
   unitCall n k = onBundle (meaning b) (λ r. unitOf r n k)
 
-  unfoldable pub placeCall : ℕ → ℕ → Answer Stretch
-  placeCall n k = standing (contentAt b) (unitCall n k)
+  unfoldable pub placeCall : ℕ → ℕ → Answer BundlePart
+  placeCall n k = placedBy (contentAt b) (unitCall n k)
 
   unfoldable pub spanIn : Span → List ℕ
   spanIn u = part b (contentAt b (u .sample) + u .start) (u .size)

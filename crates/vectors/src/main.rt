@@ -1,8 +1,11 @@
 // Answers requests from standard input, one line each. The form of a request is in tests/vectors/README.md.
+mod audited;
 mod bundle;
 mod check;
+mod names;
 mod print;
 mod record;
+mod replace;
 mod request;
 mod resolve;
 mod unit;
@@ -25,6 +28,10 @@ fn answer(buffer: &[u8; 65536], n: usize) {
         4 => bundle::answer(fields),
         5 => resolve::answer(fields),
         6 => unit::answer(fields),
+        7 => names::answer(fields),
+        8 => replace::answer(fields),
+        9 => audited::answer(fields),
+        10 => report::print_audit(request::bytes(fields)),
         _ => print::line(b"unknown request"),
     }
 }

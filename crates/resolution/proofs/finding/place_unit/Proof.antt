@@ -7,7 +7,7 @@ use lib.ListN.{length}
 use Rattle.words.specs.Refusals.{ok}
 use Rattle.bundles.specs.Recordings.{contentOf, sampleCount}
 use Rattle.tables.specs.Tables.{spelled, laidOut, startIn}
-use Rattle.resolving.specs.Calls.{unitOf, standing}
+use Rattle.resolving.specs.Calls.{unitOf, placedBy}
 use Rattle.judging.proofs.Amounts.{spelled-most}
 use Rattle.resolution.specs.Steps.{spanFor}
 use Rattle.resolution.specs.Answers.{unitAnswerOf}
@@ -46,7 +46,7 @@ add-start c =
     omega arith
 
 returns : tie.Need-returns
-returns c = let a = c .before .before .before .before .before .before .args in sym (ap (standing (startIn (a .t .now))) (sym (c .before .before .before .find-unit .ensures) ∙ ap unitAnswerOf (c .before .found .given .1)))
+returns c = let a = c .before .before .before .before .before .before .args in sym (ap (placedBy (startIn (a .t .now))) (sym (c .before .before .before .find-unit .ensures) ∙ ap unitAnswerOf (c .before .found .given .1)))
 
 returns-2 : tie.Need-returns-2
 returns-2 c = rw (found (c .before .before .before), c .before .before .sample-start .ensures)

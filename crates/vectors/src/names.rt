@@ -1,0 +1,35 @@
+// The request `names`: the bytes of a bundle, a sample number, and the room for the naming list.
+use crate::print;
+use crate::request;
+use naming_list::Listed;
+use numbers::SampleNumber;
+
+// What was answered, and whether the rest of the buffer is as it was.
+fn print_listed(listed: Listed, out: &[u8; 100000]) {
+    match listed {
+        Listed::Refused(r) => {
+            print::refusal(r);
+            print::changed(out, 0);
+        }
+        Listed::Count(n) => {
+            print::text(b"OK");
+            print::bytes(request::part(out, 0, n));
+            print::changed(out, n);
+        }
+    }
+    print::end();
+}
+
+pub(crate) fn answer(fields: &[u8]) {
+    let b = request::bytes(fields);
+    let rest = request::skip_bytes(fields);
+    let n = request::number(rest, 0);
+    let room = request::number(rest, 1);
+    let mut out = [print::FILL; 100000];
+    if out.len() < room {
+        print::line(b"room too large");
+        return;
+    }
+    let listed = naming_list::names(b, SampleNumber(n), &mut out[0..room]);
+    print_listed(listed, &out);
+}
