@@ -19,7 +19,7 @@
  * - Any bytes and any numbers may be given: nothing needs to be checked before a call. A number that is out of
  *   range is refused, never cut.
  * - Nothing is kept between calls, nothing is allocated, no pointer is held. Functions may be called from several
- *   threads at once on slices of their own.
+ *   threads at once on slices of their own. Calls on a bundle use up to 160 KB of stack.
  *
  * Numbers are big-endian wherever they stand in bytes. kind is 0 for AVC and 1 for SVC. L is the length size: the
  * number of bytes, 1, 2 or 4, of the length before each NAL unit. Tracks, samples and delivered units are numbered

@@ -17,7 +17,6 @@ use peer::record;
 use peer::resolve::resolve;
 
 #[test]
-#[ignore = "needs the recordings: set PUDDOCKLE_RECORDINGS and give --include-ignored"]
 fn program_output() {
     let directory = common::directory("PUDDOCKLE_RECORDINGS", "recordings");
     for directory in [directory.clone(), directory.join("damaged")] {
@@ -31,7 +30,6 @@ fn program_output() {
 }
 
 #[test]
-#[ignore = "needs the recordings: set PUDDOCKLE_RECORDINGS and give --include-ignored"]
 fn tables() {
     let tables = common::files(&common::directory("PUDDOCKLE_RECORDINGS", "recordings"), "tsv");
     let mut lines = 0;
@@ -69,7 +67,6 @@ fn tail(bytes: &[u8], number: usize, state: State) -> String {
 }
 
 #[test]
-#[ignore = "needs the recordings: set PUDDOCKLE_RECORDINGS and give --include-ignored"]
 fn records() {
     let directory = common::directory("PUDDOCKLE_RECORDINGS", "recordings");
     let readme = common::text(&directory.join("README.md"));

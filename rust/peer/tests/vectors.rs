@@ -3,8 +3,9 @@
 
 mod common;
 
-use std::collections::BTreeMap;
+use std::collections::{BTreeMap, BTreeSet};
 
+use peer::bundle::Bundle;
 use peer::calls;
 use peer::kind::Kind;
 use peer::record::{self, Sets};
@@ -71,9 +72,45 @@ fn answer(words: &[&str]) -> String {
             let part = answer.start as usize..(answer.start + answer.length) as usize;
             plain(&answer, || format!(" {}", dash(&bundle[part])))
         }
+        ["replace", bytes, sample, new] => replaced(&hex(bytes), number(sample), &hex(new)),
         ["program", bytes] => peer::program::text(&hex(bytes)).replace('\n', "\\n"),
         _ => panic!("unknown request: {words:?}"),
     }
+}
+
+/// Other bytes in place of a sample's, over and over and cut to its length: how many samples outside its naming list
+/// resolve to the same, and how many stand in the list.
+fn replaced(bytes: &[u8], sample: u64, new: &[u8]) -> String {
+    let mut list = vec![CANARY; bytes.len()];
+    let names = calls::naming_list(bytes, sample, &mut list);
+    if names.number != 0 {
+        return plain(&names, String::new);
+    }
+    let bundle = Bundle::read(bytes).unwrap();
+    let changed = bundle.number(sample).unwrap();
+    let place = bundle.sample(changed);
+    let mut after = bytes.to_vec();
+    for (at, byte) in after[place.start..place.start + place.length].iter_mut().enumerate() {
+        *byte = if new.is_empty() { 0 } else { new[at % new.len()] };
+    }
+    let listed: BTreeSet<usize> = list[..names.count as usize]
+        .chunks(6)
+        .map(|entry| usize::from(entry[0]) * 256 + usize::from(entry[1]))
+        .collect();
+    let mut list_after = vec![CANARY; bytes.len()];
+    let names_after = calls::naming_list(&after, sample, &mut list_after);
+    assert!(names_after.number == 0 && list_after == list, "the list of the sample itself changed");
+    let mut compared = 0;
+    for n in bundle.numbers().filter(|n| n.0 != changed.0 && !listed.contains(&n.0)) {
+        let (mut one, mut two) = (vec![CANARY; 100_000], vec![CANARY; 100_000]);
+        let before = calls::resolve_sample(bytes, n.0 as u64, &mut one);
+        let later = calls::resolve_sample(&after, n.0 as u64, &mut two);
+        if (before.number, before.place, before.count) != (later.number, later.place, later.count) || one != two {
+            return format!("DIFFERS {}", n.0);
+        }
+        compared += 1;
+    }
+    format!("OK {compared} {}", listed.len())
 }
 
 /// The audit that keeps unit starts writes the same.

@@ -1,0 +1,80 @@
+// One sample of a bundle, by its number.
+ghost use lib.ListN.{length};
+ghost use Rattle.resolving.specs.Calls.{resolveCall, placeCall};
+ghost use Rattle.naming.specs.Naming.{namesCall};
+ghost use Rattle.puddockle.specs.Returns.{ReturnedOutput, ReturnedPart};
+use crate::refusal;
+use naming_list::Listed;
+use numbers::SampleNumber;
+use resolution::Resolved;
+use resolution::UnitPlaced;
+
+#[no_mangle]
+pub extern "C" fn puddockle_resolve(
+    bundle: &[u8],
+    sample: u64,
+    out: &mut [u8],
+    place: &mut u64,
+    count: &mut u64,
+) -> u32
+    ensures { λ r. ⌜ ReturnedOutput r (now (place .exit)) (now (count .exit)) (now (out .entry)) (now (out .exit)) (resolveCall (now (bundle .entry)) sample (length (now (out .entry)))) ⌝ }
+{
+    *place = 0;
+    *count = 0;
+    let resolved = resolution::resolve(bundle, SampleNumber(sample as usize), out);
+    match resolved {
+        Resolved::Refused(f) => refusal::refused(f, place),
+        Resolved::Count(n) => {
+            *count = n as u64;
+            0
+        }
+    }
+}
+
+#[no_mangle]
+pub extern "C" fn puddockle_unit(
+    bundle: &[u8],
+    sample: u64,
+    unit: u64,
+    place: &mut u64,
+    start: &mut u64,
+    length: &mut u64,
+) -> u32
+    ensures { λ r. ⌜ ReturnedPart r (now (place .exit)) (now (start .exit)) (now (length .exit)) (placeCall (now (bundle .entry)) sample unit) ⌝ }
+{
+    *place = 0;
+    *start = 0;
+    *length = 0;
+    let placed = resolution::unit_place(bundle, SampleNumber(sample as usize), unit as usize);
+    match placed {
+        UnitPlaced::Refused(f) => refusal::refused(f, place),
+        UnitPlaced::Part(u) => {
+            let at = u.start;
+            *start = at.0 as u64;
+            *length = u.size as u64;
+            0
+        }
+    }
+}
+
+#[no_mangle]
+pub extern "C" fn puddockle_names(
+    bundle: &[u8],
+    sample: u64,
+    out: &mut [u8],
+    place: &mut u64,
+    count: &mut u64,
+) -> u32
+    ensures { λ r. ⌜ ReturnedOutput r (now (place .exit)) (now (count .exit)) (now (out .entry)) (now (out .exit)) (namesCall (now (bundle .entry)) sample (length (now (out .entry)))) ⌝ }
+{
+    *place = 0;
+    *count = 0;
+    let listed = naming_list::names(bundle, SampleNumber(sample as usize), out);
+    match listed {
+        Listed::Refused(f) => refusal::refused(f, place),
+        Listed::Count(size) => {
+            *count = size as u64;
+            0
+        }
+    }
+}

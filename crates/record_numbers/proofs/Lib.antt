@@ -1,0 +1,3 @@
+-- What the proofs of several functions use, and the promises.
+mod Laws
+pub mod Promise

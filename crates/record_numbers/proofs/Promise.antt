@@ -1,0 +1,153 @@
+-- The promises of records as numbers. Assumes nothing.
+--
+--   numbers-back      the numbers of a record that was read give its fields
+--   writes-back       an accepted record, written again from its numbers, gives the same bytes
+--   reads-back        what was written reads back as what was given
+use Prim.Native.Nat.{ℕ, _≤_}
+use mathlib.Core.Path.{_≡_, refl, sym, _∙_}
+use mathlib.Core.Bool.{false}
+use mathlib.Core.List.{List}
+use native.Mathlib.Nat.{sub-self}
+use lib.ListN.{length, getD}
+use Rattle.words.specs.Tests.{_<?_, _≡?_}
+use Rattle.words.specs.RefusalNumbers.{unknownKind}
+use Rattle.words.specs.Refusals.{Answer, refused, ok}
+use Rattle.words.specs.Bytes.{Bytes}
+use Rattle.words.specs.Buffers.{within}
+use Rattle.words.proofs.Tests.{by-bool, by-number}
+use Rattle.words.proofs.Refusals.{ok-same, ok-refused}
+use Rattle.numbers.specs.Kinds.{kindOf}
+use Rattle.numbers.specs.declared.Kind.{Kind}
+use Rattle.numbers.specs.declared.Kind.the-variants.{Avc, Svc}
+use Rattle.numbers.specs.declared.MaybeKind.{MaybeKind}
+use Rattle.numbers.specs.declared.MaybeKind.the-variants.{Known, Unknown}
+use Rattle.records.specs.Layout.{layoutOf, bit, flagOf, flagsIn}
+use Rattle.records.specs.Read.{recordFault, recordOf, readAs, readRecord, trailerThere, picturesEnd}
+use Rattle.records.specs.Answers.{partOf}
+use Rattle.records.specs.declared.Record.{Record}
+use Rattle.record_writer.specs.Write.{writeRecord}
+use Rattle.record_writer.specs.Promise.{Holds}
+use Rattle.record_writer.proofs.Promise as writer
+use Rattle.record_numbers.specs.Numbers.{numberCount, numbersOf, asNumbers, readNumbers, numbersFault, flagMost, fieldsFrom, writeNumbersAs, writeNumbers, _at_}
+use Rattle.record_numbers.specs.Promise.{sequencesIn, picturesIn, extensionsIn, Same, NumbersBack, WritesBack, ReadsBack}
+use Rattle.record_numbers.proofs.Laws.{read-fits, fault-none}
+
+-- cases of a kind's number
+by-kind : {G : Type 0} (m : MaybeKind) → ((k : Kind) → m ≡ Known k → G) → (m ≡ Unknown → G) → G
+by-kind (Known k) f g = f k refl
+by-kind Unknown f g = g refl
+
+-- a record that was read is what its bytes mean
+accepted : (k : Kind) (s : List ℕ) {r : Record} → readAs k s ≡ ok r → r ≡ recordOf k s
+unfolding readAs
+accepted k s e =
+    by-number (recordFault k s)
+    (λ z. sym (ok-same (rw z at e)))
+    (λ n z. ok-refused (rw z at e))
+
+read-known : (kind : ℕ) (k : Kind) (s : List ℕ) → kindOf kind ≡ Known k → readRecord kind s ≡ readAs k s
+unfolding readRecord
+read-known kind k s e = rw e
+
+read-unknown : (kind : ℕ) (s : List ℕ) → kindOf kind ≡ Unknown → readRecord kind s ≡ refused unknownKind 0
+unfolding readRecord
+read-unknown kind s e = rw e
+
+-- complete_representation, there and back
+flag-back : (k : Kind) (n : ℕ) → flagOf (layoutOf k .complete) (bit (flagOf (layoutOf k .complete) n)) ≡ flagOf (layoutOf k .complete) n
+flag-back Avc n = refl
+flag-back Svc n = by-bool (n ≡? 0) (λ t. rw t) (λ t. rw t)
+
+flag-fits : (k : Kind) (n : ℕ) → (flagMost k <? bit (flagOf (layoutOf k .complete) n)) ≡ false
+flag-fits Avc n = refl
+flag-fits Svc n = by-bool (n ≡? 0) (λ t. rw t) (λ t. rw t)
+
+module _ (k : Kind) (s : List ℕ) where
+  no-fault : numbersFault k (numbersOf (recordOf k s)) ≡ 0
+  unfolding numbersFault numbersOf
+  no-fault = rw (flag-fits k (flagsIn (layoutOf k .size) (getD s 4 0))) (by-bool (trailerThere k s) (λ t. rw t) (λ t. rw t))
+
+  fields-back : fieldsFrom k (numbersOf (recordOf k s)) ≡ recordOf k s .fields
+  unfolding fieldsFrom numbersOf
+  fields-back = rw (flag-back k (flagsIn (layoutOf k .size) (getD s 4 0))) (by-bool (trailerThere k s) (λ t. rw t) (λ t. rw t))
+
+  extensions-back : extensionsIn s (numbersOf (recordOf k s)) ≡ partOf s (recordOf k s .extensions)
+  unfolding numbersOf
+  extensions-back = by-bool (trailerThere k s) (λ t. rw t) (λ t. rw (t, sub-self (picturesEnd k s)))
+
+pub numbers-back : NumbersBack
+numbers-back kind k s r q e =
+    let h = accepted k s (sym (read-known kind k s q) ∙ e) in
+    rw h (no-fault k s, fields-back k s)
+
+-- the call that writes numbers is the call that writes their fields
+write-known : (kind : ℕ) (k : Kind) (ns a b x : List ℕ) (room : ℕ) → kindOf kind ≡ Known k → numbersFault k ns ≡ 0 → writeNumbers kind ns a b x room ≡ writeRecord kind (fieldsFrom k ns) a b x room
+unfolding writeNumbers writeRecord
+write-known kind k ns a b x room q e = rw (q, fault-none k ns a b x e)
+
+-- numbers that were read are those of a record
+numbered : (room : ℕ) (a : Answer Record) {ns : List ℕ} → within room (asNumbers a) ≡ ok ns → (r : Record) × (a ≡ ok r) × (numbersOf r ≡ ns)
+numbered room (refused n p) e = ok-refused e
+numbered room (ok r) e =
+    by-bool (room <? length (numbersOf r))
+    (λ t. ok-refused (rw t at e))
+    (λ t. (r, refl, ok-same (rw t at e)))
+
+read-numbered : (kind : ℕ) (s : List ℕ) (room : ℕ) {ns : List ℕ} → readNumbers kind s room ≡ ok ns → (r : Record) × (readRecord kind s ≡ ok r) × (numbersOf r ≡ ns)
+unfolding readNumbers
+read-numbered kind s room e = numbered room (readRecord kind s) e
+
+-- what stands where the numbers of a record say
+module _ (kind : ℕ) (k : Kind) (s : List ℕ) (r : Record) (q : kindOf kind ≡ Known k) (e : readRecord kind s ≡ ok r) where
+  extensions-there : extensionsIn s (numbersOf r) ≡ partOf s (r .extensions)
+  extensions-there = rw (accepted k s (sym (read-known kind k s q) ∙ e)) (extensions-back k s)
+
+  held : Holds kind s (fieldsFrom k (numbersOf r)) (sequencesIn s (numbersOf r)) (picturesIn s (numbersOf r)) (extensionsIn s (numbersOf r))
+  unfolding numbersOf
+  held =
+      record {
+        found = r;
+        read = e;
+        fields = sym (numbers-back kind k s r q e .1);
+        sequences = refl;
+        pictures = refl;
+        extensions = sym extensions-there;
+      }
+
+  again : (room : ℕ) → Bytes s → length s ≤ room → writeNumbers kind (numbersOf r) (sequencesIn s (numbersOf r)) (picturesIn s (numbersOf r)) (extensionsIn s (numbersOf r)) room ≡ ok s
+  again room g l =
+      write-known kind k (numbersOf r) (sequencesIn s (numbersOf r)) (picturesIn s (numbersOf r)) (extensionsIn s (numbersOf r)) room q (numbers-back kind k s r q e .0)
+      ∙ writer.writes-back kind s (fieldsFrom k (numbersOf r)) (sequencesIn s (numbersOf r)) (picturesIn s (numbersOf r)) (extensionsIn s (numbersOf r)) room g held l
+
+pub writes-back : WritesBack
+writes-back kind s ns numbers room g e l =
+    let w = read-numbered kind s numbers e in
+    by-kind (kindOf kind)
+    (λ k q. rw (← w .2) (again kind k s (w .0) q (w .1) room g l))
+    (λ q. ok-refused (sym (read-unknown kind s q) ∙ w .1))
+
+-- numbers that are written have no fault
+written-fault : (kind : ℕ) (k : Kind) (ns a b x : List ℕ) (room : ℕ) {s : List ℕ} → kindOf kind ≡ Known k → writeNumbers kind ns a b x room ≡ ok s → numbersFault k ns ≡ 0
+unfolding writeNumbers writeNumbersAs
+written-fault kind k ns a b x room q e =
+    by-number (numbersFault k ns)
+    (λ z. z)
+    (λ n z. ok-refused (rw (q, z) at e))
+
+-- what is found is what was given
+found-same : (kind : ℕ) (k : Kind) (s ns a b x : List ℕ) (numbers : ℕ) → kindOf kind ≡ Known k → numberCount ≤ numbers → Holds kind s (fieldsFrom k ns) a b x → Same kind k s ns a b x numbers
+unfolding numbersOf
+found-same kind k s ns a b x numbers q h w =
+    record {
+      found = numbersOf (w .found);
+      read = read-fits kind s numbers (w .found) (sym (w .read)) h;
+      fields = numbers-back kind k s (w .found) q (w .read) .1 ∙ w .fields;
+      sequences = w .sequences;
+      pictures = w .pictures;
+      extensions = extensions-there kind k s (w .found) q (w .read) ∙ w .extensions;
+    }
+
+pub reads-back : ReadsBack
+reads-back kind k s ns a b x room numbers q h e =
+    found-same kind k s ns a b x numbers q h
+    (writer.reads-back kind s (fieldsFrom k ns) a b x room (sym (write-known kind k ns a b x room q (written-fault kind k ns a b x room q e)) ∙ e))

@@ -1,0 +1,137 @@
+// A record written from its numbers.
+ghost use mathlib.Core.Path.{_≡_};
+ghost use Prim.Native.Nat.{_≤_};
+ghost use lib.ListN.{length};
+ghost use Rattle.words.specs.Buffers.{within, Wrote};
+ghost use Rattle.records.specs.Layout.{flagOf};
+ghost use Rattle.record_writer.specs.Answers.{answerOf};
+ghost use Rattle.record_numbers.specs.Numbers.{numberCount, flagMost, highFrom, trailerFrom, numbersFault, fieldsFrom, writeNumbersAs};
+use crate::NUMBER_COUNT;
+use crate::TRAILER_NONE;
+use crate::TRAILER_PRESENT;
+use numbers::ByteOffset;
+use numbers::Kind;
+use numbers::Refusal;
+use numbers::refusals;
+use record_writer::Written;
+use records::Fields;
+use records::Flag;
+use records::High;
+use records::Trailer;
+use records::layouts;
+
+// The most that complete_representation may be.
+fn flag_most(k: Kind) -> u64
+    ensures { λ r. ⌜ r ≡ flagMost k ⌝ }
+{
+    let l = layouts::layout_of(k);
+    if l.complete {
+        return 1;
+    }
+    0
+}
+
+// 31: too few numbers, or one that is no complete_representation or no trailer; or 0.
+fn numbers_fault(k: Kind, numbers: &[u64]) -> u8
+    ensures { λ r. ⌜ r ≡ numbersFault k (now (numbers .entry)) ⌝ }
+{
+    if numbers.len() < NUMBER_COUNT {
+        return refusals::FIELDS_FIT_NO_RECORD;
+    }
+    if flag_most(k) < numbers[3] {
+        return refusals::FIELDS_FIT_NO_RECORD;
+    }
+    if numbers[11] == TRAILER_NONE {
+        return 0;
+    }
+    if numbers[11] == TRAILER_PRESENT {
+        return 0;
+    }
+    refusals::FIELDS_FIT_NO_RECORD
+}
+
+// complete_representation, where a record has one.
+fn flag_from(has: bool, n: u64) -> Flag
+    ensures { λ r. ⌜ r ≡ flagOf has n ⌝ }
+{
+    if !has {
+        return Flag::Absent;
+    }
+    if n == 0 {
+        return Flag::Clear;
+    }
+    Flag::Set
+}
+
+// The values of a trailer.
+fn high_from(numbers: &[u64]) -> High
+    requires { ⌜ numberCount ≤ length (now numbers) ⌝ }
+    ensures { λ r. ⌜ r ≡ highFrom (now (numbers .entry)) ⌝ }
+{
+    High {
+        format: numbers[12] as usize,
+        luma: numbers[13] as usize,
+        chroma: numbers[14] as usize,
+        extensions: numbers[15] as usize,
+    }
+}
+
+// The trailer.
+fn trailer_from(numbers: &[u64]) -> Trailer
+    requires { ⌜ numberCount ≤ length (now numbers) ⌝ }
+    ensures { λ r. ⌜ r ≡ trailerFrom (now (numbers .entry)) ⌝ }
+{
+    if numbers[11] != TRAILER_PRESENT {
+        return Trailer::Without;
+    }
+    let high = high_from(numbers);
+    Trailer::With(high)
+}
+
+// The fields.
+fn fields_from(k: Kind, numbers: &[u64]) -> Fields
+    requires { ⌜ numberCount ≤ length (now numbers) ⌝ }
+    ensures { λ r. ⌜ r ≡ fieldsFrom k (now (numbers .entry)) ⌝ }
+{
+    let l = layouts::layout_of(k);
+    let complete = flag_from(l.complete, numbers[3]);
+    let trailer = trailer_from(numbers);
+    Fields {
+        profile: numbers[0] as usize,
+        compatibility: numbers[1] as usize,
+        level: numbers[2] as usize,
+        complete,
+        size: numbers[4] as usize,
+        sequences: numbers[5] as usize,
+        pictures: numbers[8] as usize,
+        trailer,
+    }
+}
+
+pub(crate) fn refused(number: u8) -> Written
+    ensures { λ r. ⌜ r ≡ Written.Refused (record { number = number; place = record { 0 = 0 } }) ⌝ }
+{
+    Written::Refused(Refusal {
+        number,
+        place: ByteOffset(0),
+    })
+}
+
+// A record of a known kind.
+pub(crate) fn write_as(
+    k: Kind,
+    numbers: &[u64],
+    a: &[u8],
+    b: &[u8],
+    x: &[u8],
+    out: &mut [u8],
+) -> Written
+    ensures { λ r. ⌜ Wrote (now (out .entry)) (now (out .exit)) (answerOf r) (within (length (now (out .entry))) (writeNumbersAs k (now (numbers .entry)) (now (a .entry)) (now (b .entry)) (now (x .entry)))) ⌝ }
+{
+    let fault = numbers_fault(k, numbers);
+    if fault != 0 {
+        return refused(fault);
+    }
+    let f = fields_from(k, numbers);
+    record_writer::write_as(k, f, a, b, x, out)
+}
