@@ -17,7 +17,7 @@ use Rattle.words.specs.Refusals.{Answer, refused, ok}
 use Rattle.words.specs.RefusalNumbers.{outputTooLong}
 use Rattle.words.specs.Buffers.{within}
 use Rattle.words.proofs.Tests.{by-bool}
-use Rattle.words.proofs.Refusals.{ok-refused, ok-same}
+use Rattle.words.proofs.Refusals.{ok-refused, ok-same, refused-along}
 use Rattle.words.proofs.Buffers.{within-room, within-not}
 use Rattle.bundles.specs.Recordings.{Recording, sampleCount}
 use Rattle.bundles.specs.Bundles.{bundleVerdict, meaning, recordingOf}
@@ -28,17 +28,7 @@ use Rattle.auditing.specs.Auditing.{lineSize, lines, tally, auditCall, t
 use Rattle.auditing.specs.Rules.{Refuses, Audits, Tallies}
 use Rattle.auditing.proofs.Lines.{lines-length}
 
-number-same : {A : Type 0} {m p n q : ℕ} → _≡_ {A = Answer A} (refused m p) (refused n q) → m ≡ n
-number-same e = cc
-
-place-same : {A : Type 0} {m p n q : ℕ} → _≡_ {A = Answer A} (refused m p) (refused n q) → p ≡ q
-place-same e = cc
-
 module _ (b : List ℕ) (room : ℕ) where
-  -- the same refusal by its number and place
-  refuses-same : {A : Type 0} {m p n q : ℕ} → _≡_ {A = Answer A} (refused m p) (refused n q) → Refuses b room m p → Refuses b room n q
-  refuses-same {m = m} {q = q} e w = subst (λ (x : ℕ). Refuses b room x q) (number-same e) (subst (Refuses b room m) (place-same e) w)
-
   pub audit-bundle : {m p : ℕ} → bundleVerdict b ≡ refused m p → auditCall b room ≡ refused m p
   unfolding auditCall meaning
   audit-bundle e = rw e
@@ -77,12 +67,12 @@ module _ (b : List ℕ) (room : ℕ) where
 
   pub audit-because : (m p : ℕ) → auditCall b room ≡ refused m p → Refuses b room m p
   audit-because m p e = answered
-      (λ a c w. refuses-same (sym (audit-refuses w) ∙ e) w)
+      (λ a c w. refused-along (Refuses b room) (sym (audit-refuses w) ∙ e) w)
       (λ r q h. ok-refused (sym e ∙ audits (record { recording = r; means = q; fits = h; writes = refl })))
 
   pub tally-because : (m p : ℕ) → tallyCall b room ≡ refused m p → Refuses b room m p
   tally-because m p e = answered
-      (λ a c w. refuses-same (sym (tally-refuses w) ∙ e) w)
+      (λ a c w. refused-along (Refuses b room) (sym (tally-refuses w) ∙ e) w)
       (λ r q h. ok-refused (sym e ∙ tallies (record { recording = r; means = q; fits = h; counts = refl })))
 
   pub audited-because : (out : List ℕ) → auditCall b room ≡ ok out → Audits b room out

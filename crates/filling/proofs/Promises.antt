@@ -33,7 +33,7 @@ use Rattle.bundles.proofs.Promises.{means}
 use Rattle.filling.specs.declared.Filled.{Filled}
 use Rattle.filling.specs.declared.Filled.the-variants.{Refused, NoRoom, Done}
 use Rattle.numbers.specs.declared.Refusal.{Refusal}
-use Rattle.tables.specs.Tables.{tableSize, tableMost, cell, sampleTotal, sampleRow, laidOut, spelled, rangeIn, numbersIn, startIn, flagIn, flagged}
+use Rattle.tables.specs.Tables.{tableSize, tableMost, cell, sampleTotal, sampleRow, laidOut, spelled, rangeIn, numbersIn, sampleCell, startIn, flagIn, flagged}
 use Rattle.filling.specs.Filling.{tableOf, fillAnswer, fillTable, filling, tableAfter}
 use Rattle.filling.proofs.Spelling.{filled, filled-is, filled-layout, filled-spells, sample-cell, sample-total}
 use Rattle.tables.proofs.Ranges.{range-samples}
@@ -86,7 +86,7 @@ module _ (b t : List ℕ) (r : Recording) (means-r : meaning b ≡ ok r) (done :
       rw e at (sample-cell b t (accepted b good) room (n - 1) 1 (omega arith) (omega arith))
 
   starts : (n : ℕ) → 0 < n → n ≤ entryCount b → startIn x n ≡ contentAt b n
-  unfolding startIn
+  unfolding sampleCell
   starts n h l =
       let s = sample-total b t (accepted b good) room in
       rw (ne-eqb n 0 (λ z. omega arith), le-ltb (sampleTotal x) n (omega arith)) (start-cell n h l)
@@ -97,7 +97,7 @@ module _ (b t : List ℕ) (r : Recording) (means-r : meaning b ≡ ok r) (done :
       rw (written, filled-is b t (accepted b good) room) (starts n h (omega arith))
 
   unflagged : (n : ℕ) → flagIn x n ≡ 0
-  unfolding flagIn
+  unfolding sampleCell
   unflagged n =
       let s = sample-total b t (accepted b good) room in
       by-bool (eqb n 0) (λ q. rw q) (λ q. rw q

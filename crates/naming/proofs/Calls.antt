@@ -21,7 +21,7 @@ use Rattle.words.specs.Refusals.{Answer, refused, ok}
 use Rattle.words.specs.Bytes.{big}
 use Rattle.words.specs.Buffers.{within, overwrite, Wrote}
 use Rattle.words.proofs.Tests.{by-bool}
-use Rattle.words.proofs.Refusals.{ok-same, ok-refused}
+use Rattle.words.proofs.Refusals.{by-answer, ok-same, ok-refused, refused-along}
 use Rattle.words.proofs.Buffers.{within-room, within-not}
 use Rattle.bundles.specs.Recordings.{Recording, sampleCount, replaced}
 use Rattle.resolving.specs.Calls.{resolve}
@@ -31,13 +31,6 @@ use Rattle.naming.specs.Rules.{DifferentTracks, Reader, namesBy, resolve
 use Rattle.naming.proofs.Replaced.{layout-kept}
 use Rattle.naming.proofs.Listing.{list-size, list-kept}
 use Rattle.naming.proofs.Entries.{big-before}
-
-by-answer : {A G : Type 0} (a : Answer A) → ((m p : ℕ) → a ≡ refused m p → G) → ((x : A) → a ≡ ok x → G) → G
-by-answer (refused m p) f g = f m p refl
-by-answer (ok x) f g = g x refl
-
-same-refusal : {A : Type 0} {n m p q : ℕ} → _≡_ {A = Answer A} (refused n p) (refused m q) → (n ≡ m) × (p ≡ q)
-same-refusal e = (cc, cc)
 
 module _ (r : Recording) (s : ℕ) where
   pub names-number : (s ≡ 0) ⊎ (sampleCount (r .layout) < s) → names r s ≡ refused noSuchNumber 0
@@ -91,7 +84,7 @@ module _ (reader : Reader) (b : List ℕ) where
 
     pub refuses-because : (m p : ℕ) → namesBy reader b s room ≡ refused m p → Refuses reader b s room m p
     refuses-because m p e = answered
-        (λ a c w. let q = same-refusal (sym (refuses w) ∙ e) in subst (λ (x : ℕ). Refuses reader b s room x p) (q .0) (subst (λ (x : ℕ). Refuses reader b s room a x) (q .1) w))
+        (λ a c w. refused-along (Refuses reader b s room) (sym (refuses w) ∙ e) w)
         (λ out w. ok-refused (sym e ∙ lists w))
 
     pub lists-because : (out : List ℕ) → namesBy reader b s room ≡ ok out → Lists reader b s room out

@@ -8,32 +8,27 @@
 --   list-read            so they are read back
 --   unlisted-read        a sample whose number is read from no entry is not in the list
 use Prim.Native.Nat.{ℕ, zero, suc, _+_, _*_, _^_, _≤_, _<_}
-use mathlib.Core.Path.{_≡_, refl, ap, ap₂, _∙_}
-use mathlib.Core.List.{List, [], _∷_, _++_, append-assoc, List·Memᴰ, List·Memᴰ·head, List·Memᴰ·tail}
+use mathlib.Core.Path.{_≡_, refl, ap, sym, _∙_}
+use mathlib.Core.List.{List, [], _∷_, _++_, append-assoc, append-nil, List·Memᴰ, List·Memᴰ·head, List·Memᴰ·tail}
 use native.Mathlib.Omega.{arith}
-use lib.ListN.{length, getD, List·getD-append}
-use lib.Seq.{getD-append-add}
+use native.Mathlib.Nat.{zero-add}
+use lib.ListN.{length, getD, length-append}
+use lib.Seq.{drop-at}
 use Rattle.words.specs.Lists.{each, nth}
-use Rattle.words.specs.Bytes.{byteAt, big, bytes}
-use Rattle.words.proofs.Bytes.{bytes-length, big-bytes}
+use Rattle.words.specs.Bytes.{big, bytes}
+use Rattle.words.proofs.Bytes.{bytes-length, big-bytes, big-inside}
 use Rattle.bundles.specs.Recordings.{Recording}
 use Rattle.links.proofs.Words.{mem-nth}
 use Rattle.resolving.proofs.Good.{extractor-inside}
 use Rattle.naming.specs.Naming.{Namer, namer, namingList, sampleSize, placeSize, entryBytes, listBytes}
 use Rattle.naming.specs.Rules.{Unlisted, Fits}
-use Rattle.naming.proofs.Listing.{list-only, entry-size}
+use Rattle.naming.proofs.Listing.{list-only, entry-size, list-size}
 
-pub big-after : (a s : List ℕ) (q n : ℕ) → big (a ++ s) (length a + q) n ≡ big s q n
-unfolding big
-big-after a s q zero = refl
-big-after a s q (suc n) =
-    let e : length a + q + n ≡ length a + (q + n) = omega arith in
-    ap₂ (λ (x y : ℕ). x * 256 + y) (big-after a s q n) (ap (byteAt (a ++ s)) e ∙ getD-append-add a s (q + n) 0)
+pub big-after : (a s : List ℕ) (q n : ℕ) → q + n ≤ length s → big (a ++ s) (length a + q) n ≡ big s q n
+big-after a s q n h = big-inside (a ++ s) (length a) s [] (drop-at a s (length a) refl ∙ sym (append-nil s)) q n h
 
 pub big-before : (a s : List ℕ) (q n : ℕ) → q + n ≤ length a → big (a ++ s) q n ≡ big a q n
-unfolding big
-big-before a s q zero h = refl
-big-before a s q (suc n) h = ap₂ (λ (x y : ℕ). x * 256 + y) (big-before a s q n (omega arith)) (List·getD-append a s 0 (q + n) (omega arith))
+big-before a s q n h = ap (λ (p : ℕ). big (a ++ s) p n) (sym (zero-add q)) ∙ big-inside (a ++ s) 0 a s refl q n h
 
 -- an entry fits its bytes
 abbrev pub EntryFits : Namer → Type 0
@@ -49,7 +44,7 @@ pair-read v w s g h =
     let z : sampleSize ≡ length a + 0 = omega arith in
     rw (append-assoc a b s) (
       big-bytes sampleSize v (b ++ s) g,
-      ap (λ (q : ℕ). big (a ++ (b ++ s)) q placeSize) z ∙ big-after a (b ++ s) 0 placeSize ∙ big-bytes placeSize w s h,
+      ap (λ (q : ℕ). big (a ++ (b ++ s)) q placeSize) z ∙ big-after a (b ++ s) 0 placeSize (rw (length-append b s, bytes-length placeSize w) (omega arith)) ∙ big-bytes placeSize w s h,
     )
 
 pub entry-read : (e : Namer) (s : List ℕ) → EntryFits e → (big (entryBytes e ++ s) 0 sampleSize ≡ e .sample) × (big (entryBytes e ++ s) sampleSize placeSize ≡ e .place)
@@ -66,10 +61,11 @@ entries-read (e ∷ es) h zero l = entry-read e (listBytes es) (h e (List·Mem�
 entries-read (e ∷ es) h (suc i) l =
     let below = entries-read es (λ x m. h x (List·Memᴰ·tail m)) i (omega arith) in
     let k = entry-size e in
+    let z : length (listBytes es) ≡ length es * 6 = list-size es in
     let u : suc i * 6 ≡ length (entryBytes e) + i * 6 = omega arith in
     let v : suc i * 6 + sampleSize ≡ length (entryBytes e) + (i * 6 + sampleSize) = omega arith in (
-      ap (λ (q : ℕ). big (entryBytes e ++ listBytes es) q sampleSize) u ∙ big-after (entryBytes e) (listBytes es) (i * 6) sampleSize ∙ below .0,
-      ap (λ (q : ℕ). big (entryBytes e ++ listBytes es) q placeSize) v ∙ big-after (entryBytes e) (listBytes es) (i * 6 + sampleSize) placeSize ∙ below .1,
+      ap (λ (q : ℕ). big (entryBytes e ++ listBytes es) q sampleSize) u ∙ big-after (entryBytes e) (listBytes es) (i * 6) sampleSize (omega arith) ∙ below .0,
+      ap (λ (q : ℕ). big (entryBytes e ++ listBytes es) q placeSize) v ∙ big-after (entryBytes e) (listBytes es) (i * 6 + sampleSize) placeSize (omega arith) ∙ below .1,
     )
 
 module _ (r : Recording) (s : ℕ) (fits : Fits r) where

@@ -48,7 +48,7 @@ use Rattle.bundles.proofs.Promises.{limits-kept, references-join, bytes-replace
 use Rattle.bundles.proofs.Refusals.{Within}
 use Rattle.resolving.specs.Calls.{resolveCall}
 use Rattle.resolving.proofs.Sizes.{content-most}
-use Rattle.naming.specs.Naming.{Namer, namer, namingList, sampleSize, placeSize, listBytes, names, namesCall}
+use Rattle.naming.specs.Naming.{Namer, namer, namingList, sampleSize, placeSize, listBytes, names, namesCall, entrySize}
 use Rattle.naming.specs.Rules.{Names, Before, timesListed, Unlisted, Kept, DifferentTracks, Reader, namesBy, resolveBy, Lists, Refuses, SameAnswer}
 use Rattle.naming.proofs.Listing as listing
 use Rattle.naming.proofs.Others as others
@@ -77,18 +77,18 @@ module _ (r : Recording) (s : ℕ) where
 
 -- a sample of an accepted bundle
 module _ (reader : Reader) (b : List ℕ) (r : Recording) (accepted : reader .means b ≡ ok r) (s : ℕ) (some : 0 < s) (there : s ≤ sampleCount (r .layout)) where
-  pub names-answers : (room : ℕ) → length (namingList r s) * 6 ≤ room → namesBy reader b s room ≡ ok (listBytes (namingList r s))
+  pub names-answers : (room : ℕ) → length (namingList r s) * entrySize ≤ room → namesBy reader b s room ≡ ok (listBytes (namingList r s))
   names-answers room h =
       let l = six-bytes r s in
       calls.lists reader b s room (record { recording = r; means = accepted; some = some; there = there; lists = refl; fits = omega arith })
 
   pub entries-read-back : (i : ℕ) → i < length (namingList r s) →
-      (big (listBytes (namingList r s)) (i * 6) sampleSize ≡ getD (namingList r s) i (namer 0 0) .sample)
-      × (big (listBytes (namingList r s)) (i * 6 + sampleSize) placeSize ≡ getD (namingList r s) i (namer 0 0) .place)
+      (big (listBytes (namingList r s)) (i * entrySize) sampleSize ≡ getD (namingList r s) i (namer 0 0) .sample)
+      × (big (listBytes (namingList r s)) (i * entrySize + sampleSize) placeSize ≡ getD (namingList r s) i (namer 0 0) .place)
   entries-read-back = entries.list-read r s (reader .fits b r accepted)
 
   pub unlisted-by-call : {out out₁ : List ℕ} {count : ℕ} → Wrote out out₁ (ok count) (namesBy reader b s (length out)) →
-      (n : ℕ) → ((i : ℕ) → i * 6 < count → big out₁ (i * 6) sampleSize ≡ n → ⊥) → Unlisted r s n
+      (n : ℕ) → ((i : ℕ) → i * entrySize < count → big out₁ (i * entrySize) sampleSize ≡ n → ⊥) → Unlisted r s n
   unlisted-by-call {out} {out₁} {count} w n h =
       let k = calls.wrote-list w in
       let l = calls.lists-because reader b s (length out) (k .0) (k .1) in
@@ -96,7 +96,7 @@ module _ (reader : Reader) (b : List ℕ) (r : Recording) (accepted : reader .me
       let is : k .0 ≡ listBytes (namingList r s) = l .lists ∙ ap (λ (x : Recording). listBytes (namingList x s)) same in
       let size : count ≡ length (namingList r s) * 6 = k .2 ∙ ap length is ∙ six-bytes r s in
       entries.unlisted-read r s (reader .fits b r accepted) n (λ i j e.
-      h i (omega arith) (k .3 (i * 6) sampleSize (omega arith) ∙ ap (λ (x : List ℕ). big x (i * 6) sampleSize) is ∙ e))
+      h i (omega arith) (k .3 (i * entrySize) sampleSize (omega arith) ∙ ap (λ (x : List ℕ). big x (i * entrySize) sampleSize) is ∙ e))
 
   -- other bytes in place of the sample's
   module _ (new : List ℕ) (long : length new ≡ length (contentOf r s)) where
@@ -182,16 +182,16 @@ module _ (b : List ℕ) (n room : ℕ) where
 
 -- a sample of an accepted bundle
 module _ (b : List ℕ) (r : Recording) (accepted : meaning b ≡ ok r) (s : ℕ) (some : 0 < s) (there : s ≤ sampleCount (r .layout)) where
-  pub call-answers : (room : ℕ) → length (namingList r s) * 6 ≤ room → namesCall b s room ≡ ok (listBytes (namingList r s))
+  pub call-answers : (room : ℕ) → length (namingList r s) * entrySize ≤ room → namesCall b s room ≡ ok (listBytes (namingList r s))
   call-answers room h = sym (names-by-layout b s room) ∙ names-answers bundleReader b r accepted s some there room h
 
   pub call-entries : (i : ℕ) → i < length (namingList r s) →
-      (big (listBytes (namingList r s)) (i * 6) sampleSize ≡ getD (namingList r s) i (namer 0 0) .sample)
-      × (big (listBytes (namingList r s)) (i * 6 + sampleSize) placeSize ≡ getD (namingList r s) i (namer 0 0) .place)
+      (big (listBytes (namingList r s)) (i * entrySize) sampleSize ≡ getD (namingList r s) i (namer 0 0) .sample)
+      × (big (listBytes (namingList r s)) (i * entrySize + sampleSize) placeSize ≡ getD (namingList r s) i (namer 0 0) .place)
   call-entries = entries-read-back bundleReader b r accepted s some there
 
   pub call-unlisted : {out out₁ : List ℕ} {count : ℕ} → Wrote out out₁ (ok count) (namesCall b s (length out)) →
-      (n : ℕ) → ((i : ℕ) → i * 6 < count → big out₁ (i * 6) sampleSize ≡ n → ⊥) → Unlisted r s n
+      (n : ℕ) → ((i : ℕ) → i * entrySize < count → big out₁ (i * entrySize) sampleSize ≡ n → ⊥) → Unlisted r s n
   call-unlisted {out} {out₁} {count} w = unlisted-by-call bundleReader b r accepted s some there (subst (Wrote out out₁ (ok count)) (sym (names-by-layout b s (length out))) w)
 
   -- other bytes in place of the sample's

@@ -7,7 +7,7 @@
 --   listBytes es           the list as it is written
 --   names r s              the call on a recording: 30, or the list
 --   namesCall b s room     the call on a bundle, with room for the list: 1 to 13, 30, 29, or the list
-use Prim.Native.Nat.{ℕ}
+use Prim.Native.Nat.{ℕ, _+_}
 use mathlib.Core.List.{List, [], _++_, map}
 use mathlib.Core.Bool.{Bool, _&&_}
 use Rattle.words.specs.Tests.{_≡?_, pick}
@@ -48,6 +48,9 @@ sampleSize = 2
 
 abbrev pub placeSize : ℕ
 placeSize = 4
+
+abbrev pub entrySize : ℕ
+entrySize = sampleSize + placeSize
 
 abbrev pub entryBytes : Namer → List ℕ
 entryBytes e = bytes sampleSize (e .sample) ++ bytes placeSize (e .place)

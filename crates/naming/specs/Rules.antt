@@ -26,7 +26,7 @@ use Rattle.samples.specs.Check.{check}
 use Rattle.bundles.specs.Recordings.{Layout, Reference, Recording, sampleCount, contentOf, replaced}
 use Rattle.resolving.specs.Resolving.{sampleOf, named, nameFaultAt, delivered, judged}
 use Rattle.resolving.specs.Calls.{output, onBundle, resolve}
-use Rattle.naming.specs.Naming.{Namer, namer, namingList, sampleSize, placeSize, listBytes, names}
+use Rattle.naming.specs.Naming.{Namer, namer, namingList, sampleSize, placeSize, entrySize, listBytes, names}
 
 -- Whatever 25 to 28 say, and whatever the other extractors of its sample are.
 pub record Names (r : Recording) (s n p : ℕ) : Type 0 where
@@ -100,7 +100,7 @@ module _ (reader : Reader) (b : List ℕ) where
     pub data Refuses : ℕ → ℕ → Type 0 where
       bundle : {m p : ℕ} → reader .means b ≡ refused m p → Refuses m p
       number : (r : Recording) → reader .means b ≡ ok r → (s ≡ 0) ⊎ (sampleCount (r .layout) < s) → Refuses noSuchNumber 0
-      tooLong : (r : Recording) → reader .means b ≡ ok r → 0 < s → s ≤ sampleCount (r .layout) → room < length (namingList r s) * 6 → Refuses outputTooLong 0
+      tooLong : (r : Recording) → reader .means b ≡ ok r → 0 < s → s ≤ sampleCount (r .layout) → room < length (namingList r s) * entrySize → Refuses outputTooLong 0
 
 -- what two calls returned, and what they left in the buffers lent to them
 pub record SameAnswer (a a' : Answer ℕ) (out out' : List ℕ) : Type 0 where

@@ -3,7 +3,7 @@
 --   namesWith y s n f    whether an extractor with the fields f in sample n names sample s
 --   namesAt y s n x p    whether the unit at p of sample n, which is x, is an extractor that names sample s
 --   namersFrom y s n x p the units from p on that do
---   entrySize, listMost  the size of an entry; more bytes no list has
+--   listMost             more bytes no list has
 --   withEntry o at n p   an entry over a buffer
 --   answerOf             the code's answer in these words
 use Prim.Native.Nat.{ℕ, _+_, _*_}
@@ -23,7 +23,7 @@ use Rattle.bundles.specs.Limits.{bundleMost, sampleMost}
 use Rattle.bundles.specs.Recordings.{Layout}
 use Rattle.links.specs.Links.{sampleNamed, nameFault}
 use Rattle.copies.specs.Flat.{flatPlaces}
-use Rattle.naming.specs.Naming.{sampleSize, placeSize}
+use Rattle.naming.specs.Naming.{sampleSize, placeSize, entrySize}
 use Rattle.naming_list.specs.declared.Listed.{Listed}
 use Rattle.naming_list.specs.declared.Listed.the-variants.{Refused, Count}
 
@@ -43,9 +43,6 @@ module _ (y : Layout) (s n : ℕ) where
 
   abbrev pub namersFrom : Sample → ℕ → List ℕ
   namersFrom x p = keep (namesAt x) (flatPlaces x p (end x))
-
-abbrev pub entrySize : ℕ
-entrySize = sampleSize + placeSize
 
 -- an entry over a buffer, number by number, each where there is room for it
 abbrev pub withEntry : List ℕ → ℕ → ℕ → ℕ → List ℕ

@@ -42,7 +42,7 @@ use Rattle.resolving.specs.Resolving.{Span, own, delivered, judged}
 use Rattle.resolving.specs.Calls.{resolveCall, unitCall, placeCall}
 use Rattle.resolving.specs.Rules.{Good, Delivers}
 use Rattle.resolving.proofs.Promises as resolving
-use Rattle.naming.specs.Naming.{Namer, namer, namingList, listBytes, namesCall}
+use Rattle.naming.specs.Naming.{Namer, namer, namingList, sampleSize, placeSize, entrySize, listBytes, namesCall}
 use Rattle.naming.specs.Rules.{Names, Before, timesListed, Unlisted, SameAnswer}
 use Rattle.naming.proofs.Promises as naming
 use Rattle.tally.specs.declared.Outcome.the-variants.{Passed, Empty}
@@ -152,7 +152,7 @@ tally-counts = auditing.tally-counts
 -- Demand 3, of sample s of a bundle b that is accepted and means r. All in crates/naming/proofs/Promises.
 module _ (b : List ℕ) (r : Recording) (accepted : meaning b ≡ ok r) (s : ℕ) (some : 0 < s) (there : s ≤ sampleCount (r .layout)) where
   -- with room the naming call answers with the list, 6 bytes an extractor
-  pub list-answered : (room : ℕ) → length (namingList r s) * 6 ≤ room → namesCall b s room ≡ ok (listBytes (namingList r s))
+  pub list-answered : (room : ℕ) → length (namingList r s) * entrySize ≤ room → namesCall b s room ≡ ok (listBytes (namingList r s))
   list-answered = naming.call-answers b r accepted s some there
 
   -- exactly the extractors, in well-formed samples, that name s
@@ -173,11 +173,11 @@ module _ (b : List ℕ) (r : Recording) (accepted : meaning b ≡ ok r) (s : ℕ
 
   -- nothing is cut: the number and the place of entry i, from 0 on, are read from 2 and 4 bytes at 6 i
   pub list-read-back : (i : ℕ) → i < length (namingList r s) →
-      (big (listBytes (namingList r s)) (i * 6) 2 ≡ getD (namingList r s) i (namer 0 0) .sample) × (big (listBytes (namingList r s)) (i * 6 + 2) 4 ≡ getD (namingList r s) i (namer 0 0) .place)
+      (big (listBytes (namingList r s)) (i * entrySize) sampleSize ≡ getD (namingList r s) i (namer 0 0) .sample) × (big (listBytes (namingList r s)) (i * entrySize + sampleSize) placeSize ≡ getD (namingList r s) i (namer 0 0) .place)
   list-read-back = naming.call-entries b r accepted s some there
 
   -- a sample without an extractor in the list: its number is read from no entry that the naming call wrote
-  pub unlisted : {out out₁ : List ℕ} {count : ℕ} → Wrote out out₁ (ok count) (namesCall b s (length out)) → (n : ℕ) → ((i : ℕ) → i * 6 < count → big out₁ (i * 6) 2 ≡ n → ⊥) → Unlisted r s n
+  pub unlisted : {out out₁ : List ℕ} {count : ℕ} → Wrote out out₁ (ok count) (namesCall b s (length out)) → (n : ℕ) → ((i : ℕ) → i * entrySize < count → big out₁ (i * entrySize) sampleSize ≡ n → ⊥) → Unlisted r s n
   unlisted = naming.call-unlisted b r accepted s some there
 
   -- any bytes of the same length in place of those of s

@@ -10,7 +10,7 @@ use mathlib.Core.List.{List}
 use mathlib.Core.Logic.{_⊎_, inl, inr, ⊎-elim}
 use Rattle.words.specs.RefusalNumbers.{outputTooLong, noSuchNumber}
 use Rattle.words.specs.Refusals.{Answer, refused, ok}
-use Rattle.words.proofs.Refusals.{ok-refused}
+use Rattle.words.proofs.Refusals.{ok-refused, refused-same}
 use Rattle.bundles.specs.Recordings.{Recording}
 use Rattle.bundles.specs.Bundles.{meaning, contentAt}
 use Rattle.bundles.proofs.Promises.{refusals-within}
@@ -47,7 +47,7 @@ module _ (b : List ℕ) (n : ℕ) where
   unit-refused k m p e = unit (unit-call-because b n k m p e)
 
   placed : (a : Answer Span) {m p : ℕ} → placedBy (contentAt b) a ≡ refused m p → a ≡ refused m p
-  placed (refused n q) {m} {p} e = let i : n ≡ m = cc in let j : q ≡ p = cc in rw (i, j)
+  placed (refused n q) e = let s = refused-same e in rw (s .0, s .1)
   placed (ok u) e = ok-refused (sym e)
 
   pub place-refused : (k m p : ℕ) → placeCall b n k ≡ refused m p → Within b m p ⊎ (InSample b n m p ⊎ ((m ≡ noSuchNumber) × (p ≡ 0)))

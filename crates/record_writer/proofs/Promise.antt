@@ -18,7 +18,7 @@ use Rattle.words.specs.Refusals.{_if_, Answer, refused, ok, _atPlace_, _andThen
 use Rattle.words.specs.Bytes.{Bytes}
 use Rattle.words.specs.Buffers.{within}
 use Rattle.words.proofs.Tests.{by-bool, by-number, true-false}
-use Rattle.words.proofs.Refusals.{ok-same, ok-refused, within-some}
+use Rattle.words.proofs.Refusals.{ok-same, ok-refused, within-some, refused-same}
 use Rattle.words.proofs.Buffers.{within-room, within-not}
 use Rattle.numbers.specs.Kinds.{kindOf, onKind}
 use Rattle.numbers.specs.declared.Kind.{Kind}
@@ -137,12 +137,9 @@ misfits-exactly kind k f a b x room q ga gb gx = (
 )
 
 -- a refusal's number and place
-same-refusal : {A : Type 0} {n m p q : ℕ} → _≡_ {A = Answer A} (refused n p) (refused m q) → (n ≡ m) × (p ≡ q)
-same-refusal e = (cc, cc)
-
 at-zero : {A : Type 0} (n : ℕ) (a : A) {m p : ℕ} → (n atPlace 0 andThen ok a) ≡ refused m p → (m ≡ n) × (p ≡ 0) × (n ≡ 0 → ⊥)
 at-zero zero a e = ok-refused (sym e)
-at-zero (suc n) a e = let w = same-refusal e in (sym (w .0), sym (w .1), λ z. omega arith)
+at-zero (suc n) a e = let w = refused-same e in (sym (w .0), sym (w .1), λ z. omega arith)
 
 pub read-refusals : ReadRefusals
 unfolding readAs
@@ -151,13 +148,13 @@ read-refusals kind s n p e =
     (λ k q.
     let w = at-zero (recordFault k s) (recordOf k s) (sym (read-known kind k s q) ∙ e) in
     (w .1, inr (rw (w .0) (within-some recordCut bytesAfterRecord (record-refusal k s) (pos-of-ne-zero (w .2))))))
-    (λ q. let w = same-refusal (sym (read-unknown kind s q) ∙ e) in (sym (w .1), inl (sym (w .0))))
+    (λ q. let w = refused-same (sym (read-unknown kind s q) ∙ e) in (sym (w .1), inl (sym (w .0))))
 
 within-refused : (room : ℕ) (v : Answer (List ℕ)) {n p : ℕ} → within room v ≡ refused n p → (v ≡ refused n p) ⊎ ((n ≡ outputTooLong) × (p ≡ 0))
 within-refused room (refused m q) e = inl e
 within-refused room (ok out) e =
     by-bool (room <? length out)
-    (λ t. let w = same-refusal (rw t at e) in inr (sym (w .0), sym (w .1)))
+    (λ t. let w = refused-same (rw t at e) in inr (sym (w .0), sym (w .1)))
     (λ t. ok-refused (sym (rw t at e)))
 
 pub write-refusals : WriteRefusals
@@ -166,7 +163,7 @@ write-refusals kind f a b x room n p e =
     (λ k q. ⊎-elim
     (λ r. by-bool (fits k f a b x)
     (λ t. ok-refused (sym (sym (write-fits k f a b x t) ∙ r)))
-    (λ t. let w = same-refusal (sym (write-misfit k f a b x t) ∙ r) in (sym (w .1), inr (inl (sym (w .0))))))
+    (λ t. let w = refused-same (sym (write-misfit k f a b x t) ∙ r) in (sym (w .1), inr (inl (sym (w .0))))))
     (λ r. (r .1, inr (inr (r .0))))
     (within-refused room (writeAs k f a b x) (sym (write-known kind k f a b x room q) ∙ e)))
-    (λ q. let w = same-refusal (sym (write-unknown kind f a b x room q) ∙ e) in (sym (w .1), inl (sym (w .0))))
+    (λ q. let w = refused-same (sym (write-unknown kind f a b x room q) ∙ e) in (sym (w .1), inl (sym (w .0))))

@@ -27,7 +27,7 @@ use Rattle.words.specs.Lists.{each, nth, upto}
 use Rattle.words.specs.Bytes.{bytes, part}
 use Rattle.words.specs.Buffers.{within}
 use Rattle.words.proofs.Tests.{by-bool}
-use Rattle.words.proofs.Refusals.{by-verdict, ok-refused, ok-same}
+use Rattle.words.proofs.Refusals.{by-verdict, ok-refused, ok-same, refused-along}
 use Rattle.words.proofs.Lists.{each-cong, nth-mem, upto-from}
 use Rattle.words.proofs.Buffers.{within-room, within-not}
 use Rattle.bundles.specs.Recordings.{Recording, sampleCount, contentOf}
@@ -42,12 +42,6 @@ use Rattle.words.proofs.Joined.{each-by-number, part-part}
 use Rattle.resolving.proofs.Delivered.{Inside, span-length}
 use Rattle.resolving.proofs.Good.{good-rules, judged-refused}
 use Rattle.resolving.proofs.Exactly.{delivered-plain, delivered-there}
-
-number-same : {A : Type 0} {m p n q : ℕ} → _≡_ {A = Answer A} (refused m p) (refused n q) → m ≡ n
-number-same e = cc
-
-place-same : {A : Type 0} {m p n q : ℕ} → _≡_ {A = Answer A} (refused m p) (refused n q) → p ≡ q
-place-same e = cc
 
 -- 30
 module _ (count n : ℕ) where
@@ -122,7 +116,7 @@ module _ (r : Recording) (n : ℕ) where
 
   pub refused-because : (room m p : ℕ) → within room (resolve r n) ≡ refused m p → Refuses r n room m p
   refused-because room m p e = answered room
-      (λ a c w. let s = sym (refuses room w) ∙ e in subst (λ (x : ℕ). Refuses r n room x p) (number-same s) (subst (λ (x : ℕ). Refuses r n room a x) (place-same s) w))
+      (λ a c w. let s = sym (refuses room w) ∙ e in refused-along (Refuses r n room) s w)
       (λ out w. ok-refused (sym e ∙ resolves room w))
 
   pub resolved-because : (room : ℕ) (out : List ℕ) → within room (resolve r n) ≡ ok out → Resolves r n room out
@@ -152,7 +146,7 @@ module _ (r : Recording) (n : ℕ) where
 
   pub unit-because : (k m p : ℕ) → unitOf r n k ≡ refused m p → UnitRefuses r n k m p
   unit-because k m p e = unit-answered k
-      (λ a c w. let s = sym (unit-refuses k w) ∙ e in subst (λ (x : ℕ). UnitRefuses r n k x p) (number-same s) (subst (λ (x : ℕ). UnitRefuses r n k a x) (place-same s) w))
+      (λ a c w. let s = sym (unit-refuses k w) ∙ e in refused-along (UnitRefuses r n k) s w)
       (λ u w. ok-refused (sym e ∙ w))
 
 module _ (b : List ℕ) where
@@ -188,7 +182,7 @@ module _ (b : List ℕ) where
     call-refused-because room m p e = ⊎-elim
         (λ w.
         let s = sym (call-bundle room (w .2)) ∙ e in
-        subst (λ (x : ℕ). CallRefuses b n room x p) (number-same s) (subst (λ (x : ℕ). CallRefuses b n room (w .0) x) (place-same s) (CallRefuses.bundle (w .2))))
+        refused-along (CallRefuses b n room) s (CallRefuses.bundle (w .2)))
         (λ w. CallRefuses.recording (recordingOf b) (w .1) (refused-because (recordingOf b) n room m p (sym (call-means room (w .1)) ∙ e)))
         (one-or-other b)
 
@@ -206,7 +200,7 @@ module _ (b : List ℕ) where
     unit-call-because k m p e = ⊎-elim
         (λ w.
         let s = sym (unit-bundle k (w .2)) ∙ e in
-        subst (λ (x : ℕ). UnitCallRefuses b n k x p) (number-same s) (subst (λ (x : ℕ). UnitCallRefuses b n k (w .0) x) (place-same s) (UnitCallRefuses.bundle (w .2))))
+        refused-along (UnitCallRefuses b n k) s (UnitCallRefuses.bundle (w .2)))
         (λ w. UnitCallRefuses.recording (recordingOf b) (w .1) (unit-because (recordingOf b) n k m p (sym (unit-means k (w .1)) ∙ e)))
         (one-or-other b)
 

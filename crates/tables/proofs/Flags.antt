@@ -18,7 +18,7 @@ use Rattle.words.specs.Lists.{upto, lastThat}
 use Rattle.words.proofs.Tests.{by-bool}
 use Rattle.words.proofs.Lists.{map-cong, upto-from}
 use Rattle.bundles.specs.Recordings.{Layout, Recording}
-use Rattle.tables.specs.Tables.{atMost, sampleRow, cell, trackTotal, referenceTotal, sampleTotal, trackIn, referenceIn, beforeIn, ownerIn, entryIn, laidOut, contentIn, spelled, flagIn, flagged}
+use Rattle.tables.specs.Tables.{atMost, sampleRow, cell, trackTotal, referenceTotal, sampleTotal, trackIn, referenceIn, beforeIn, ownerIn, entryIn, laidOut, contentIn, spelled, sampleCell, flagIn, flagged}
 use Rattle.words.proofs.Rows.{lastThat-cong}
 
 pub set-beyond : (l : List ℕ) (i a : ℕ) → length l ≤ i → set l i a ≡ l
@@ -83,10 +83,10 @@ flagged-spells b t n v = flagged-case t n v (λ x. spelled b x ≡ spelled b t) 
 
 -- the flag that was set
 pub flag-set : (t : List ℕ) (n v : ℕ) → 0 < n → n ≤ sampleTotal t → sampleRow n * 4 + 3 < length t → flagIn (flagged t n v) n ≡ v
-unfolding flagged flagIn
+unfolding flagged sampleCell
 flag-set t n v h l r =
     rw (ne-eqb n 0 (λ z. omega arith), le-ltb (sampleTotal t) n l, sample-total t n v, le-ltb (sampleTotal t) n l) (unfold cell in getD-set-same t (sampleRow n * 4 + 3) v 0 r)
 
 -- every other flag stays
 pub flag-kept : (t : List ℕ) (n m v : ℕ) → (m ≡ n → ⊥) → flagIn (flagged t n v) m ≡ flagIn t m
-flag-kept t n m v h = flagged-case t n v (λ x. flagIn x m ≡ flagIn t m) refl (unfold flagIn in rw (sample-total t n v, cell-kept t n v (sampleRow m) 3 (omega arith) (λ e f. h (omega arith))))
+flag-kept t n m v h = flagged-case t n v (λ x. flagIn x m ≡ flagIn t m) refl (unfold sampleCell in rw (sample-total t n v, cell-kept t n v (sampleRow m) 3 (omega arith) (λ e f. h (omega arith))))

@@ -8,6 +8,7 @@
 --   spelled b t           the recording that it spells with the bytes b
 --   rangeIn t k           the samples of track k: those after `before`, up to `after`
 --   numbersIn r           their numbers
+--   sampleCell t n column    a number of the row of sample n
 --   startIn t n           where the bytes of sample n start
 --   flagIn t n            the flag of sample n
 --   flagged t n v         the table with that flag set
@@ -147,12 +148,16 @@ module _ (t : List ℕ) where
       (pick (trackTotal <? k) (record { before = 0; after = 0 })
       (record { before = beforeIn k; after = afterIn k trackTotal }))
 
-  -- where the bytes of sample n start in the bundle
-  unfoldable pub startIn : ℕ → ℕ
-  startIn n = pick (n ≡? 0) 0 (pick (sampleTotal <? n) 0 (cell (sampleRow n) startColumn))
+  -- a number of the row of sample n; 0 where there is no such sample
+  unfoldable pub sampleCell : ℕ → ℕ → ℕ
+  sampleCell n column = pick (n ≡? 0) 0 (pick (sampleTotal <? n) 0 (cell (sampleRow n) column))
 
-  unfoldable pub flagIn : ℕ → ℕ
-  flagIn n = pick (n ≡? 0) 0 (pick (sampleTotal <? n) 0 (cell (sampleRow n) flagColumn))
+  -- where the bytes of sample n start in the bundle
+  abbrev pub startIn : ℕ → ℕ
+  startIn n = sampleCell n startColumn
+
+  abbrev pub flagIn : ℕ → ℕ
+  flagIn n = sampleCell n flagColumn
 
 -- the flag of sample n set to v; a table without that number stays as it was
 unfoldable pub flagged : List ℕ → ℕ → ℕ → List ℕ

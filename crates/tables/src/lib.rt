@@ -9,7 +9,7 @@ ghost use Rattle.numbers.specs.Kinds.{kindOf};
 ghost use Rattle.numbers.specs.Sizes.{lengthSizeOf};
 ghost use Rattle.bundles.specs.Recordings.{noTrack, noReference, sampleCount, trackOf, timeOf, referencesFrom, contentOf};
 ghost use Rattle.bundles.specs.Tracks.{knownKind, knownSize};
-ghost use Rattle.tables.specs.Tables.{inside, startIn, flagIn, flagged, cell, trackTotal, referenceTotal, sampleTotal, ownerIn, afterIn, rangeIn, laidOut, spelled};
+ghost use Rattle.tables.specs.Tables.{inside, sampleCell, startIn, flagIn, flagged, cell, trackTotal, referenceTotal, sampleTotal, ownerIn, afterIn, rangeIn, laidOut, spelled};
 use numbers::ByteOffset;
 use numbers::Kind;
 use numbers::LengthSize;
@@ -243,18 +243,26 @@ pub fn sample_bytes<'a>(b: &'a [u8], t: &[u64], n: SampleNumber) -> &'a [u8]
     )
 }
 
+// A number of the row of a sample; 0 where there is no such sample.
+fn sample_cell(t: &[u64], n: SampleNumber, column: usize) -> usize
+    requires { ⌜ column < 4 ⌝ }
+    ensures { λ r. ⌜ r ≡ sampleCell (now (t .entry)) (n .0) column ⌝ }
+{
+    let m = n.0;
+    if m == 0 {
+        return 0;
+    }
+    if sample_total(t) < m {
+        return 0;
+    }
+    cell(t, SAMPLE_ROW + m, column)
+}
+
 // Where the bytes of a sample start in the bundle; 0 where there is no such sample.
 pub fn sample_start(t: &[u64], n: SampleNumber) -> ByteOffset
     ensures { λ r. ⌜ r .0 ≡ startIn (now (t .entry)) (n .0) ⌝ }
 {
-    let m = n.0;
-    if m == 0 {
-        return ByteOffset(0);
-    }
-    if sample_total(t) < m {
-        return ByteOffset(0);
-    }
-    ByteOffset(cell(t, SAMPLE_ROW + m, START))
+    ByteOffset(sample_cell(t, n, START))
 }
 
 // The end of track k's samples, lowered by where a later track j's start.
@@ -356,14 +364,7 @@ pub fn reference(t: &[u64], k: TrackNumber, index: usize) -> TrackNumber
 pub fn flag(t: &[u64], n: SampleNumber) -> u64
     ensures { λ r. ⌜ r ≡ flagIn (now (t .entry)) (n .0) ⌝ }
 {
-    let m = n.0;
-    if m == 0 {
-        return 0;
-    }
-    if sample_total(t) < m {
-        return 0;
-    }
-    cell(t, SAMPLE_ROW + m, FLAG) as u64
+    sample_cell(t, n, FLAG) as u64
 }
 
 // Sets the flag of a sample, where there is one.

@@ -4,20 +4,12 @@ use crate::request;
 use naming_list::Listed;
 use numbers::SampleNumber;
 
-// What was answered, and whether the rest of the buffer is as it was.
+// What was answered.
 fn print_listed(listed: Listed, out: &[u8; 100000]) {
     match listed {
-        Listed::Refused(r) => {
-            print::refusal(r);
-            print::changed(out, 0);
-        }
-        Listed::Count(n) => {
-            print::text(b"OK");
-            print::bytes(request::part(out, 0, n));
-            print::changed(out, n);
-        }
+        Listed::Refused(r) => print::refused(r, out),
+        Listed::Count(n) => print::written(out, n),
     }
-    print::end();
 }
 
 pub(crate) fn answer(fields: &[u8]) {

@@ -1,4 +1,5 @@
 // The parts of an answer line.
+use crate::request;
 use libc::STDOUT_FILENO;
 use numbers::Refusal;
 
@@ -75,4 +76,19 @@ pub(crate) fn changed(s: &[u8], from: usize) {
     if !is_kept(s, from) {
         text(b" CHANGED");
     }
+}
+
+// The line of a call that refused: the refusal, and whether the lent buffer is as it was.
+pub(crate) fn refused(r: Refusal, out: &[u8]) {
+    refusal(r);
+    changed(out, 0);
+    end();
+}
+
+// The line of a call that wrote n bytes: the bytes, and whether the rest of the lent buffer is as it was.
+pub(crate) fn written(out: &[u8], n: usize) {
+    text(b"OK");
+    bytes(request::part(out, 0, n));
+    changed(out, n);
+    end();
 }

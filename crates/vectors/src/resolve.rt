@@ -4,20 +4,12 @@ use crate::request;
 use numbers::SampleNumber;
 use resolution::Resolved;
 
-// What was answered, and whether the rest of the buffer is as it was.
+// What was answered.
 fn print_resolved(resolved: Resolved, out: &[u8; 100000]) {
     match resolved {
-        Resolved::Refused(r) => {
-            print::refusal(r);
-            print::changed(out, 0);
-        }
-        Resolved::Count(n) => {
-            print::text(b"OK");
-            print::bytes(request::part(out, 0, n));
-            print::changed(out, n);
-        }
+        Resolved::Refused(r) => print::refused(r, out),
+        Resolved::Count(n) => print::written(out, n),
     }
-    print::end();
 }
 
 pub(crate) fn answer(fields: &[u8]) {

@@ -53,20 +53,12 @@ fn fields_of(kind: u32, front: &[u8], pictures: &[u8], last: &[u8]) -> Fields {
     }
 }
 
-// What was answered, and whether the rest of the buffer is as it was.
+// What was answered.
 fn print_written(written: Written, out: &[u8; 1024]) {
     match written {
-        Written::Refused(r) => {
-            print::refusal(r);
-            print::changed(out, 0);
-        }
-        Written::Count(n) => {
-            print::text(b"OK");
-            print::bytes(request::part(out, 0, n));
-            print::changed(out, n);
-        }
+        Written::Refused(r) => print::refused(r, out),
+        Written::Count(n) => print::written(out, n),
     }
-    print::end();
 }
 
 pub(crate) fn answer(fields: &[u8]) {

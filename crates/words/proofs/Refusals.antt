@@ -6,13 +6,13 @@
 --   orElse-assoc              a chain may be cut anywhere
 --   at-ok, at-none, at-from, at-refused         a number at a place, as a verdict
 --   and-ok                    a verdict and an answer that is no refusal
---   by-verdict                cases of a verdict, with the equation
+--   by-verdict, by-answer     cases of a verdict and of an answer, with the equation
 --   Within, within-if, within-orElse, within-firstOf, within-some    refusal numbers of a chain that lie from a to b
 --   firstOf-none, -cong, -map     the first refusal number of a list
 --   first-ok, first-all, first-from, first-cong    the first refusal of a list
---   ok-same, ok-refused       two answers that are equal
+--   ok-same, ok-refused, refused-same, refused-along    two answers that are equal; what is said of the number and place of the one holds of the other's
 use Prim.Native.Nat.{ℕ, zero, suc, _≤_, _<_}
-use mathlib.Core.Path.{_≡_, refl, ap, ap₂, sym, _∙_}
+use mathlib.Core.Path.{_≡_, refl, ap, ap₂, sym, _∙_, subst}
 use mathlib.Core.List.{List, [], _∷_, map, List·Memᴰ, List·Memᴰ·head, List·Memᴰ·tail, List·Memᴰ·not-nil, List·Memᴰ·cases-cons}
 use mathlib.Core.Bool.{Bool, true, false}
 use mathlib.Core.Logic.{_⊎_, inl, inr}
@@ -72,12 +72,22 @@ pub by-verdict : {G : Type 0} (v : Verdict) → ((n p : ℕ) → v ≡ refused n
 by-verdict (refused n p) f g = f n p refl
 by-verdict (ok u) f g = g refl
 
+pub by-answer : {A G : Type 0} (a : Answer A) → ((n p : ℕ) → a ≡ refused n p → G) → ((x : A) → a ≡ ok x → G) → G
+by-answer (refused n p) f g = f n p refl
+by-answer (ok x) f g = g x refl
+
 module _ {A : Type 0} where
   pub ok-same : {a b : A} → ok a ≡ ok b → a ≡ b
   ok-same e = cc
 
   pub ok-refused : {G : Type 0} {a : A} {n p : ℕ} → refused n p ≡ ok a → G
   ok-refused e = let z : _≡_ {A = ℕ} 0 1 = cc in absurd (omega arith)
+
+  pub refused-same : {n m p q : ℕ} → _≡_ {A = Answer A} (refused n p) (refused m q) → (n ≡ m) × (p ≡ q)
+  refused-same e = (cc, cc)
+
+  pub refused-along : (P : ℕ → ℕ → Type 0) {n m p q : ℕ} → _≡_ {A = Answer A} (refused n p) (refused m q) → P n p → P m q
+  refused-along P {n} {m} {p} {q} e w = let s = refused-same e in subst (λ (x : ℕ). P x q) (s .0) (subst (P n) (s .1) w)
 
 -- a refusal number that is none, or lies from a to b
 abbrev pub Within : ℕ → ℕ → ℕ → Type 0
