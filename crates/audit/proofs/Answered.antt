@@ -1,6 +1,6 @@
 -- What the calls answer, step by step as the code takes them. Assumes nothing.
 --
---   count-spelled                 the count that a table says
+--   count-in-table                 the count that a table says
 --   lines-not, tally-not          a recording without room for its lines
 --   lines-fit, tally-fits         one with room
 --   lines-filled, tally-filled    the calls by a table that was filled
@@ -15,17 +15,17 @@ use Rattle.words.specs.Buffers.{within}
 use Rattle.words.proofs.Buffers.{within-room, within-not}
 use Rattle.bundles.specs.Recordings.{Recording, sampleCount}
 use Rattle.bundles.specs.Bundles.{meaning}
-use Rattle.tables.specs.Tables.{laidOut, spelled}
+use Rattle.tables.specs.Tables.{layoutIn, recordingIn}
 use Rattle.filling.specs.Filling.{filling, tableAfter}
 use Rattle.filling.specs.declared.Filled.the-variants.{Done}
 use Rattle.filling.proofs.Promises.{table-accepted, table-means}
-use Rattle.auditing.specs.Auditing.{lineSize, lines, tally, auditCall, tallyCall, tallyWithin}
-use Rattle.auditing.proofs.Lines.{lines-length}
-use Rattle.auditing.proofs.Calls.{audit-means}
+use Rattle.audit_rules.specs.Auditing.{lineSize, lines, tally, auditCall, tallyCall, tallyWithin}
+use Rattle.audit_rules.proofs.Lines.{lines-length}
+use Rattle.audit_rules.proofs.Calls.{audit-means}
 
-pub count-spelled : (b t : List ℕ) {count : ℕ} → count ≡ sampleCount (laidOut t) → count ≡ sampleCount (spelled b t .layout)
-unfolding spelled
-count-spelled b t e = e
+pub count-in-table : (b t : List ℕ) {count : ℕ} → count ≡ sampleCount (layoutIn t) → count ≡ sampleCount (recordingIn b t .layout)
+unfolding recordingIn
+count-in-table b t e = e
 
 module _ (r : Recording) (room : ℕ) where
   pub lines-not : room < lineSize * sampleCount (r .layout) → within room (ok (lines r)) ≡ refused outputTooLong 0
@@ -46,8 +46,8 @@ tally-means b room e = rw e
 
 -- a table that was filled: whatever is said by the table that is left
 module _ (b t : List ℕ) (done : filling b (length t) ≡ Done) {s : List ℕ} (f : s ≡ tableAfter b t) (room : ℕ) where
-  pub lines-filled : within room (ok (lines (spelled b s))) ≡ auditCall b room
+  pub lines-filled : within room (ok (lines (recordingIn b s))) ≡ auditCall b room
   lines-filled = rw (f, table-means b t done) (sym (audit-means b room (table-accepted b t done)))
 
-  pub tally-filled : tallyWithin (spelled b s) room ≡ tallyCall b room
+  pub tally-filled : tallyWithin (recordingIn b s) room ≡ tallyCall b room
   tally-filled = rw (f, table-means b t done) (sym (tally-means b room (table-accepted b t done)))

@@ -24,13 +24,13 @@ use Rattle.words.proofs.Refusals.{ok-refused, ok-same}
 use Rattle.numbers.specs.declared.Refusal.{Refusal}
 use Rattle.bundles.specs.Recordings.{Recording, sampleCount, contentOf}
 use Rattle.bundles.specs.Bundles.{meaning}
-use Rattle.resolving.specs.Resolving.{delivered, judged}
+use Rattle.resolution_rules.specs.Resolving.{delivered, judged}
 use Rattle.tally.specs.declared.Outcome.{Outcome}
-use Rattle.auditing.specs.Auditing.{lineSize, lines, auditCall}
-use Rattle.auditing.specs.Rules.{lineAt, Found}
-use Rattle.auditing.proofs.Outcomes.{empty-good}
-use Rattle.auditing.proofs.Lines.{lines-length}
-use Rattle.auditing.proofs.Promises.{every-sample-one-line, audited-exactly}
+use Rattle.audit_rules.specs.Auditing.{lineSize, lines, auditCall}
+use Rattle.audit_rules.specs.Rules.{lineAt, Found}
+use Rattle.audit_rules.proofs.Outcomes.{empty-good}
+use Rattle.audit_rules.proofs.Lines.{lines-length}
+use Rattle.audit_rules.proofs.Promises.{every-sample-one-line, audited-exactly}
 use Rattle.audit.specs.Answers.{lineThere, lineSays}
 use Rattle.audit.specs.Rules.{lineRead, LineFound}
 use Rattle.audit.specs.declared.Line as line

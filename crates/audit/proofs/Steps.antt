@@ -17,7 +17,7 @@ use Rattle.words.proofs.Numbered.{put-put}
 use Rattle.words.proofs.Buffers.{write-none, write-first, write-length}
 use Rattle.bundles.specs.Limits.{bundleMost, sampleMost}
 use Rattle.bundles.specs.Recordings.{Recording, sampleCount, contentOf}
-use Rattle.tables.specs.Tables.{spelled}
+use Rattle.tables.specs.Tables.{recordingIn}
 use Rattle.tables.proofs.Layouts.{samples-most}
 use Rattle.judging.specs.Steps.{judgementIn, answerOf}
 use Rattle.judging.specs.declared.Judged.{Judged}
@@ -25,10 +25,10 @@ use Rattle.judging.specs.declared.Judged.the-variants as judged
 use Rattle.judging.proofs.Judgements.{judged-refused, judged-good}
 use Rattle.tally.specs.Tallies.{tallied, raisedBy}
 use Rattle.tally.specs.declared.Tally.{Tally}
-use Rattle.auditing.specs.Auditing.{refusalSize, placeSize, unitsSize, lineSize, lineBytes, outcomeOf, lineOf, lines, tally}
-use Rattle.auditing.proofs.Outcomes.{outcome-empty, outcome-passed, outcome-refused}
-use Rattle.auditing.proofs.Lines.{line-length, joined-length}
-use Rattle.auditing.proofs.Steps.{firstLines, firstTally, lines-start, lines-put, lines-end, tally-start, tally-more, tally-end}
+use Rattle.audit_rules.specs.Auditing.{refusalSize, placeSize, unitsSize, lineSize, lineBytes, outcomeOf, lineOf, lines, tally}
+use Rattle.audit_rules.proofs.Outcomes.{outcome-empty, outcome-passed, outcome-refused}
+use Rattle.audit_rules.proofs.Lines.{line-length, joined-length}
+use Rattle.audit_rules.proofs.Steps.{firstLines, firstTally, lines-start, lines-put, lines-end, tally-start, tally-more, tally-end}
 use Rattle.audit.specs.Steps.{verdictOf, unitsIn, outcomeIn}
 
 -- writes, one after the other
@@ -49,15 +49,15 @@ put-three o at m p units h =
 
 -- a sample that was judged
 module _ (b t : List ℕ) (n : ℕ) (short : length b ≤ bundleMost) where
-  pub line-judged : (x : Judged) → answerOf x ≡ judgementIn b t n → lineBytes (verdictOf x) (unitsIn x) ≡ lineOf (spelled b t) n
+  pub line-judged : (x : Judged) → answerOf x ≡ judgementIn b t n → lineBytes (verdictOf x) (unitsIn x) ≡ lineOf (recordingIn b t) n
   unfolding lineOf lineBytes
   line-judged (judged.Refused f) e = rw (judged-refused b t n short (sym e))
   line-judged (judged.Good a) e = let w = judged-good b t n short a (sym e) in rw (w .0, w .1)
 
-  pub outcome-judged : (x : Judged) → answerOf x ≡ judgementIn b t n → outcomeIn x (length (contentOf (spelled b t) n)) ≡ outcomeOf (spelled b t) n
-  outcome-judged (judged.Refused f) e = sym (outcome-refused (spelled b t) n (judged-refused b t n short (sym e)))
+  pub outcome-judged : (x : Judged) → answerOf x ≡ judgementIn b t n → outcomeIn x (length (contentOf (recordingIn b t) n)) ≡ outcomeOf (recordingIn b t) n
+  outcome-judged (judged.Refused f) e = sym (outcome-refused (recordingIn b t) n (judged-refused b t n short (sym e)))
   outcome-judged (judged.Good a) e =
-      let r = spelled b t in
+      let r = recordingIn b t in
       let size = length (contentOf r n) in
       by-number size
       (λ z. rw (eq-eqb size 0 z) (sym (outcome-empty r n z)))
@@ -71,15 +71,15 @@ pub record Auditing (r : Recording) (o : List ℕ) (n : ℕ) (out : List ℕ) (t
   pub wrote : out ≡ writeAt o 0 (firstLines r n)
   pub counts : t ≡ firstTally r n
 
-pub auditing-start : (b t o : List ℕ) (u : Tally) → lineSize * sampleCount (spelled b t .layout) ≤ length o → u ≡ tallied [] → Auditing (spelled b t) o 0 o u
-unfolding spelled
+pub auditing-start : (b t o : List ℕ) (u : Tally) → lineSize * sampleCount (recordingIn b t .layout) ≤ length o → u ≡ tallied [] → Auditing (recordingIn b t) o 0 o u
+unfolding recordingIn
 auditing-start b t o u h e =
     record {
       few = samples-most t;
       fits = h;
       inside = omega arith;
-      wrote = write-none o 0 ∙ ap (writeAt o 0) (sym (lines-start (spelled b t)));
-      counts = e ∙ sym (tally-start (spelled b t));
+      wrote = write-none o 0 ∙ ap (writeAt o 0) (sym (lines-start (recordingIn b t)));
+      counts = e ∙ sym (tally-start (recordingIn b t));
     }
 
 module _ (r : Recording) (o : List ℕ) (n : ℕ) (out : List ℕ) (t : Tally) (w : Auditing r o n out t) where

@@ -12,8 +12,8 @@ use Rattle.words.specs.Refusals.{Answer, refused, ok}
 use Rattle.words.specs.RefusalNumbers.{noSuchNumber}
 use Rattle.words.specs.Bytes.{big}
 use Rattle.tally.specs.declared.Tally.{Tally}
-use Rattle.auditing.specs.Auditing.{refusalSize, placeSize, unitsSize, lineSize}
-use Rattle.auditing.specs.Rules.{lineAt}
+use Rattle.audit_rules.specs.Auditing.{refusalSize, placeSize, unitsSize, lineSize}
+use Rattle.audit_rules.specs.Rules.{lineAt}
 use Rattle.audit.specs.declared.Audited.{Audited}
 use Rattle.audit.specs.declared.Audited.the-variants as audited
 use Rattle.audit.specs.declared.Line as line

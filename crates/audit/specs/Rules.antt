@@ -8,7 +8,7 @@ use mathlib.Core.List.{List}
 use lib.ListN.{length}
 use Rattle.words.specs.Refusals.{refused, ok}
 use Rattle.bundles.specs.Recordings.{Recording, contentOf}
-use Rattle.resolving.specs.Resolving.{delivered, judged}
+use Rattle.resolution_rules.specs.Resolving.{delivered, judged}
 use Rattle.numbers.specs.declared.Refusal.{Refusal}
 use Rattle.audit.specs.Answers.{lineThere, lineSays}
 use Rattle.audit.specs.declared.Line as line

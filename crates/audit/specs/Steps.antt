@@ -1,4 +1,4 @@
--- The steps of the code on a bundle and any table, as definitions over the recording that they spell.
+-- The steps of the code on a bundle and any table, as definitions over the recording that they give.
 --
 --   verdictOf, unitsIn     a judged sample: its verdict, and how many units it delivers
 --   outcomeIn j size       what the audit finds of a judged sample of so many bytes

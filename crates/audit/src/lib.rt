@@ -8,9 +8,9 @@ ghost use Rattle.words.specs.Bytes.{bytes};
 ghost use Rattle.words.specs.Buffers.{put, overwrite, within, Wrote};
 ghost use Rattle.bundles.specs.Limits.{bundleMost};
 ghost use Rattle.bundles.specs.Recordings.{sampleCount};
-ghost use Rattle.tables.specs.Tables.{spelled};
+ghost use Rattle.tables.specs.Tables.{recordingIn};
 ghost use Rattle.tally.specs.Tallies.{raisedBy};
-ghost use Rattle.auditing.specs.Auditing.{refusalSize, placeSize, unitsSize, lineSize, lineBytes, outcomeOf, lineOf, lines, tally, tallyWithin, auditCall, tallyCall};
+ghost use Rattle.audit_rules.specs.Auditing.{refusalSize, placeSize, unitsSize, lineSize, lineBytes, outcomeOf, lineOf, lines, tally, tallyWithin, auditCall, tallyCall};
 ghost use Rattle.audit.specs.Steps.{verdictOf, unitsIn, outcomeIn};
 ghost use Rattle.audit.specs.Answers.{linesAnswer, tallyAnswer, lineThere, lineSays};
 use filling::Filled;
@@ -96,8 +96,8 @@ fn audit_sample(
     tally: Tally,
 ) -> Tally
     requires { ⌜ (length (now b) ≤ bundleMost) × (at + lineSize ≤ length (now out)) ⌝ }
-    ensures { λ r. ⌜ (r ≡ raisedBy (outcomeOf (spelled (now (b .entry)) (now (t .entry))) (n .0)) tally)
-        × (now (out .exit) ≡ put (now (out .entry)) at (lineOf (spelled (now (b .entry)) (now (t .entry))) (n .0))) ⌝ }
+    ensures { λ r. ⌜ (r ≡ raisedBy (outcomeOf (recordingIn (now (b .entry)) (now (t .entry))) (n .0)) tally)
+        × (now (out .exit) ≡ put (now (out .entry)) at (lineOf (recordingIn (now (b .entry)) (now (t .entry))) (n .0))) ⌝ }
 {
     let judged = judging::judge(b, t, n);
     let x = tables::sample_bytes(b, t, n);
@@ -107,9 +107,9 @@ fn audit_sample(
 
 // All samples, of which there are count: a line each over the start of a buffer that has room, and their tally.
 fn audit_samples(b: &[u8], t: &[u64], count: usize, out: &mut [u8]) -> Tally
-    requires { ⌜ (length (now b) ≤ bundleMost) × (count ≡ sampleCount (spelled (now b) (now t) .layout)) × (lineSize * count ≤ length (now out)) ⌝ }
-    ensures { λ r. ⌜ (r ≡ tally (spelled (now (b .entry)) (now (t .entry))))
-        × (now (out .exit) ≡ overwrite (now (out .entry)) (lines (spelled (now (b .entry)) (now (t .entry))))) ⌝ }
+    requires { ⌜ (length (now b) ≤ bundleMost) × (count ≡ sampleCount (recordingIn (now b) (now t) .layout)) × (lineSize * count ≤ length (now out)) ⌝ }
+    ensures { λ r. ⌜ (r ≡ tally (recordingIn (now (b .entry)) (now (t .entry))))
+        × (now (out .exit) ≡ overwrite (now (out .entry)) (lines (recordingIn (now (b .entry)) (now (t .entry))))) ⌝ }
 {
     let mut tally = tally::start();
     let mut done: usize = 0;
@@ -133,8 +133,8 @@ fn refused(number: u8) -> Audited
 // An accepted bundle by its table: 29, or all lines and the tally. 29 is known before the first byte is written.
 fn audit_accepted(b: &[u8], t: &[u64], out: &mut [u8]) -> Audited
     requires { ⌜ length (now b) ≤ bundleMost ⌝ }
-    ensures { λ r. ⌜ Wrote (now (out .entry)) (now (out .exit)) (linesAnswer r) (within (length (now (out .entry))) (ok (lines (spelled (now (b .entry)) (now (t .entry))))))
-        × (tallyAnswer r ≡ tallyWithin (spelled (now (b .entry)) (now (t .entry))) (length (now (out .entry)))) ⌝ }
+    ensures { λ r. ⌜ Wrote (now (out .entry)) (now (out .exit)) (linesAnswer r) (within (length (now (out .entry))) (ok (lines (recordingIn (now (b .entry)) (now (t .entry))))))
+        × (tallyAnswer r ≡ tallyWithin (recordingIn (now (b .entry)) (now (t .entry))) (length (now (out .entry)))) ⌝ }
 {
     let count = tables::sample_count(t);
     let size = LINE_SIZE * count;

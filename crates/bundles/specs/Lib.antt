@@ -6,6 +6,7 @@
 --   References   section two
 --   Samples      section three
 --   Bundles      section four, and the whole
+--   Readers      a reader of bundles; the reader of this layout
 --   Steps        what the steps of the check say to each other
 --   Answers      what the code's answers say
 pub mod Recordings
@@ -14,5 +15,6 @@ pub mod Tracks
 pub mod References
 pub mod Samples
 pub mod Bundles
+pub mod Readers
 pub mod Steps
 pub mod Answers

@@ -1,7 +1,7 @@
 -- What is promised of a table t beside a bundle b. `meaning b ≡ ok r` says that b is accepted and means the recording r;
 -- `tableAfter b t` is the table that `fill_table` leaves, `filling b (length t)` its answer. Assumes nothing.
 --
---   table-spells       a table that was filled from an accepted bundle spells its recording
+--   table-recording       a table that was filled from an accepted bundle gives its recording
 --   table-lays-out     and says its layout
 --   table-ranges       and each track's samples
 --   table-starts       and where each sample starts in the bundle
@@ -9,9 +9,9 @@
 --   table-refused, table-no-room    a refused bundle and a table without room leave it as it was
 --   table-room         16,708 numbers are enough for every accepted bundle
 --   says-refused, says-done, never-short    what the answer of filling says; with so many numbers it is never that there is no room
---   table-short, table-accepted, table-means    a table that was filled: the bundle is not too long, is accepted, and its recording is spelled
+--   table-short, table-accepted, table-means    a table that was filled: the bundle is not too long, is accepted, and its recording is recordingIn
 --   any-range          in any table, a track's range is the track's samples in the layout that the table says
---   any-flag           in any table, a flag that is set changes nothing that the table says or spells
+--   any-flag           in any table, a flag that is set changes nothing that the table says or gives
 use Prim.Native.Nat.{ℕ, zero, suc, _+_, _-_, _*_, _≤_, _<_}
 use mathlib.Core.Path.{_≡_, refl, ap, sym, _∙_, subst}
 use mathlib.Core.Bool.{Bool, true, false}
@@ -33,11 +33,11 @@ use Rattle.bundles.proofs.Promises.{means}
 use Rattle.filling.specs.declared.Filled.{Filled}
 use Rattle.filling.specs.declared.Filled.the-variants.{Refused, NoRoom, Done}
 use Rattle.numbers.specs.declared.Refusal.{Refusal}
-use Rattle.tables.specs.Tables.{tableSize, tableMost, cell, sampleTotal, sampleRow, laidOut, spelled, rangeIn, numbersIn, sampleCell, startIn, flagIn, flagged}
+use Rattle.tables.specs.Tables.{tableSize, tableMost, cell, sampleTotal, sampleRow, layoutIn, recordingIn, rangeIn, numbersIn, sampleCell, startIn, flagIn, flagged}
 use Rattle.filling.specs.Filling.{tableOf, fillAnswer, fillTable, filling, tableAfter}
-use Rattle.filling.proofs.Spelling.{filled, filled-is, filled-layout, filled-spells, sample-cell, sample-total}
+use Rattle.filling.proofs.Recording.{filled, filled-is, filled-layout, filled-recording, sample-cell, sample-total}
 use Rattle.tables.proofs.Ranges.{range-samples}
-use Rattle.tables.proofs.Flags.{flagged-layout, flagged-spells}
+use Rattle.tables.proofs.Flags.{flagged-layout, flagged-recording}
 
 -- an accepted bundle, and room for its table
 module _ (b t : List ℕ) (r : Recording) (means-r : meaning b ≡ ok r) (done : filling b (length t) ≡ Done) where
@@ -59,15 +59,15 @@ module _ (b t : List ℕ) (r : Recording) (means-r : meaning b ≡ ok r) (done :
   unfolding tableAfter
   written = rw (good, le-leb (tableSize (entryCount b)) (length t) room)
 
-  pub table-spells : spelled b (tableAfter b t) ≡ r
-  table-spells = rw written (filled-spells b t (accepted b good) room ∙ means b means-r .1)
+  pub table-recording : recordingIn b (tableAfter b t) ≡ r
+  table-recording = rw written (filled-recording b t (accepted b good) room ∙ means b means-r .1)
 
-  spelled-layout : (s : List ℕ) → spelled b s .layout ≡ laidOut s
-  unfolding spelled
-  spelled-layout s = refl
+  recording-layout : (s : List ℕ) → recordingIn b s .layout ≡ layoutIn s
+  unfolding recordingIn
+  recording-layout s = refl
 
-  pub table-lays-out : laidOut (tableAfter b t) ≡ r .layout
-  table-lays-out = sym (spelled-layout (tableAfter b t)) ∙ ap (λ s. s .layout) table-spells
+  pub table-lays-out : layoutIn (tableAfter b t) ≡ r .layout
+  table-lays-out = sym (recording-layout (tableAfter b t)) ∙ ap (λ s. s .layout) table-recording
 
   pub table-ranges : (k : ℕ) → 0 < k → numbersIn (rangeIn (tableAfter b t) k) ≡ samplesIn (r .layout) k
   table-ranges k h = sym (range-samples (tableAfter b t) k h) ∙ ap (λ y. samplesIn y k) table-lays-out
@@ -169,13 +169,13 @@ unfolding filling
 never-short b room n h e = short-answer (bundleVerdict b) (tableSize (entryCount b)) room n (λ g. let f = accepted b g .samples .count .few in omega arith) e
 
 -- any table
-pub any-range : (t : List ℕ) (k : ℕ) → 0 < k → samplesIn (laidOut t) k ≡ numbersIn (rangeIn t k)
+pub any-range : (t : List ℕ) (k : ℕ) → 0 < k → samplesIn (layoutIn t) k ≡ numbersIn (rangeIn t k)
 any-range = range-samples
 
-pub any-flag : (b t : List ℕ) (n v : ℕ) → (laidOut (flagged t n v) ≡ laidOut t) × (spelled b (flagged t n v) ≡ spelled b t)
-any-flag b t n v = (flagged-layout t n v, flagged-spells b t n v)
+pub any-flag : (b t : List ℕ) (n v : ℕ) → (layoutIn (flagged t n v) ≡ layoutIn t) × (recordingIn b (flagged t n v) ≡ recordingIn b t)
+any-flag b t n v = (flagged-layout t n v, flagged-recording b t n v)
 
--- a table that was filled: the bundle is accepted, the table spells its recording
+-- a table that was filled: the bundle is accepted, the table gives its recording
 pub table-short : (b : List ℕ) (room : ℕ) → filling b room ≡ Done → length b ≤ bundleMost
 table-short b room done = accepted b (says-done b room done) .size
 
@@ -184,5 +184,5 @@ module _ (b t : List ℕ) (done : filling b (length t) ≡ Done) where
   unfolding meaning
   table-accepted = rw (says-done b (length t) done)
 
-  pub table-means : spelled b (tableAfter b t) ≡ recordingOf b
-  table-means = table-spells b t (recordingOf b) table-accepted done
+  pub table-means : recordingIn b (tableAfter b t) ≡ recordingOf b
+  table-means = table-recording b t (recordingOf b) table-accepted done

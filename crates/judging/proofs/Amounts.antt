@@ -1,7 +1,7 @@
 -- What the steps of the code give for a unit of a sample. Assumes nothing.
 --
 --   sample-is, sample-from             a sample by its track and its bytes
---   spelled-most                       the samples that a table spells with a bundle have at most so many bytes as the bundle
+--   contents-most                       the samples that a table gives with a bundle have at most so many bytes as the bundle
 --   extracting-refused, -named         an extractor by what it names
 --   extracting-fault, -good            its refusal number; what it delivers without one
 --   spans-all                          the output size of units
@@ -32,27 +32,27 @@ use Rattle.units.specs.declared.Extractor.{Extractor}
 use Rattle.samples.specs.Check.{check}
 use Rattle.samples.proofs.Laws.{unit-inside, extractor-step}
 use Rattle.bundles.specs.Recordings.{Recording, contentOf}
-use Rattle.tables.specs.Tables.{inside, contentIn, sampleTotal, laidOut, spelled}
+use Rattle.tables.specs.Tables.{inside, contentIn, sampleTotal, layoutIn, recordingIn}
 use Rattle.links.specs.Links.{sampleNamed, nameFault}
 use Rattle.links.proofs.Words.{nth-zero, nth-over}
 use Rattle.copies.specs.Copies.{copied, copyFault}
 use Rattle.copies.specs.Written.{refusal, taken, copyOf}
 use Rattle.copies.specs.declared.Copy.{Copy}
 use Rattle.copies.proofs.Answers.{fault-of}
-use Rattle.resolving.specs.Resolving.{sampleOf, Span, spanOf, spansOf, own, named, linked, nameFaultAt, copyFaultAt, extractFault, copiedAt, deliveredAt}
+use Rattle.resolution_rules.specs.Resolving.{sampleOf, Span, spanOf, spansOf, own, named, linked, nameFaultAt, copyFaultAt, extractFault, copiedAt, deliveredAt}
 use Rattle.judging.specs.Steps.{trackFor, extracting, amountAt}
-use Rattle.resolving.proofs.Delivered.{delivered-unit, delivered-extractor, unitJudge, unit-judge, unit-passes, outputSize, size-one}
-use Rattle.resolving.proofs.Good.{own-length, extract-rules}
-use Rattle.resolving.proofs.Exactly.{extractor-mem}
-use Rattle.resolving.proofs.Calls.{by-count}
-use Rattle.resolving.proofs.Sizes.{copied-most, copied-count}
+use Rattle.resolution_rules.proofs.Delivered.{delivered-unit, delivered-extractor, unitJudge, unit-judge, unit-passes, outputSize, size-one}
+use Rattle.resolution_rules.proofs.Good.{own-length, extract-rules}
+use Rattle.resolution_rules.proofs.Exactly.{extractor-mem}
+use Rattle.resolution_rules.proofs.Calls.{by-count}
+use Rattle.resolution_rules.proofs.Sizes.{copied-most, copied-count}
 
 module _ (b t : List ℕ) where
-  pub sample-is : (n : ℕ) → sample (trackFor (laidOut t) n) (contentOf (spelled b t) n) ≡ sampleOf (spelled b t) n
-  unfolding sampleOf spelled
+  pub sample-is : (n : ℕ) → sample (trackFor (layoutIn t) n) (contentOf (recordingIn b t) n) ≡ sampleOf (recordingIn b t) n
+  unfolding sampleOf recordingIn
   sample-is n = refl
 
-  pub sample-from : (n : ℕ) {k : Track} {s : List ℕ} → k ≡ trackFor (laidOut t) n → s ≡ contentOf (spelled b t) n → sample k s ≡ sampleOf (spelled b t) n
+  pub sample-from : (n : ℕ) {k : Track} {s : List ℕ} → k ≡ trackFor (layoutIn t) n → s ≡ contentOf (recordingIn b t) n → sample k s ≡ sampleOf (recordingIn b t) n
   sample-from n e f = rw (e, f) (sample-is n)
 
   inside-most : (p n : ℕ) → length (inside b p n) ≤ length b
@@ -70,9 +70,9 @@ module _ (b t : List ℕ) where
       none (inl z) = rw z (nth-zero xs [])
       none (inr l) = nth-over xs m [] (omega arith)
 
-  pub spelled-most : (m : ℕ) → length (contentOf (spelled b t) m) ≤ length b
-  unfolding spelled
-  spelled-most m = nth-most (map (contentIn b t) (upto (sampleTotal t))) m (length b) (λ s k.
+  pub contents-most : (m : ℕ) → length (contentOf (recordingIn b t) m) ≤ length b
+  unfolding recordingIn
+  contents-most m = nth-most (map (contentIn b t) (upto (sampleTotal t))) m (length b) (λ s k.
       let w = Memᴰ·of-map (contentIn b t) (upto (sampleTotal t)) k in
       rw (← w .2) (inside-most _ _))
 

@@ -13,9 +13,9 @@ use Rattle.words.specs.Refusals.{refused, ok}
 use Rattle.words.proofs.Refusals.{and-ok, by-verdict, ok-same, ok-refused}
 use Rattle.bundles.specs.Limits.{bundleMost}
 use Rattle.bundles.specs.Recordings.{Recording}
-use Rattle.tables.specs.Tables.{spelled}
-use Rattle.resolving.specs.Resolving.{delivered, judged}
-use Rattle.resolving.specs.Calls.{output}
+use Rattle.tables.specs.Tables.{recordingIn}
+use Rattle.resolution_rules.specs.Resolving.{delivered, judged}
+use Rattle.resolution_rules.specs.Calls.{output}
 use Rattle.judging.specs.Steps.{judgement, judgementIn}
 use Rattle.judging.specs.declared.Amount.{Amount}
 
@@ -34,7 +34,7 @@ module _ (r : Recording) (n : ℕ) where
       (w .0, sym (ap (λ (b : Amount). b .count) s), sym (ap (λ (b : Amount). b .size) s))
 
 module _ (b t : List ℕ) (n : ℕ) where
-  pub judgement-in : length b ≤ bundleMost → judgementIn b t n ≡ judgement (spelled b t) n
+  pub judgement-in : length b ≤ bundleMost → judgementIn b t n ≡ judgement (recordingIn b t) n
   unfolding judgementIn
   judgement-in h = rw (le-ltb bundleMost (length b) h)
 
@@ -42,8 +42,8 @@ module _ (b t : List ℕ) (n : ℕ) where
   unfolding judgementIn
   judgement-long h = rw (lt-ltb bundleMost (length b) h)
 
-  pub judged-refused : length b ≤ bundleMost → {m q : ℕ} → judgementIn b t n ≡ refused m q → judged (spelled b t) n ≡ refused m q
-  judged-refused h e = judgement-refused (spelled b t) n (sym (judgement-in h) ∙ e)
+  pub judged-refused : length b ≤ bundleMost → {m q : ℕ} → judgementIn b t n ≡ refused m q → judged (recordingIn b t) n ≡ refused m q
+  judged-refused h e = judgement-refused (recordingIn b t) n (sym (judgement-in h) ∙ e)
 
-  pub judged-good : length b ≤ bundleMost → (a : Amount) → judgementIn b t n ≡ ok a → (judged (spelled b t) n ≡ ok tt) × (a .count ≡ length (delivered (spelled b t) n)) × (a .size ≡ length (output (spelled b t) (delivered (spelled b t) n)))
-  judged-good h a e = judgement-good (spelled b t) n a (sym (judgement-in h) ∙ e)
+  pub judged-good : length b ≤ bundleMost → (a : Amount) → judgementIn b t n ≡ ok a → (judged (recordingIn b t) n ≡ ok tt) × (a .count ≡ length (delivered (recordingIn b t) n)) × (a .size ≡ length (output (recordingIn b t) (delivered (recordingIn b t) n)))
+  judged-good h a e = judgement-good (recordingIn b t) n a (sym (judgement-in h) ∙ e)

@@ -1,4 +1,4 @@
--- The code that judges a sample, in the words of the crate resolving.
+-- The code that judges a sample, in the words of the crate resolution_rules.
 --
---   Steps   the steps of the code, over the recording that a table spells
+--   Steps   the steps of the code, over the recording that a table gives
 pub mod Steps

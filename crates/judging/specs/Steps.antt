@@ -1,4 +1,4 @@
--- The steps of the code on a bundle and any table, as definitions over the recording that they spell.
+-- The steps of the code on a bundle and any table, as definitions over the recording that they give.
 --
 --   trackFor y n          what the track of sample n says of it, as the code has it
 --   extracting r n f      what an extractor with the fields f in sample n delivers: its refusal, 23 to 28, or its units counted
@@ -20,12 +20,12 @@ use Rattle.units.specs.declared.MaybeExtractor.{MaybeExtractor}
 use Rattle.units.specs.declared.MaybeExtractor.the-variants.{Extractor, Nothing}
 use Rattle.bundles.specs.Limits.{bundleMost}
 use Rattle.bundles.specs.Recordings.{Layout, Recording, trackAt}
-use Rattle.tables.specs.Tables.{spelled}
+use Rattle.tables.specs.Tables.{recordingIn}
 use Rattle.links.specs.Links.{sampleNamed, nameFault}
 use Rattle.copies.specs.Written.{refusal, copyOf}
 use Rattle.copies.specs.declared.Copy.{Copy}
-use Rattle.resolving.specs.Resolving.{sampleOf, delivered, judged}
-use Rattle.resolving.specs.Calls.{output}
+use Rattle.resolution_rules.specs.Resolving.{sampleOf, delivered, judged}
+use Rattle.resolution_rules.specs.Calls.{output}
 use Rattle.judging.specs.declared.Amount.{Amount}
 use Rattle.judging.specs.declared.Judged.{Judged}
 use Rattle.judging.specs.declared.Judged.the-variants.{Refused, Good}
@@ -54,7 +54,7 @@ unfoldable pub judgement : Recording → ℕ → Answer Amount
 judgement r n = judged r n andThen ok (record { count = length (delivered r n); size = length (output r (delivered r n)) })
 
 unfoldable pub judgementIn : List ℕ → List ℕ → ℕ → Answer Amount
-judgementIn b t n = (bundleTooLong if bundleMost <? length b) atPlace 0 andThen judgement (spelled b t) n
+judgementIn b t n = (bundleTooLong if bundleMost <? length b) atPlace 0 andThen judgement (recordingIn b t) n
 
 abbrev pub answerOf : Judged → Answer Amount
 answerOf (Refused f) = refused (f .number) (f .place .0)

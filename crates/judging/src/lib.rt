@@ -6,9 +6,9 @@ ghost use Rattle.words.specs.Refusals.{ok};
 ghost use Rattle.units.specs.Units.{sample};
 ghost use Rattle.samples.specs.Check.{check};
 ghost use Rattle.bundles.specs.Limits.{bundleMost};
-ghost use Rattle.tables.specs.Tables.{laidOut, spelled};
-ghost use Rattle.resolving.specs.Resolving.{sampleOf};
-ghost use Rattle.resolving.specs.Calls.{numberFault};
+ghost use Rattle.tables.specs.Tables.{layoutIn, recordingIn};
+ghost use Rattle.resolution_rules.specs.Resolving.{sampleOf};
+ghost use Rattle.resolution_rules.specs.Calls.{numberFault};
 ghost use Rattle.judging.specs.Steps.{trackFor, extracting, amountAt, judgement, judgementIn, answerOf};
 use copies::Copy;
 use links::Named;
@@ -49,7 +49,7 @@ pub fn number_fault(count: usize, n: usize) -> u8
 
 // What the track of a sample says of it.
 pub fn track_of(t: &[u64], n: SampleNumber) -> Track
-    ensures { λ r. ⌜ r ≡ trackFor (laidOut (now (t .entry))) (n .0) ⌝ }
+    ensures { λ r. ⌜ r ≡ trackFor (layoutIn (now (t .entry))) (n .0) ⌝ }
 {
     let k = tables::sample_track(t, n);
     let kind = tables::track_kind(t, k);
@@ -59,7 +59,7 @@ pub fn track_of(t: &[u64], n: SampleNumber) -> Track
 
 // What an extractor in sample n delivers: 23 to 28, or its units counted.
 fn extract(b: &[u8], t: &[u64], n: SampleNumber, f: Extractor) -> Copy
-    ensures { λ r. ⌜ r ≡ extracting (spelled (now (b .entry)) (now (t .entry))) (n .0) f ⌝ }
+    ensures { λ r. ⌜ r ≡ extracting (recordingIn (now (b .entry)) (now (t .entry))) (n .0) f ⌝ }
 {
     let named = links::name(t, n, f.track_ref_index, f.sample_offset);
     match named {
@@ -79,7 +79,7 @@ fn extract(b: &[u8], t: &[u64], n: SampleNumber, f: Extractor) -> Copy
 
 // What the unit at a place of sample n, which is x, delivers if it is no aggregator.
 pub fn amount_at(b: &[u8], t: &[u64], n: SampleNumber, k: Track, x: &[u8], at: ByteOffset) -> Copy
-    ensures { λ r. ⌜ r ≡ amountAt (spelled (now (b .entry)) (now (t .entry))) (n .0) (sample k (now (x .entry))) (at .0) ⌝ }
+    ensures { λ r. ⌜ r ≡ amountAt (recordingIn (now (b .entry)) (now (t .entry))) (n .0) (sample k (now (x .entry))) (at .0) ⌝ }
 {
     if units::type_at(k, x, at) != units::EXTRACTOR {
         let l = k.length_size;
@@ -102,8 +102,8 @@ pub fn amount_at(b: &[u8], t: &[u64], n: SampleNumber, k: Track, x: &[u8], at: B
 
 // How much sample n delivers, which is x and well formed; or 23 to 28 of its first extractor that is refused.
 fn measure(b: &[u8], t: &[u64], n: SampleNumber, k: Track, x: &[u8]) -> Judged
-    requires { ⌜ (sample k (now x) ≡ sampleOf (spelled (now b) (now t)) (n .0)) × (check (sample k (now x)) ≡ ok tt) × (length (now b) ≤ bundleMost) ⌝ }
-    ensures { λ r. ⌜ answerOf r ≡ judgement (spelled (now (b .entry)) (now (t .entry))) (n .0) ⌝ }
+    requires { ⌜ (sample k (now x) ≡ sampleOf (recordingIn (now b) (now t)) (n .0)) × (check (sample k (now x)) ≡ ok tt) × (length (now b) ≤ bundleMost) ⌝ }
+    ensures { λ r. ⌜ answerOf r ≡ judgement (recordingIn (now (b .entry)) (now (t .entry))) (n .0) ⌝ }
 {
     let l = k.length_size;
     let w = l.bytes();

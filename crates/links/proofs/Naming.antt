@@ -28,7 +28,7 @@ use Rattle.words.proofs.Lists.{lastThat-snoc}
 use Rattle.numbers.specs.declared.SampleNumber.{SampleNumber}
 use Rattle.bundles.specs.Recordings.{Layout, noReference, trackOf, timeOf, referencesFrom, samplesIn}
 use Rattle.words.proofs.Entries.{map-append}
-use Rattle.tables.specs.Tables.{atMost, cell, countsRow, samplesColumn, sampleTotal, trackTotal, laidOut, rangeIn}
+use Rattle.tables.specs.Tables.{atMost, cell, countsRow, samplesColumn, sampleTotal, trackTotal, layoutIn, rangeIn}
 use Rattle.words.proofs.Rows.{upto-length, upto-more, nth-upto, nth-past}
 use Rattle.tables.proofs.Ranges.{after-most, range-samples}
 use Rattle.links.specs.declared.Named.the-variants.{Refused, Sample}
@@ -50,10 +50,10 @@ module _ (t : List ℕ) (k : ℕ) where
       (λ q. rw q (by-bool (ltb (trackTotal t) k) (λ r. rw r (omega arith)) (λ r. rw r (omega arith))))
 
 module _ (t : List ℕ) (k : ℕ) (some : 0 < k) where
-  pub range-at : (j : ℕ) → 0 < j → j ≤ rangeIn t k .after - rangeIn t k .before → nth (samplesIn (laidOut t) k) j 0 ≡ rangeIn t k .before + j
+  pub range-at : (j : ℕ) → 0 < j → j ≤ rangeIn t k .after - rangeIn t k .before → nth (samplesIn (layoutIn t) k) j 0 ≡ rangeIn t k .before + j
   range-at j h l = rw (range-samples t k some) (nth-upto (λ i. rangeIn t k .before + i) (rangeIn t k .after - rangeIn t k .before) j 0 h l)
 
-  pub range-past : (j : ℕ) → rangeIn t k .after - rangeIn t k .before < j → nth (samplesIn (laidOut t) k) j 0 ≡ 0
+  pub range-past : (j : ℕ) → rangeIn t k .after - rangeIn t k .before < j → nth (samplesIn (layoutIn t) k) j 0 ≡ 0
   range-past j h = rw (range-samples t k some) (nth-past (λ i. rangeIn t k .before + i) (rangeIn t k .after - rangeIn t k .before) j 0 h)
 
 -- the last of the i samples after sample a that stands at or before a time
@@ -94,12 +94,12 @@ module _ (y : Layout) (time a : ℕ) where
         rw (e, searched-more (m - a), x, lt-leb (timeOf y (m + 1)) time h) f
 
 module _ (t : List ℕ) (n k : ℕ) (some : 0 < k) where
-  pub base-searched : base (laidOut t) n k ≡ searched (laidOut t) (timeOf (laidOut t) n) (rangeIn t k .before) (rangeIn t k .after - rangeIn t k .before)
+  pub base-searched : base (layoutIn t) n k ≡ searched (layoutIn t) (timeOf (layoutIn t) n) (rangeIn t k .before) (rangeIn t k .after - rangeIn t k .before)
   unfolding base searched
   base-searched = rw (range-samples t k some)
 
-  pub base-most : base (laidOut t) n k ≤ rangeIn t k .after - rangeIn t k .before
-  base-most = rw base-searched (searched-most (laidOut t) (timeOf (laidOut t) n) (rangeIn t k .before) (rangeIn t k .after - rangeIn t k .before))
+  pub base-most : base (layoutIn t) n k ≤ rangeIn t k .after - rangeIn t k .before
+  base-most = rw base-searched (searched-most (layoutIn t) (timeOf (layoutIn t) n) (rangeIn t k .before) (rangeIn t k .after - rangeIn t k .before))
 
 module _ (y : Layout) (n index : ℕ) where
   -- 23

@@ -1,7 +1,7 @@
 // Which sample an extractor names, by a table alone. Every public function takes any table and any numbers.
 ghost use mathlib.Core.Path.{_≡_};
 ghost use Prim.Native.Nat.{_≤_, _<_};
-ghost use Rattle.tables.specs.Tables.{laidOut};
+ghost use Rattle.tables.specs.Tables.{layoutIn};
 ghost use Rattle.links.specs.Links.{linkFault, base, stepped, sampleNamed};
 ghost use Rattle.links.specs.Named.{naming};
 use numbers::SampleNumber;
@@ -15,7 +15,7 @@ pub enum Named {
 
 // A track_ref_index 0 or past the last reference of the own sample's track.
 fn link_fault(t: &[u64], n: SampleNumber, index: u8) -> u8
-    ensures { λ r. ⌜ r ≡ linkFault (laidOut (now (t .entry))) (n .0) index ⌝ }
+    ensures { λ r. ⌜ r ≡ linkFault (layoutIn (now (t .entry))) (n .0) index ⌝ }
 {
     if index == 0 {
         return numbers::refusals::BAD_TRACK_REF_INDEX;
@@ -31,7 +31,7 @@ fn link_fault(t: &[u64], n: SampleNumber, index: u8) -> u8
 // The base: the last sample of a track at or before sample n, by its number within the track; 0 where there is none.
 fn base_in(t: &[u64], n: SampleNumber, track: TrackNumber) -> usize
     requires { ⌜ 0 < track .0 ⌝ }
-    ensures { λ r. ⌜ r ≡ base (laidOut (now (t .entry))) (n .0) (track .0) ⌝ }
+    ensures { λ r. ⌜ r ≡ base (layoutIn (now (t .entry))) (n .0) (track .0) ⌝ }
 {
     let own = tables::sample_time(t, n);
     let range = tables::sample_range(t, track);
@@ -63,7 +63,7 @@ fn stepped(b: usize, offset: u8) -> usize
 
 // The sample that an extractor names; 0 where there is none.
 fn sample_named(t: &[u64], n: SampleNumber, index: u8, offset: u8) -> SampleNumber
-    ensures { λ r. ⌜ r .0 ≡ sampleNamed (laidOut (now (t .entry))) (n .0) index offset ⌝ }
+    ensures { λ r. ⌜ r .0 ≡ sampleNamed (layoutIn (now (t .entry))) (n .0) index offset ⌝ }
 {
     let own = tables::sample_track(t, n);
     let track = tables::reference(t, own, index as usize);
@@ -87,7 +87,7 @@ fn sample_named(t: &[u64], n: SampleNumber, index: u8, offset: u8) -> SampleNumb
 
 // What an extractor in sample n names, by its track_ref_index and sample_offset.
 pub fn name(t: &[u64], n: SampleNumber, index: u8, offset: u8) -> Named
-    ensures { λ r. ⌜ r ≡ naming (laidOut (now (t .entry))) (n .0) index offset ⌝ }
+    ensures { λ r. ⌜ r ≡ naming (layoutIn (now (t .entry))) (n .0) index offset ⌝ }
 {
     let fault = link_fault(t, n, index);
     if fault != 0 {

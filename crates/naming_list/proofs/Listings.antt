@@ -35,18 +35,18 @@ use Rattle.samples.specs.Check.{check, wellFormed}
 use Rattle.bundles.specs.Limits.{bundleMost}
 use Rattle.bundles.specs.Recordings.{Recording, sampleCount, contentOf}
 use Rattle.bundles.specs.Bundles.{bundleVerdict, meaning}
-use Rattle.tables.specs.Tables.{sampleTotal, laidOut, spelled, tableMost, flagIn, flagged}
+use Rattle.tables.specs.Tables.{sampleTotal, layoutIn, recordingIn, tableMost, flagIn, flagged}
 use Rattle.tables.proofs.Layouts.{samples-count, samples-most}
-use Rattle.tables.proofs.Flags.{flagged-spells, flagged-layout, flagged-case, flag-set, flag-kept}
+use Rattle.tables.proofs.Flags.{flagged-recording, flagged-layout, flagged-case, flag-set, flag-kept}
 use Rattle.filling.specs.Filling.{filling, tableAfter}
 use Rattle.filling.specs.declared.Filled.the-variants.{Done}
 use Rattle.filling.proofs.Promises.{table-accepted, table-means}
-use Rattle.resolving.specs.Resolving.{sampleOf, own}
-use Rattle.resolving.specs.Calls.{numberFault}
-use Rattle.resolving.proofs.Sizes.{units-count}
-use Rattle.judging.proofs.Amounts.{spelled-most}
-use Rattle.naming.specs.Naming.{Namer, namer, namesSample, namersIn, namingList, listBytes, names, namesCall}
-use Rattle.naming.proofs.Listing.{list-size}
+use Rattle.resolution_rules.specs.Resolving.{sampleOf, own}
+use Rattle.resolution_rules.specs.Calls.{numberFault}
+use Rattle.resolution_rules.proofs.Sizes.{units-count}
+use Rattle.judging.proofs.Amounts.{contents-most}
+use Rattle.naming_list_rules.specs.Naming.{Namer, namer, namesSample, namersIn, namingList, listBytes, names, namesCall}
+use Rattle.naming_list_rules.proofs.Listing.{list-size}
 use Rattle.naming_list.proofs.Namers.{namers-not, list-none, list-append}
 
 module _ (r : Recording) (s : ℕ) where
@@ -116,21 +116,21 @@ module _ (r : Recording) (s : ℕ) where
 -- A loop over the samples that has come behind sample n: count entries in all, and the flag of each sample so far.
 module _ (b t₀ : List ℕ) (s : ℕ) where
   abbrev R : Recording
-  R = spelled b t₀
+  R = recordingIn b t₀
 
   pub record Counting (n count : ℕ) (t : List ℕ) : Type 0 where
-    pub spells : spelled b t ≡ spelled b t₀
-    pub lays : laidOut t ≡ laidOut t₀
+    pub recording : recordingIn b t ≡ recordingIn b t₀
+    pub lays : layoutIn t ≡ layoutIn t₀
     pub long : length t ≡ length t₀
-    pub inside : n ≤ sampleCount (laidOut t₀)
-    pub number : count ≡ length (sofar (spelled b t₀) s n)
-    pub flags : (m : ℕ) → 0 < m → m ≤ n → flagIn t m ≡ length (namersIn (spelled b t₀) s m)
+    pub inside : n ≤ sampleCount (layoutIn t₀)
+    pub number : count ≡ length (sofar (recordingIn b t₀) s n)
+    pub flags : (m : ℕ) → 0 < m → m ≤ n → flagIn t m ≡ length (namersIn (recordingIn b t₀) s m)
     pub few : count ≤ n * bundleMost
 
   pub counting-start : Counting 0 0 t₀
   counting-start =
       record {
-        spells = refl;
+        recording = refl;
         lays = refl;
         long = refl;
         inside = omega arith;
@@ -139,15 +139,15 @@ module _ (b t₀ : List ℕ) (s : ℕ) where
         few = omega arith;
       }
 
-  module _ (n count : ℕ) (t : List ℕ) (c : Counting n count t) (h : n < sampleCount (laidOut t₀)) (short : length b ≤ bundleMost) {f : ℕ} (e : f ≡ length (namersIn (spelled b t) s (n + 1))) where
+  module _ (n count : ℕ) (t : List ℕ) (c : Counting n count t) (h : n < sampleCount (layoutIn t₀)) (short : length b ≤ bundleMost) {f : ℕ} (e : f ≡ length (namersIn (recordingIn b t) s (n + 1))) where
     found : f ≡ length (namersIn R s (n + 1))
-    found = e ∙ ap (λ (r : Recording). length (namersIn r s (n + 1))) (c .spells)
+    found = e ∙ ap (λ (r : Recording). length (namersIn r s (n + 1))) (c .recording)
 
     -- the numbers are small
     pub counting-fits : (f ≤ bundleMost) × (count + f ≤ (n + 1) * bundleMost)
     counting-fits =
         let a = namers-few R s (n + 1) in
-        let m = spelled-most b t₀ (n + 1) in
+        let m = contents-most b t₀ (n + 1) in
         let g = found in
         let k = c .few in
         (omega arith, omega arith)
@@ -159,10 +159,10 @@ module _ (b t₀ : List ℕ) (s : ℕ) where
         let q = c .number in
         let w = sofar-count R s n in
         let limit = samples-most t₀ in
-        let z : sampleTotal t ≡ sampleCount (laidOut t₀) = sym (samples-count t) ∙ ap sampleCount (c .lays) in
+        let z : sampleTotal t ≡ sampleCount (layoutIn t₀) = sym (samples-count t) ∙ ap sampleCount (c .lays) in
         let u = c .long in
         record {
-          spells = flagged-spells b t (n + 1) f ∙ c .spells;
+          recording = flagged-recording b t (n + 1) f ∙ c .recording;
           lays = flagged-layout t (n + 1) f ∙ c .lays;
           long = flagged-case t (n + 1) f (λ x. length x ≡ length t₀) u (length-set t _ f ∙ u);
           inside = omega arith;
@@ -177,13 +177,13 @@ module _ (b t₀ : List ℕ) (s : ℕ) where
           few = a .1;
         }
 
-  pub counting-end : (n count : ℕ) (t : List ℕ) → Counting n count t → sampleCount (laidOut t₀) ≤ n →
-      (count ≡ length (namingList (spelled b t₀) s)) × (spelled b t ≡ spelled b t₀) × ((m : ℕ) → 0 < m → m ≤ sampleCount (laidOut t₀) → flagIn t m ≡ length (namersIn (spelled b t₀) s m))
-  unfolding spelled
+  pub counting-end : (n count : ℕ) (t : List ℕ) → Counting n count t → sampleCount (layoutIn t₀) ≤ n →
+      (count ≡ length (namingList (recordingIn b t₀) s)) × (recordingIn b t ≡ recordingIn b t₀) × ((m : ℕ) → 0 < m → m ≤ sampleCount (layoutIn t₀) → flagIn t m ≡ length (namersIn (recordingIn b t₀) s m))
+  unfolding recordingIn
   counting-end n count t c h =
       let i = c .inside in
-      let e : n ≡ sampleCount (laidOut t₀) = omega arith in
-      (c .number ∙ ap (λ (k : ℕ). length (sofar R s k)) e ∙ ap length (sofar-all R s), c .spells, λ m p q. c .flags m p (omega arith))
+      let e : n ≡ sampleCount (layoutIn t₀) = omega arith in
+      (c .number ∙ ap (λ (k : ℕ). length (sofar R s k)) e ∙ ap length (sofar-all R s), c .recording, λ m p q. c .flags m p (omega arith))
 
 -- A loop over the samples that has come behind sample n: the entries of the samples so far are written over the start of o, up to `at`.
 module _ (r : Recording) (s : ℕ) (o : List ℕ) where
@@ -254,11 +254,11 @@ module _ (r : Recording) (s : ℕ) (o : List ℕ) where
         c .is ∙ ap (λ (k : ℕ). writeAt o 0 (listBytes (sofar r s k))) e ∙ rw (sofar-all r s) (write-first o (listBytes (namingList r s)))
 
 -- the entries of a table's recording are few
-pub list-few : (b t : List ℕ) (s : ℕ) → length b ≤ bundleMost → length (namingList (spelled b t) s) ≤ 4096 * bundleMost
-unfolding spelled
+pub list-few : (b t : List ℕ) (s : ℕ) → length b ≤ bundleMost → length (namingList (recordingIn b t) s) ≤ 4096 * bundleMost
+unfolding recordingIn
 list-few b t s h =
-    let r = spelled b t in
-    let a = sofar-few r s bundleMost (λ k. let j = spelled-most b t k in omega arith) (sampleCount (laidOut t)) in
+    let r = recordingIn b t in
+    let a = sofar-few r s bundleMost (λ k. let j = contents-most b t k in omega arith) (sampleCount (layoutIn t)) in
     let m = samples-most t in
     let e = ap length (sofar-all r s) in
     omega arith
@@ -280,7 +280,7 @@ module _ (r : Recording) (s room : ℕ) where
 
 -- the call by a table that was filled
 module _ (b t : List ℕ) (done : filling b (length t) ≡ Done) where
-  pub call-filled : {u : List ℕ} → u ≡ tableAfter b t → (s room : ℕ) → within room (names (spelled b u) s) ≡ namesCall b s room
+  pub call-filled : {u : List ℕ} → u ≡ tableAfter b t → (s room : ℕ) → within room (names (recordingIn b u) s) ≡ namesCall b s room
   unfolding namesCall
   call-filled f s room = rw (f, table-means b t done, table-accepted b t done)
 

@@ -39,10 +39,10 @@ use Rattle.links.specs.Links.{sampleNamed, nameFault}
 use Rattle.copies.specs.Flat.{flatPlaces}
 use Rattle.copies.proofs.Flat.{flat-aggregator, flat-other, flat-end, flat-step, whole-stretch, flat-units, Walking, walking-start}
 use Rattle.copies.proofs.Rest.{walking-skip, walking-take}
-use Rattle.resolving.specs.Resolving.{sampleOf, own, named, nameFaultAt}
-use Rattle.resolving.proofs.Delivered.{aggregator-only}
-use Rattle.naming.specs.Naming.{Namer, namer, namesSample, namersIn, entryBytes, listBytes}
-use Rattle.naming.proofs.Listing.{list-size}
+use Rattle.resolution_rules.specs.Resolving.{sampleOf, own, named, nameFaultAt}
+use Rattle.resolution_rules.proofs.Delivered.{aggregator-only}
+use Rattle.naming_list_rules.specs.Naming.{Namer, namer, namesSample, namersIn, entryBytes, listBytes}
+use Rattle.naming_list_rules.proofs.Listing.{list-size}
 use Rattle.naming_list.specs.Steps.{namesWith, namesAt, namersFrom, withEntry}
 
 -- an extractor by what it names

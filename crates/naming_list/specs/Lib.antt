@@ -1,4 +1,4 @@
--- The code that lists the extractors that name a sample, in the words of the crate naming.
+-- The code that lists the extractors that name a sample, in the words of the crate naming_list_rules.
 --
 --   Steps   the steps of the code, and what its answer says
 pub mod Steps

@@ -1,4 +1,4 @@
--- The steps of the code on any table, in the words of the crate naming.
+-- The steps of the code on any table, in the words of the crate naming_list_rules.
 --
 --   namesWith y s n f    whether an extractor with the fields f in sample n names sample s
 --   namesAt y s n x p    whether the unit at p of sample n, which is x, is an extractor that names sample s
@@ -23,7 +23,7 @@ use Rattle.bundles.specs.Limits.{bundleMost, sampleMost}
 use Rattle.bundles.specs.Recordings.{Layout}
 use Rattle.links.specs.Links.{sampleNamed, nameFault}
 use Rattle.copies.specs.Flat.{flatPlaces}
-use Rattle.naming.specs.Naming.{sampleSize, placeSize, entrySize}
+use Rattle.naming_list_rules.specs.Naming.{sampleSize, placeSize, entrySize}
 use Rattle.naming_list.specs.declared.Listed.{Listed}
 use Rattle.naming_list.specs.declared.Listed.the-variants.{Refused, Count}
 

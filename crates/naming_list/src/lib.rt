@@ -10,8 +10,8 @@ ghost use Rattle.units.specs.Units.{sample};
 ghost use Rattle.samples.specs.Check.{check};
 ghost use Rattle.bundles.specs.Limits.{bundleMost};
 ghost use Rattle.bundles.specs.Recordings.{sampleCount};
-ghost use Rattle.tables.specs.Tables.{tableMost, laidOut, spelled, flagIn};
-ghost use Rattle.naming.specs.Naming.{namer, namersIn, namingList, entrySize, listBytes, names, namesCall};
+ghost use Rattle.tables.specs.Tables.{tableMost, layoutIn, recordingIn, flagIn};
+ghost use Rattle.naming_list_rules.specs.Naming.{namer, namersIn, namingList, entrySize, listBytes, names, namesCall};
 ghost use Rattle.naming_list.specs.Steps.{namesWith, namesAt, namersFrom, listMost, withEntry, answerOf};
 use filling::Filled;
 use links::Named;
@@ -40,7 +40,7 @@ pub enum Listed {
 
 // Whether an extractor in sample n names sample s.
 fn names_with(t: &[u64], n: SampleNumber, f: Extractor, s: SampleNumber) -> bool
-    ensures { λ r. ⌜ r ≡ namesWith (laidOut (now (t .entry))) (s .0) (n .0) f ⌝ }
+    ensures { λ r. ⌜ r ≡ namesWith (layoutIn (now (t .entry))) (s .0) (n .0) f ⌝ }
 {
     let named = links::name(t, n, f.track_ref_index, f.sample_offset);
     match named {
@@ -51,7 +51,7 @@ fn names_with(t: &[u64], n: SampleNumber, f: Extractor, s: SampleNumber) -> bool
 
 // Whether the unit at a place of sample n, which is x, is an extractor that names sample s.
 fn names_at(t: &[u64], n: SampleNumber, k: Track, x: &[u8], at: ByteOffset, s: SampleNumber) -> bool
-    ensures { λ r. ⌜ r ≡ namesAt (laidOut (now (t .entry))) (s .0) (n .0) (sample k (now (x .entry))) (at .0) ⌝ }
+    ensures { λ r. ⌜ r ≡ namesAt (layoutIn (now (t .entry))) (s .0) (n .0) (sample k (now (x .entry))) (at .0) ⌝ }
 {
     if units::type_at(k, x, at) != units::EXTRACTOR {
         return false;
@@ -84,8 +84,8 @@ fn put_namer(
     s: SampleNumber,
 ) -> usize
     requires { ⌜ at ≤ listMost * 2 ⌝ }
-    ensures { λ r. ⌜ (r ≡ pick (namesAt (laidOut (now (t .entry))) (s .0) (n .0) (sample k (now (x .entry))) (p .0)) 1 0)
-        × (now (out .exit) ≡ pick (namesAt (laidOut (now (t .entry))) (s .0) (n .0) (sample k (now (x .entry))) (p .0)) (withEntry (now (out .entry)) at (n .0) (p .0)) (now (out .entry))) ⌝ }
+    ensures { λ r. ⌜ (r ≡ pick (namesAt (layoutIn (now (t .entry))) (s .0) (n .0) (sample k (now (x .entry))) (p .0)) 1 0)
+        × (now (out .exit) ≡ pick (namesAt (layoutIn (now (t .entry))) (s .0) (n .0) (sample k (now (x .entry))) (p .0)) (withEntry (now (out .entry)) at (n .0) (p .0)) (now (out .entry))) ⌝ }
 {
     if names_at(t, n, k, x, p, s) {
         put_entry(out, at, n, p);
@@ -106,9 +106,9 @@ fn put_namers(
     s: SampleNumber,
 ) -> usize
     requires { ⌜ (check (sample k (now x)) ≡ ok tt) × (length (now x) ≤ bundleMost) × (at ≤ listMost) ⌝ }
-    ensures { λ r. ⌜ (r ≡ length (namersFrom (laidOut (now (t .entry))) (s .0) (n .0) (sample k (now (x .entry))) 0))
+    ensures { λ r. ⌜ (r ≡ length (namersFrom (layoutIn (now (t .entry))) (s .0) (n .0) (sample k (now (x .entry))) 0))
         × (at + r * entrySize ≤ length (now (out .entry))
-        → now (out .exit) ≡ writeAt (now (out .entry)) at (listBytes (map (namer (n .0)) (namersFrom (laidOut (now (t .entry))) (s .0) (n .0) (sample k (now (x .entry))) 0)))) ⌝ }
+        → now (out .exit) ≡ writeAt (now (out .entry)) at (listBytes (map (namer (n .0)) (namersFrom (layoutIn (now (t .entry))) (s .0) (n .0) (sample k (now (x .entry))) 0)))) ⌝ }
 {
     let l = k.length_size;
     let w = l.bytes();
@@ -129,7 +129,7 @@ fn put_namers(
 // How many extractors of sample n name sample s; none where sample n is not well formed.
 fn count_in(b: &[u8], t: &[u64], n: SampleNumber, s: SampleNumber) -> usize
     requires { ⌜ length (now b) ≤ bundleMost ⌝ }
-    ensures { λ r. ⌜ r ≡ length (namersIn (spelled (now (b .entry)) (now (t .entry))) (s .0) (n .0)) ⌝ }
+    ensures { λ r. ⌜ r ≡ length (namersIn (recordingIn (now (b .entry)) (now (t .entry))) (s .0) (n .0)) ⌝ }
 {
     let k = judging::track_of(t, n);
     let x = tables::sample_bytes(b, t, n);
@@ -146,9 +146,9 @@ fn count_in(b: &[u8], t: &[u64], n: SampleNumber, s: SampleNumber) -> usize
 // How many extractors name sample s. The flag of each sample tells how many of them stand in it.
 fn count_all(b: &[u8], t: &mut [u64], s: SampleNumber) -> usize
     requires { ⌜ (length (now b) ≤ bundleMost) × (tableMost ≤ length (now t)) ⌝ }
-    ensures { λ r. ⌜ (r ≡ length (namingList (spelled (now (b .entry)) (now (t .entry))) (s .0)))
-        × (spelled (now (b .entry)) (now (t .exit)) ≡ spelled (now (b .entry)) (now (t .entry)))
-        × ((m : ℕ) → 0 < m → m ≤ sampleCount (laidOut (now (t .entry))) → flagIn (now (t .exit)) m ≡ length (namersIn (spelled (now (b .entry)) (now (t .entry))) (s .0) m)) ⌝ }
+    ensures { λ r. ⌜ (r ≡ length (namingList (recordingIn (now (b .entry)) (now (t .entry))) (s .0)))
+        × (recordingIn (now (b .entry)) (now (t .exit)) ≡ recordingIn (now (b .entry)) (now (t .entry)))
+        × ((m : ℕ) → 0 < m → m ≤ sampleCount (layoutIn (now (t .entry))) → flagIn (now (t .exit)) m ≡ length (namersIn (recordingIn (now (b .entry)) (now (t .entry))) (s .0) m)) ⌝ }
 {
     let total = tables::sample_count(t);
     let mut count: usize = 0;
@@ -165,9 +165,9 @@ fn count_all(b: &[u8], t: &mut [u64], s: SampleNumber) -> usize
 // The naming list of sample s over the start of a buffer that has room, by a table with its flags set.
 fn put_list(out: &mut [u8], b: &[u8], t: &[u64], s: SampleNumber)
     requires { ⌜ (length (now b) ≤ bundleMost)
-        × (length (listBytes (namingList (spelled (now b) (now t)) (s .0))) ≤ length (now out))
-        × ((m : ℕ) → 0 < m → m ≤ sampleCount (laidOut (now t)) → flagIn (now t) m ≡ length (namersIn (spelled (now b) (now t)) (s .0) m)) ⌝ }
-    ensures { λ _. ⌜ now (out .exit) ≡ overwrite (now (out .entry)) (listBytes (namingList (spelled (now (b .entry)) (now (t .entry))) (s .0))) ⌝ }
+        × (length (listBytes (namingList (recordingIn (now b) (now t)) (s .0))) ≤ length (now out))
+        × ((m : ℕ) → 0 < m → m ≤ sampleCount (layoutIn (now t)) → flagIn (now t) m ≡ length (namersIn (recordingIn (now b) (now t)) (s .0) m)) ⌝ }
+    ensures { λ _. ⌜ now (out .exit) ≡ overwrite (now (out .entry)) (listBytes (namingList (recordingIn (now (b .entry)) (now (t .entry))) (s .0))) ⌝ }
 {
     let total = tables::sample_count(t);
     let mut at: usize = 0;
@@ -197,7 +197,7 @@ fn refused(number: u8) -> Listed
 fn list_sample(b: &[u8], t: &mut [u64], s: SampleNumber, out: &mut [u8]) -> Listed
     requires { ⌜ (length (now b) ≤ bundleMost) × (tableMost ≤ length (now t)) ⌝ }
     ensures { λ r. ⌜ Wrote (now (out .entry)) (now (out .exit)) (answerOf r)
-        (within (length (now (out .entry))) (names (spelled (now (b .entry)) (now (t .entry))) (s .0))) ⌝ }
+        (within (length (now (out .entry))) (names (recordingIn (now (b .entry)) (now (t .entry))) (s .0))) ⌝ }
 {
     let fault = judging::number_fault(tables::sample_count(t), s.0);
     if fault != 0 {

@@ -70,8 +70,11 @@ pub const NO_SUCH_NUMBER: u8 = 30;
 
 pub const FIELDS_FIT_NO_RECORD: u8 = 31;
 
+// How many there are.
+pub const COUNT: usize = 31;
+
 // All of them, in order.
-pub fn table() -> [u8; 31]
+pub fn table() -> [u8; COUNT]
     ensures { λ r. ⌜ r ≡ refusalNumbers ⌝ }
 {
     [

@@ -38,17 +38,17 @@ use Rattle.bundles.specs.Recordings.{Recording, sampleCount, contentOf, replace
 use Rattle.bundles.specs.Bundles.{bundleVerdict, meaning, contentAt}
 use Rattle.bundles.proofs.Refusals.{Within}
 use Rattle.bundles.proofs.Promises as bundles
-use Rattle.resolving.specs.Resolving.{Span, own, delivered, judged}
-use Rattle.resolving.specs.Calls.{resolveCall, unitCall, placeCall}
-use Rattle.resolving.specs.Rules.{Good, Delivers}
-use Rattle.resolving.proofs.Promises as resolving
-use Rattle.naming.specs.Naming.{Namer, namer, namingList, sampleSize, placeSize, entrySize, listBytes, namesCall}
-use Rattle.naming.specs.Rules.{Names, Before, timesListed, Unlisted, SameAnswer}
-use Rattle.naming.proofs.Promises as naming
+use Rattle.resolution_rules.specs.Resolving.{Span, own, delivered, judged}
+use Rattle.resolution_rules.specs.Calls.{resolveCall, unitCall, placeCall}
+use Rattle.resolution_rules.specs.Rules.{Good, Delivers}
+use Rattle.resolution_rules.proofs.Promises as resolving
+use Rattle.naming_list_rules.specs.Naming.{Namer, namer, namingList, sampleSize, placeSize, entrySize, listBytes, namesCall}
+use Rattle.naming_list_rules.specs.Rules.{Names, Before, timesListed, Unlisted, SameAnswer}
+use Rattle.naming_list_rules.proofs.Promises as naming
 use Rattle.tally.specs.declared.Outcome.the-variants.{Passed, Empty}
-use Rattle.auditing.specs.Auditing.{lineSize, lines, tally, auditCall, tallyCall}
-use Rattle.auditing.specs.Rules.{lineAt, said, LineEach, Counts}
-use Rattle.auditing.proofs.Promises as auditing
+use Rattle.audit_rules.specs.Auditing.{lineSize, lines, tally, auditCall, tallyCall}
+use Rattle.audit_rules.specs.Rules.{lineAt, said, LineEach, Counts}
+use Rattle.audit_rules.proofs.Promises as auditing
 use Rattle.promises.specs.Refused.{InSample}
 use Rattle.promises.specs.Refused as refusals
 
@@ -89,11 +89,11 @@ unit-refused = refusals.unit-refused
 pub place-refused : (b : List ℕ) (n k m p : ℕ) → placeCall b n k ≡ refused m p → Within b m p ⊎ (InSample b n m p ⊎ ((m ≡ 30) × (p ≡ 0)))
 place-refused = refusals.place-refused
 
--- the naming list: 1 to 13 of the bundle, or 29 or 30 at 0 (crates/naming/proofs/Promises)
+-- the naming list: 1 to 13 of the bundle, or 29 or 30 at 0 (crates/naming_list_rules/proofs/Promises)
 pub names-refused : (b : List ℕ) (s room m p : ℕ) → namesCall b s room ≡ refused m p → Within b m p ⊎ (((m ≡ 29) ⊎ (m ≡ 30)) × (p ≡ 0))
 names-refused = naming.call-refused-with
 
--- the audit: 1 to 13 of the bundle, or 29 at 0, for the lines and the tally alike (crates/auditing/proofs/Promises)
+-- the audit: 1 to 13 of the bundle, or 29 at 0, for the lines and the tally alike (crates/audit_rules/proofs/Promises)
 pub audit-refused : (b : List ℕ) (room m p : ℕ) → auditCall b room ≡ refused m p → Within b m p ⊎ ((m ≡ 29) × (p ≡ 0))
 audit-refused = auditing.call-refused-with
 
@@ -105,16 +105,16 @@ pub refusal-leaves : {out out₁ : List ℕ} {a : Answer ℕ} {is : Answer (List
 refusal-leaves = buffers.refused-leaves
 
 -- Demand 2.
--- What the layouts are stands in crates/{sets,records,units,samples,links,copies,resolving}/specs; the marked cases are in specs/Table. In plain facts:
+-- What the layouts are stands in crates/{sets,records,units,samples,links,copies,resolution_rules}/specs; the marked cases are in specs/Table. In plain facts:
 -- a sample is well formed exactly if every unit's rules hold (crates/samples/proofs/Laws)
 pub well-formed-exactly : (x : Sample) → (check x ≡ ok tt) ↔ Rules x
 well-formed-exactly x = (samples.rules x, samples.rules-check x)
 
--- it is good exactly if, besides, each of its extractors follows the rules (crates/resolving/proofs/Promises)
+-- it is good exactly if, besides, each of its extractors follows the rules (crates/resolution_rules/proofs/Promises)
 pub good-exactly : (r : Recording) (n : ℕ) → (judged r n ≡ ok tt) ↔ Good r n
 good-exactly = resolving.good-exactly
 
--- and then it delivers what the rules say, and nothing else (crates/resolving/proofs/Promises)
+-- and then it delivers what the rules say, and nothing else (crates/resolution_rules/proofs/Promises)
 pub delivers-exactly : (r : Recording) (n : ℕ) → judged r n ≡ ok tt → Delivers r n (units (own r n)) (delivered r n) × ((us : List Span) → Delivers r n (units (own r n)) us → us ≡ delivered r n)
 delivers-exactly = resolving.delivers-exactly
 
@@ -130,7 +130,7 @@ reads-back = records.reads-back
 pub misfits-exactly : MisfitsExactly
 misfits-exactly = records.misfits-exactly
 
--- the audit of a bundle b that is accepted and means r, with room for the lines (crates/auditing/proofs/Promises)
+-- the audit of a bundle b that is accepted and means r, with room for the lines (crates/audit_rules/proofs/Promises)
 module _ (b : List ℕ) (r : Recording) (accepted : meaning b ≡ ok r) (room : ℕ) (fits : lineSize * sampleCount (r .layout) ≤ room) where
   -- every sample, after a blank or bad one too, gets exactly one line, in order
   pub one-line-each : (auditCall b room ≡ ok (lines r)) × LineEach r (lines r)
@@ -145,11 +145,11 @@ module _ (b : List ℕ) (r : Recording) (accepted : meaning b ≡ ok r) (room : 
     pub passed-exactly : (said (lineAt (lines r) n) (length (contentOf r n)) ≡ Passed) ↔ ((0 < length (contentOf r n)) × (judged r n ≡ ok tt))
     passed-exactly = auditing.line-passed-exactly b r accepted room fits n some there
 
--- the tally counts the samples, and adds to the sample count (crates/auditing/proofs/Promises)
+-- the tally counts the samples, and adds to the sample count (crates/audit_rules/proofs/Promises)
 pub tally-counts : (r : Recording) → Counts r (tally r)
 tally-counts = auditing.tally-counts
 
--- Demand 3, of sample s of a bundle b that is accepted and means r. All in crates/naming/proofs/Promises.
+-- Demand 3, of sample s of a bundle b that is accepted and means r. All in crates/naming_list_rules/proofs/Promises.
 module _ (b : List ℕ) (r : Recording) (accepted : meaning b ≡ ok r) (s : ℕ) (some : 0 < s) (there : s ≤ sampleCount (r .layout)) where
   -- with room the naming call answers with the list, 6 bytes an extractor
   pub list-answered : (room : ℕ) → length (namingList r s) * entrySize ≤ room → namesCall b s room ≡ ok (listBytes (namingList r s))

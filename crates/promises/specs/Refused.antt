@@ -15,11 +15,11 @@ use Rattle.bundles.specs.Recordings.{Recording}
 use Rattle.bundles.specs.Bundles.{meaning, contentAt}
 use Rattle.bundles.proofs.Promises.{refusals-within}
 use Rattle.bundles.proofs.Refusals.{Within}
-use Rattle.resolving.specs.Resolving.{Span}
-use Rattle.resolving.specs.Calls.{placedBy, resolveCall, unitCall, placeCall}
-use Rattle.resolving.specs.Rules.{JudgedRefusal, UnitRefuses, CallRefuses, UnitCallRefuses}
-use Rattle.resolving.proofs.Calls.{call-refused-because, unit-call-because, refused-with}
-use Rattle.resolving.proofs.Good.{judged-refused}
+use Rattle.resolution_rules.specs.Resolving.{Span}
+use Rattle.resolution_rules.specs.Calls.{placedBy, resolveCall, unitCall, placeCall}
+use Rattle.resolution_rules.specs.Rules.{JudgedRefusal, UnitRefuses, CallRefuses, UnitCallRefuses}
+use Rattle.resolution_rules.proofs.Calls.{call-refused-because, unit-call-because, refused-with}
+use Rattle.resolution_rules.proofs.Good.{judged-refused}
 
 pub record InSample (b : List ℕ) (n m p : ℕ) : Type 0 where
   pub recording : Recording

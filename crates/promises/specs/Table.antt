@@ -22,10 +22,10 @@ use Rattle.bundles.specs.Samples.{orderFault, entryFault, samplesVerdict, sampl
 use Rattle.bundles.specs.Bundles.{endFault, bytesVerdict, bundleVerdict, layoutOf, recordingOf, meaning}
 use Rattle.links.specs.Links.{linkFault, linkedTrack, base, sampleNamed, nameFault}
 use Rattle.copies.specs.Copies.{among, copyEnd, copied, borderFault, copyFault}
-use Rattle.resolving.specs.Resolving.{sampleOf, named, nameFaultAt, copyFaultAt, extractFault, copiedAt, deliveredAt, delivered, judged}
-use Rattle.resolving.specs.Calls.{written, output, numberFault, resolve, resolveCall}
-use Rattle.auditing.specs.Auditing.{lineBytes, lineOf, lines, auditCall}
-use Rattle.naming.specs.Naming.{namersIn, namingList, listBytes, names, namesCall}
+use Rattle.resolution_rules.specs.Resolving.{sampleOf, named, nameFaultAt, copyFaultAt, extractFault, copiedAt, deliveredAt, delivered, judged}
+use Rattle.resolution_rules.specs.Calls.{written, output, numberFault, resolve, resolveCall}
+use Rattle.audit_rules.specs.Auditing.{lineBytes, lineOf, lines, auditCall}
+use Rattle.naming_list_rules.specs.Naming.{namersIn, namingList, listBytes, names, namesCall}
 
 -- an answer, without bytes where there are none to give, and what it should be
 record Row : Type 0 where
@@ -132,16 +132,16 @@ table =
     ∷ fails (checkAlone 0 2 (0x00 ∷ [])) 14 0
     ∷ []
 
--- B0 as document 01 spells it
+-- B0 as document 01 writes it
 bench : List ℕ
 bench =
     0x02 ∷ 0x00 ∷ 0x00 ∷ 0x07 ∷ 0x01 ∷ 0x42 ∷ 0x00 ∷ 0x1E ∷ 0xFC ∷ 0xE0 ∷ 0x00 ∷ 0x01 ∷ 0x00 ∷ 0x07 ∷ 0x01 ∷ 0x53 ∷ 0x00 ∷ 0x1E ∷ 0xFC ∷ 0x00 ∷ 0x00 ∷ 0x01 ∷ 0x02 ∷ 0x01 ∷ 0x00 ∷ 0x02
     ∷ 0x01 ∷ 0x00 ∷ 0x00 ∷ 0x00 ∷ 0x00 ∷ 0x00 ∷ 0x00 ∷ 0x00 ∷ 0x00 ∷ 0x00 ∷ 0x00 ∷ 0x00 ∷ 0x03 ∷ 0x02 ∷ 0x00 ∷ 0x00 ∷ 0x00 ∷ 0x00 ∷ 0x00 ∷ 0x00 ∷ 0x00 ∷ 0x00 ∷ 0x00 ∷ 0x00 ∷ 0x00 ∷ 0x09
     ∷ 0x00 ∷ 0x00 ∷ 0x00 ∷ 0x0C ∷ 0x02 ∷ 0x65 ∷ 0x88 ∷ 0x08 ∷ 0x7F ∷ 0x80 ∷ 0x00 ∷ 0x03 ∷ 0x01 ∷ 0x00 ∷ 0x00 ∷ 0x00 ∷ []
 
-bench-spelled : bundle slice (extractor 1 0 0 0) ≡ bench
+bench-bytes : bundle slice (extractor 1 0 0 0) ≡ bench
 unfolding bundle slice extractor bench bytes
-bench-spelled = refl
+bench-bytes = refl
 
 marked : map (λ row. row .answer) table ≡ map (λ row. row .expected) table
 unfolding table gives passes refuses fails recordVerdict bundle slice extractor including covering resolved second first firstOf keep some nth lastThat each upto sum entries skip big bytes cuts setFault byteFault trailerFault headFault sequencesEnd picturesEnd recordFault readAs readRecord size type unitFault placesFrom topUnits border topBetween coverFault includedFault withIncluded units extractors contentVerdict check countFault referencesFrom samplesIn sizeAt trackFault tracksVerdict tracks referencesAt noSuchTrack referenceFault referencesVerdict references samplesAt orderFault entryFault samplesVerdict sampleEntries lengths bytesAt endFault bytesVerdict bundleVerdict layoutOf recordingOf meaning linkFault linkedTrack base sampleNamed nameFault among copyEnd copied borderFault copyFault sampleOf named nameFaultAt copyFaultAt extractFault copiedAt deliveredAt delivered judged written output numberFault resolve resolveCall namersIn namingList listBytes names namesCall lineBytes lineOf lines auditCall

@@ -9,7 +9,7 @@ use mathlib.Core.Path.{_≡_, refl, ap, _∙_}
 use mathlib.Core.List.{List}
 use Rattle.words.specs.Refusals.{Answer, refused, ok, numberOf, placeOf, countOf}
 use Rattle.words.specs.Buffers.{counted, Wrote}
-use Rattle.resolving.specs.Calls.{BundlePart}
+use Rattle.resolution_rules.specs.Calls.{BundlePart}
 use Rattle.tally.specs.declared.Tally.{Tally}
 use Rattle.puddockle.specs.Returns.{Returned, ReturnedOutput, ReturnedPart, startOf, sizeOf, ReturnedTally, passedOf, emptyOf, refusedOf}
 

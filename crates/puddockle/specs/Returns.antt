@@ -10,8 +10,8 @@ use Prim.Native.Nat.{ℕ}
 use mathlib.Core.Path.{_≡_}
 use mathlib.Core.List.{List}
 use Rattle.words.specs.Refusals.{Answer, refused, ok, numberOf, placeOf, countOf}
-use Rattle.words.specs.Buffers.{counted, left}
-use Rattle.resolving.specs.Calls.{BundlePart}
+use Rattle.words.specs.Buffers.{counted, leaves}
+use Rattle.resolution_rules.specs.Calls.{BundlePart}
 use Rattle.tally.specs.declared.Tally.{Tally}
 
 pub record Returned {A : Type 0} (n p : ℕ) (a : Answer A) : Type 0 where
@@ -21,7 +21,7 @@ pub record Returned {A : Type 0} (n p : ℕ) (a : Answer A) : Type 0 where
 pub record ReturnedOutput (n p c : ℕ) (o o' : List ℕ) (a : Answer (List ℕ)) : Type 0 where
   pub returned : Returned n p a
   pub count : c ≡ countOf (counted a)
-  pub buffer : o' ≡ left o a
+  pub buffer : o' ≡ leaves o a
 
 abbrev pub startOf : Answer BundlePart → ℕ
 startOf (refused n p) = 0

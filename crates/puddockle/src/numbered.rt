@@ -1,7 +1,7 @@
 // One sample of a bundle, by its number.
 ghost use lib.ListN.{length};
-ghost use Rattle.resolving.specs.Calls.{resolveCall, placeCall};
-ghost use Rattle.naming.specs.Naming.{namesCall};
+ghost use Rattle.resolution_rules.specs.Calls.{resolveCall, placeCall};
+ghost use Rattle.naming_list_rules.specs.Naming.{namesCall};
 ghost use Rattle.puddockle.specs.Returns.{ReturnedOutput, ReturnedPart};
 use crate::refusal;
 use naming_list::Listed;

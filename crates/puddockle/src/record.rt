@@ -1,7 +1,7 @@
 // Decoder configuration records, as numbers.
 ghost use mathlib.Core.Path.{_≡_};
 ghost use lib.ListN.{length};
-ghost use Rattle.words.specs.Buffers.{left};
+ghost use Rattle.words.specs.Buffers.{leaves};
 ghost use Rattle.record_numbers.specs.Numbers.{readNumbers, writeNumbers};
 ghost use Rattle.puddockle.specs.Returns.{Returned, ReturnedOutput};
 use crate::refusal;
@@ -16,7 +16,7 @@ pub extern "C" fn puddockle_read_record(
     place: &mut u64,
 ) -> u32
     ensures { λ r. ⌜ Returned r (now (place .exit)) (readNumbers kind (now («record» .entry)) (length (now (fields .entry))))
-        × (now (fields .exit) ≡ left (now (fields .entry)) (readNumbers kind (now («record» .entry)) (length (now (fields .entry))))) ⌝ }
+        × (now (fields .exit) ≡ leaves (now (fields .entry)) (readNumbers kind (now («record» .entry)) (length (now (fields .entry))))) ⌝ }
 {
     *place = 0;
     let numbered = record_numbers::read(kind, record, fields);

@@ -1,6 +1,6 @@
 // The audit of a bundle.
 ghost use lib.ListN.{length};
-ghost use Rattle.auditing.specs.Auditing.{auditCall, tallyCall};
+ghost use Rattle.audit_rules.specs.Auditing.{auditCall, tallyCall};
 ghost use Rattle.puddockle.specs.Returns.{ReturnedOutput, ReturnedTally};
 use crate::refusal;
 use audit::Audited;

@@ -24,19 +24,19 @@ use Rattle.bundles.specs.Samples.{lengths}
 use Rattle.bundles.specs.Bundles.{meaning, recordingOf, contentAt}
 use Rattle.bundles.proofs.Promises.{sum-exact}
 use Rattle.words.proofs.Rows.{take-sum-le}
-use Rattle.tables.specs.Tables.{laidOut, spelled, startIn}
+use Rattle.tables.specs.Tables.{layoutIn, recordingIn, startIn}
 use Rattle.filling.specs.Filling.{filling, tableAfter}
 use Rattle.filling.specs.declared.Filled.the-variants.{Done}
 use Rattle.filling.proofs.Promises.{table-accepted, table-means, table-starts, table-lays-out}
-use Rattle.resolving.specs.Resolving.{Span, delivered, judged}
-use Rattle.resolving.specs.Calls.{output, noSpan, numberFault, resolve, unitOf, placedBy, resolveCall, unitCall, placeCall, unitPart, spanBytes}
+use Rattle.resolution_rules.specs.Resolving.{Span, delivered, judged}
+use Rattle.resolution_rules.specs.Calls.{output, noSpan, numberFault, resolve, unitOf, placedBy, resolveCall, unitCall, placeCall, unitPart, spanBytes}
 use Rattle.judging.specs.Steps.{judgement}
 use Rattle.resolution.specs.Steps.{partOf}
 use Rattle.judging.specs.declared.Amount.{Amount}
-use Rattle.resolving.proofs.Delivered.{Inside}
-use Rattle.resolving.proofs.Good.{good-rules}
-use Rattle.resolving.proofs.Exactly.{delivered-plain, delivered-there}
-use Rattle.resolving.proofs.Calls.{number-bad, by-count, call-means, unit-means, span-in}
+use Rattle.resolution_rules.proofs.Delivered.{Inside}
+use Rattle.resolution_rules.proofs.Good.{good-rules}
+use Rattle.resolution_rules.proofs.Exactly.{delivered-plain, delivered-there}
+use Rattle.resolution_rules.proofs.Calls.{number-bad, by-count, call-means, unit-means, span-in}
 
 pub number-some : (count n : ℕ) → numberFault count n ≡ 0 → (0 < n) × (n ≤ count)
 number-some count n e = by-count count n
@@ -131,25 +131,25 @@ module _ (b t : List ℕ) (done : filling b (length t) ≡ Done) where
 
   -- whatever is said by the table that is left
   module _ {s : List ℕ} (f : s ≡ tableAfter b t) (n i : ℕ) where
-    pub call-filled : within i (resolve (spelled b s) n) ≡ resolveCall b n i
+    pub call-filled : within i (resolve (recordingIn b s) n) ≡ resolveCall b n i
     call-filled = rw (f, table-means b t done) (sym (call-means b n i (table-accepted b t done)))
 
-    pub unit-filled : unitOf (spelled b s) n i ≡ unitCall b n i
+    pub unit-filled : unitOf (recordingIn b s) n i ≡ unitCall b n i
     unit-filled = rw (f, table-means b t done) (sym (unit-means b n i (table-accepted b t done)))
 
-    pub part-filled : partOf (spelled b s) (unitOf (spelled b s) n i) ≡ unitPart b (unitCall b n i)
+    pub part-filled : partOf (recordingIn b s) (unitOf (recordingIn b s) n i) ≡ unitPart b (unitCall b n i)
     part-filled = rw (f, table-means b t done) (part-same b (recordingOf b) (table-accepted b t done) n i)
 
-    pub place-filled : placedBy (startIn s) (unitOf (spelled b s) n i) ≡ placeCall b n i
+    pub place-filled : placedBy (startIn s) (unitOf (recordingIn b s) n i) ≡ placeCall b n i
     unfolding placeCall
     place-filled =
         rw (f, table-means b t done)
         (stands-same (startIn (tableAfter b t)) (contentAt b) (unitOf (recordingOf b) n i) (λ u e. let w = found-there (recordingOf b) n i u e in starts-at (u .sample) (w .0) (w .1))
         ∙ ap (placedBy (contentAt b)) (sym (unit-means b n i (table-accepted b t done))))
 
-  pub starts-inside : {s : List ℕ} → s ≡ tableAfter b t → (m : ℕ) → 0 < m → m ≤ sampleCount (laidOut s) → startIn s m ≤ length b
+  pub starts-inside : {s : List ℕ} → s ≡ tableAfter b t → (m : ℕ) → 0 < m → m ≤ sampleCount (layoutIn s) → startIn s m ≤ length b
   starts-inside {s} f m h l =
-      let y : laidOut s ≡ recordingOf b .layout = ap laidOut f ∙ table-lays-out b t (recordingOf b) (table-accepted b t done) done in
+      let y : layoutIn s ≡ recordingOf b .layout = ap layoutIn f ∙ table-lays-out b t (recordingOf b) (table-accepted b t done) done in
       let k = rw y at l in
       let c = content-most b (recordingOf b) (table-accepted b t done) m in
       rw (f, starts-at m h k) c

@@ -36,12 +36,12 @@ use Rattle.copies.specs.Extracted.{unitBytes}
 use Rattle.copies.specs.Written.{withLength, listed, copyBytes}
 use Rattle.copies.proofs.Putting.{bytes-good}
 use Rattle.words.proofs.Numbered.{put-after}
-use Rattle.resolving.specs.Resolving.{sampleOf, spanOf, spansOf, own, named, linked, nameFaultAt, copyFaultAt, extractFault, copiedAt, deliveredAt, delivered, judged}
-use Rattle.resolving.specs.Calls.{written, output}
+use Rattle.resolution_rules.specs.Resolving.{sampleOf, spanOf, spansOf, own, named, linked, nameFaultAt, copyFaultAt, extractFault, copiedAt, deliveredAt, delivered, judged}
+use Rattle.resolution_rules.specs.Calls.{written, output}
 use Rattle.resolution.specs.Steps.{extractBytes, bytesAt}
-use Rattle.resolving.proofs.Delivered.{delivered-unit, delivered-extractor, unitJudge, unit-judge, extractors-units, judged-extractors, output-none, output-one, output-append}
-use Rattle.resolving.proofs.Good.{good-rules}
-use Rattle.resolving.proofs.Exactly.{extractor-mem}
+use Rattle.resolution_rules.proofs.Delivered.{delivered-unit, delivered-extractor, unitJudge, unit-judge, extractors-units, judged-extractors, output-none, output-one, output-append}
+use Rattle.resolution_rules.proofs.Good.{good-rules}
+use Rattle.resolution_rules.proofs.Exactly.{extractor-mem}
 use Rattle.judging.proofs.Counting.{left, left-end, left-skip, left-take, left-start, Passing, passing-start, passing-skip, passing-take, passing-mem}
 
 -- an extractor by what it names

@@ -33,14 +33,14 @@ use Rattle.copies.specs.declared.Copy.{Copy}
 use Rattle.copies.proofs.Answers.{good-whole, place-good}
 use Rattle.words.proofs.Numbered.{nth-none}
 use Rattle.bundles.specs.Limits.{bundleMost}
-use Rattle.resolving.specs.Resolving.{sampleOf, spanOf, own, named, linked, nameFaultAt, copyFaultAt, extractFault, copiedAt, deliveredAt, delivered, judged}
-use Rattle.resolving.specs.Calls.{noSpan}
+use Rattle.resolution_rules.specs.Resolving.{sampleOf, spanOf, own, named, linked, nameFaultAt, copyFaultAt, extractFault, copiedAt, deliveredAt, delivered, judged}
+use Rattle.resolution_rules.specs.Calls.{noSpan}
 use Rattle.judging.specs.Steps.{amountAt}
 use Rattle.resolution.specs.Steps.{copiedSpan, spanAt}
 use Rattle.words.proofs.Joined.{nth-map, nth-front, nth-back}
-use Rattle.resolving.proofs.Delivered.{delivered-unit, delivered-extractor, unitJudge, unit-judge, extractors-units, judged-extractors}
-use Rattle.resolving.proofs.Good.{good-rules}
-use Rattle.resolving.proofs.Exactly.{extractor-mem}
+use Rattle.resolution_rules.proofs.Delivered.{delivered-unit, delivered-extractor, unitJudge, unit-judge, extractors-units, judged-extractors}
+use Rattle.resolution_rules.proofs.Good.{good-rules}
+use Rattle.resolution_rules.proofs.Exactly.{extractor-mem}
 use Rattle.judging.proofs.Amounts.{Amounts}
 use Rattle.judging.proofs.Counting.{left, left-end, left-skip, left-take, left-start, Passing, passing-start, passing-skip, passing-take, passing-mem, passing-amounts}
 

@@ -5,8 +5,8 @@
 --   placeAnswerOf    where in the bundle it stands
 use Prim.Native.Nat.{ℕ}
 use Rattle.words.specs.Refusals.{Answer, refused, ok}
-use Rattle.resolving.specs.Resolving.{Span}
-use Rattle.resolving.specs.Calls.{BundlePart}
+use Rattle.resolution_rules.specs.Resolving.{Span}
+use Rattle.resolution_rules.specs.Calls.{BundlePart}
 use Rattle.resolution.specs.Steps.{spanFor}
 use Rattle.resolution.specs.declared.Resolved.{Resolved}
 use Rattle.resolution.specs.declared.Resolved.the-variants.{Refused, Count}

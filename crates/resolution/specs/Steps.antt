@@ -1,4 +1,4 @@
--- The steps of the code on a bundle and any table, as definitions over the recording that they spell.
+-- The steps of the code on a bundle and any table, as definitions over the recording that they give.
 --
 --   spanFor u             a delivered unit as the code has it
 --   copiedSpan r n f i    the ith unit that an extractor with the fields f in sample n stands for; no unit where there is none
@@ -18,8 +18,8 @@ use Rattle.units.specs.declared.MaybeExtractor.the-variants.{Extractor, Nothing
 use Rattle.bundles.specs.Recordings.{Recording}
 use Rattle.links.specs.Links.{sampleNamed, nameFault}
 use Rattle.copies.specs.Written.{withLength, copyBytes, copiedPlace}
-use Rattle.resolving.specs.Resolving.{sampleOf, Span, spanOf}
-use Rattle.resolving.specs.Calls.{noSpan, spanBytes}
+use Rattle.resolution_rules.specs.Resolving.{sampleOf, Span, spanOf}
+use Rattle.resolution_rules.specs.Calls.{noSpan, spanBytes}
 use Rattle.resolution.specs.declared.UnitSpan.{UnitSpan}
 
 abbrev pub spanFor : UnitSpan → Span

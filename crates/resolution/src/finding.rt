@@ -8,9 +8,9 @@ ghost use Rattle.units.specs.Units.{sample, next};
 ghost use Rattle.samples.specs.Check.{check};
 ghost use Rattle.bundles.specs.Limits.{bundleMost};
 ghost use Rattle.bundles.specs.Recordings.{sampleCount};
-ghost use Rattle.tables.specs.Tables.{laidOut, spelled, startIn};
-ghost use Rattle.resolving.specs.Resolving.{sampleOf, spanOf, delivered, judged};
-ghost use Rattle.resolving.specs.Calls.{noSpan, unitOf, placedBy};
+ghost use Rattle.tables.specs.Tables.{layoutIn, recordingIn, startIn};
+ghost use Rattle.resolution_rules.specs.Resolving.{sampleOf, spanOf, delivered, judged};
+ghost use Rattle.resolution_rules.specs.Calls.{noSpan, unitOf, placedBy};
 ghost use Rattle.resolution.specs.Steps.{spanFor, copiedSpan, spanAt, partOf};
 ghost use Rattle.resolution.specs.Answers.{unitAnswerOf, placeAnswerOf};
 use crate::UnitFound;
@@ -53,7 +53,7 @@ fn span_of(m: SampleNumber, k: Track, z: &[u8], at: usize) -> UnitSpan
 
 // The ith unit that an extractor in sample n stands for; no unit where there is none.
 fn copied_span(b: &[u8], t: &[u64], n: SampleNumber, f: Extractor, i: usize) -> UnitSpan
-    ensures { λ r. ⌜ spanFor r ≡ copiedSpan (spelled (now (b .entry)) (now (t .entry))) (n .0) f i ⌝ }
+    ensures { λ r. ⌜ spanFor r ≡ copiedSpan (recordingIn (now (b .entry)) (now (t .entry))) (n .0) f i ⌝ }
 {
     let named = links::name(t, n, f.track_ref_index, f.sample_offset);
     match named {
@@ -82,7 +82,7 @@ fn span_at(
     i: usize,
 ) -> UnitSpan
     requires { ⌜ next (sample k (now x)) at ≤ length (now x) ⌝ }
-    ensures { λ r. ⌜ spanFor r ≡ spanAt (spelled (now (b .entry)) (now (t .entry))) (n .0) (sample k (now (x .entry))) at i ⌝ }
+    ensures { λ r. ⌜ spanFor r ≡ spanAt (recordingIn (now (b .entry)) (now (t .entry))) (n .0) (sample k (now (x .entry))) at i ⌝ }
 {
     if units::type_at(k, x, ByteOffset(at)) != units::EXTRACTOR {
         return span_of(n, k, x, at);
@@ -96,8 +96,8 @@ fn span_at(
 
 // The ith unit that sample n delivers, which is x and good; no unit where there is none.
 fn find(b: &[u8], t: &[u64], n: SampleNumber, k: Track, x: &[u8], i: usize) -> UnitSpan
-    requires { ⌜ (sample k (now x) ≡ sampleOf (spelled (now b) (now t)) (n .0)) × (judged (spelled (now b) (now t)) (n .0) ≡ ok tt) × (length (now b) ≤ bundleMost) × (0 < i) ⌝ }
-    ensures { λ r. ⌜ spanFor r ≡ nth (delivered (spelled (now (b .entry)) (now (t .entry))) (n .0)) i noSpan ⌝ }
+    requires { ⌜ (sample k (now x) ≡ sampleOf (recordingIn (now b) (now t)) (n .0)) × (judged (recordingIn (now b) (now t)) (n .0) ≡ ok tt) × (length (now b) ≤ bundleMost) × (0 < i) ⌝ }
+    ensures { λ r. ⌜ spanFor r ≡ nth (delivered (recordingIn (now (b .entry)) (now (t .entry))) (n .0)) i noSpan ⌝ }
 {
     let l = k.length_size;
     let w = l.bytes();
@@ -131,7 +131,7 @@ pub(crate) fn refused(number: u8) -> UnitFound
 // The ith unit that sample n delivers: 30, 14 to 28, 30 for i, or the unit.
 pub(crate) fn find_unit(b: &[u8], t: &[u64], n: SampleNumber, i: usize) -> UnitFound
     requires { ⌜ length (now b) ≤ bundleMost ⌝ }
-    ensures { λ r. ⌜ unitAnswerOf r ≡ unitOf (spelled (now (b .entry)) (now (t .entry))) (n .0) i ⌝ }
+    ensures { λ r. ⌜ unitAnswerOf r ≡ unitOf (recordingIn (now (b .entry)) (now (t .entry))) (n .0) i ⌝ }
 {
     let fault = judging::number_fault(tables::sample_count(t), n.0);
     if fault != 0 {
@@ -164,8 +164,8 @@ pub(crate) fn unplaced(number: u8) -> UnitPlaced
 
 // Where the ith unit that sample n delivers stands, by a table in which samples start within the bundle.
 pub(crate) fn place_unit(b: &[u8], t: &[u64], n: SampleNumber, i: usize) -> UnitPlaced
-    requires { ⌜ (length (now b) ≤ bundleMost) × ((m : ℕ) → 0 < m → m ≤ sampleCount (laidOut (now t)) → startIn (now t) m ≤ length (now b)) ⌝ }
-    ensures { λ r. ⌜ placeAnswerOf r ≡ placedBy (startIn (now (t .entry))) (unitOf (spelled (now (b .entry)) (now (t .entry))) (n .0) i) ⌝ }
+    requires { ⌜ (length (now b) ≤ bundleMost) × ((m : ℕ) → 0 < m → m ≤ sampleCount (layoutIn (now t)) → startIn (now t) m ≤ length (now b)) ⌝ }
+    ensures { λ r. ⌜ placeAnswerOf r ≡ placedBy (startIn (now (t .entry))) (unitOf (recordingIn (now (b .entry)) (now (t .entry))) (n .0) i) ⌝ }
 {
     let found = find_unit(b, t, n, i);
     match found {
@@ -184,7 +184,7 @@ pub(crate) fn place_unit(b: &[u8], t: &[u64], n: SampleNumber, i: usize) -> Unit
 // The bytes of the ith unit that sample n delivers; empty if refused.
 pub(crate) fn unit_part<'a>(b: &'a [u8], t: &[u64], n: SampleNumber, i: usize) -> &'a [u8]
     requires { ⌜ length (now b) ≤ bundleMost ⌝ }
-    ensures { λ r. ⌜ now r ≡ partOf (spelled (now (b .entry)) (now (t .entry))) (unitOf (spelled (now (b .entry)) (now (t .entry))) (n .0) i) ⌝ }
+    ensures { λ r. ⌜ now r ≡ partOf (recordingIn (now (b .entry)) (now (t .entry))) (unitOf (recordingIn (now (b .entry)) (now (t .entry))) (n .0) i) ⌝ }
 {
     let found = find_unit(b, t, n, i);
     match found {

@@ -5,7 +5,7 @@ mod writing;
 ghost use mathlib.Core.Path.{_≡_};
 ghost use lib.ListN.{length};
 ghost use Rattle.words.specs.Buffers.{Wrote};
-ghost use Rattle.resolving.specs.Calls.{resolveCall, unitCall, placeCall, unitPart};
+ghost use Rattle.resolution_rules.specs.Calls.{resolveCall, unitCall, placeCall, unitPart};
 ghost use Rattle.resolution.specs.Answers.{answerOf, unitAnswerOf, placeAnswerOf};
 use filling::Filled;
 use numbers::ByteOffset;

@@ -6,10 +6,10 @@ ghost use Rattle.words.specs.Refusals.{refused, ok};
 ghost use Rattle.words.specs.Buffers.{put, overwrite, within, Wrote};
 ghost use Rattle.units.specs.Units.{sample, next};
 ghost use Rattle.bundles.specs.Limits.{bundleMost};
-ghost use Rattle.tables.specs.Tables.{spelled};
+ghost use Rattle.tables.specs.Tables.{recordingIn};
 ghost use Rattle.copies.specs.Written.{withLength, putCount};
-ghost use Rattle.resolving.specs.Resolving.{sampleOf, delivered, judged};
-ghost use Rattle.resolving.specs.Calls.{output, resolve};
+ghost use Rattle.resolution_rules.specs.Resolving.{sampleOf, delivered, judged};
+ghost use Rattle.resolution_rules.specs.Calls.{output, resolve};
 ghost use Rattle.resolution.specs.Steps.{extractBytes, bytesAt};
 ghost use Rattle.resolution.specs.Answers.{answerOf};
 use crate::Resolved;
@@ -34,8 +34,8 @@ fn put_extract(
     n: SampleNumber,
     f: Extractor,
 ) -> usize
-    ensures { λ r. ⌜ (r ≡ putCount (now (out .entry)) at (extractBytes (spelled (now (b .entry)) (now (t .entry))) (n .0) f))
-        × (now (out .exit) ≡ put (now (out .entry)) at (extractBytes (spelled (now (b .entry)) (now (t .entry))) (n .0) f)) ⌝ }
+    ensures { λ r. ⌜ (r ≡ putCount (now (out .entry)) at (extractBytes (recordingIn (now (b .entry)) (now (t .entry))) (n .0) f))
+        × (now (out .exit) ≡ put (now (out .entry)) at (extractBytes (recordingIn (now (b .entry)) (now (t .entry))) (n .0) f)) ⌝ }
 {
     let named = links::name(t, n, f.track_ref_index, f.sample_offset);
     match named {
@@ -77,9 +77,9 @@ fn put_at(
     x: &[u8],
     p: usize,
 ) -> usize
-    requires { ⌜ (next (sample k (now x)) p ≤ length (now x)) × (at + length (bytesAt (spelled (now b) (now t)) (n .0) (sample k (now x)) p) ≤ length (now out)) ⌝ }
-    ensures { λ r. ⌜ (r ≡ length (bytesAt (spelled (now (b .entry)) (now (t .entry))) (n .0) (sample k (now (x .entry))) p))
-        × (now (out .exit) ≡ put (now (out .entry)) at (bytesAt (spelled (now (b .entry)) (now (t .entry))) (n .0) (sample k (now (x .entry))) p)) ⌝ }
+    requires { ⌜ (next (sample k (now x)) p ≤ length (now x)) × (at + length (bytesAt (recordingIn (now b) (now t)) (n .0) (sample k (now x)) p) ≤ length (now out)) ⌝ }
+    ensures { λ r. ⌜ (r ≡ length (bytesAt (recordingIn (now (b .entry)) (now (t .entry))) (n .0) (sample k (now (x .entry))) p))
+        × (now (out .exit) ≡ put (now (out .entry)) at (bytesAt (recordingIn (now (b .entry)) (now (t .entry))) (n .0) (sample k (now (x .entry))) p)) ⌝ }
 {
     if units::type_at(k, x, ByteOffset(p)) != units::EXTRACTOR {
         return put_own(out, at, k, x, p);
@@ -93,9 +93,9 @@ fn put_at(
 
 // What sample n delivers, which is x and good, over the start of a buffer that has room.
 fn write_units(out: &mut [u8], b: &[u8], t: &[u64], n: SampleNumber, k: Track, x: &[u8])
-    requires { ⌜ (sample k (now x) ≡ sampleOf (spelled (now b) (now t)) (n .0)) × (judged (spelled (now b) (now t)) (n .0) ≡ ok tt)
-        × (length (output (spelled (now b) (now t)) (delivered (spelled (now b) (now t)) (n .0))) ≤ length (now out)) ⌝ }
-    ensures { λ _. ⌜ now (out .exit) ≡ overwrite (now (out .entry)) (output (spelled (now (b .entry)) (now (t .entry))) (delivered (spelled (now (b .entry)) (now (t .entry))) (n .0))) ⌝ }
+    requires { ⌜ (sample k (now x) ≡ sampleOf (recordingIn (now b) (now t)) (n .0)) × (judged (recordingIn (now b) (now t)) (n .0) ≡ ok tt)
+        × (length (output (recordingIn (now b) (now t)) (delivered (recordingIn (now b) (now t)) (n .0))) ≤ length (now out)) ⌝ }
+    ensures { λ _. ⌜ now (out .exit) ≡ overwrite (now (out .entry)) (output (recordingIn (now (b .entry)) (now (t .entry))) (delivered (recordingIn (now (b .entry)) (now (t .entry))) (n .0))) ⌝ }
 {
     let l = k.length_size;
     let w = l.bytes();
@@ -126,7 +126,7 @@ pub(crate) fn refused(number: u8) -> Resolved
 pub(crate) fn resolve_sample(b: &[u8], t: &[u64], n: SampleNumber, out: &mut [u8]) -> Resolved
     requires { ⌜ length (now b) ≤ bundleMost ⌝ }
     ensures { λ r. ⌜ Wrote (now (out .entry)) (now (out .exit)) (answerOf r)
-        (within (length (now (out .entry))) (resolve (spelled (now (b .entry)) (now (t .entry))) (n .0))) ⌝ }
+        (within (length (now (out .entry))) (resolve (recordingIn (now (b .entry)) (now (t .entry))) (n .0))) ⌝ }
 {
     let fault = judging::number_fault(tables::sample_count(t), n.0);
     if fault != 0 {

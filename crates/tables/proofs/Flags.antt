@@ -2,7 +2,7 @@
 --
 --   set-beyond                   nothing is set past the end
 --   cell-kept                    every other number stays
---   flagged-layout, flagged-spells    the table says and spells the same
+--   flagged-layout, flagged-recording    the table says and gives the same
 --   flag-set, flag-kept          the flag that was set, and every other
 use Prim.Native.Nat.{ℕ, zero, suc, _+_, _*_, _≤_, _<_}
 use mathlib.Core.Path.{_≡_, refl, ap, ap₂, sym, _∙_}
@@ -18,7 +18,7 @@ use Rattle.words.specs.Lists.{upto, lastThat}
 use Rattle.words.proofs.Tests.{by-bool}
 use Rattle.words.proofs.Lists.{map-cong, upto-from}
 use Rattle.bundles.specs.Recordings.{Layout, Recording}
-use Rattle.tables.specs.Tables.{atMost, sampleRow, cell, trackTotal, referenceTotal, sampleTotal, trackIn, referenceIn, beforeIn, ownerIn, entryIn, laidOut, contentIn, spelled, sampleCell, flagIn, flagged}
+use Rattle.tables.specs.Tables.{atMost, sampleRow, cell, trackTotal, referenceTotal, sampleTotal, trackIn, referenceIn, beforeIn, ownerIn, entryIn, layoutIn, contentIn, recordingIn, sampleCell, flagIn, flagged}
 use Rattle.words.proofs.Rows.{lastThat-cong}
 
 pub set-beyond : (l : List ℕ) (i a : ℕ) → length l ≤ i → set l i a ≡ l
@@ -49,8 +49,8 @@ module _ (t : List ℕ) (n v : ℕ) where
   owner-same : (m : ℕ) → ownerIn marked m ≡ ownerIn t m
   owner-same m = rw track-total (lastThat-cong (λ k. beforeIn marked k <? m) (λ k. beforeIn t k <? m) (upto (trackTotal t)) (λ k q. rw (other k 2 (omega arith))))
 
-  marked-layout : laidOut marked ≡ laidOut t
-  unfolding laidOut
+  marked-layout : layoutIn marked ≡ layoutIn t
+  unfolding layoutIn
   marked-layout =
       rw (
         track-total,
@@ -61,9 +61,9 @@ module _ (t : List ℕ) (n v : ℕ) where
         map-cong (entryIn marked) (entryIn t) (upto (sampleTotal t)) (λ m q. rw (owner-same m, other (sampleRow m) 0 (omega arith))),
       )
 
-  marked-spells : (b : List ℕ) → spelled b marked ≡ spelled b t
-  unfolding spelled
-  marked-spells b =
+  marked-recording : (b : List ℕ) → recordingIn b marked ≡ recordingIn b t
+  unfolding recordingIn
+  marked-recording b =
       rw (
         marked-layout,
         sample-total,
@@ -75,11 +75,11 @@ module _ (t : List ℕ) (n v : ℕ) where
   unfolding flagged
   flagged-case P g h = by-bool (eqb n 0) (λ q. rw q g) (λ q. rw q (by-bool (ltb (sampleTotal t) n) (λ r. rw r g) (λ r. rw r h)))
 
-pub flagged-layout : (t : List ℕ) (n v : ℕ) → laidOut (flagged t n v) ≡ laidOut t
-flagged-layout t n v = flagged-case t n v (λ x. laidOut x ≡ laidOut t) refl (marked-layout t n v)
+pub flagged-layout : (t : List ℕ) (n v : ℕ) → layoutIn (flagged t n v) ≡ layoutIn t
+flagged-layout t n v = flagged-case t n v (λ x. layoutIn x ≡ layoutIn t) refl (marked-layout t n v)
 
-pub flagged-spells : (b t : List ℕ) (n v : ℕ) → spelled b (flagged t n v) ≡ spelled b t
-flagged-spells b t n v = flagged-case t n v (λ x. spelled b x ≡ spelled b t) refl (marked-spells t n v b)
+pub flagged-recording : (b t : List ℕ) (n v : ℕ) → recordingIn b (flagged t n v) ≡ recordingIn b t
+flagged-recording b t n v = flagged-case t n v (λ x. recordingIn b x ≡ recordingIn b t) refl (marked-recording t n v b)
 
 -- the flag that was set
 pub flag-set : (t : List ℕ) (n v : ℕ) → 0 < n → n ≤ sampleTotal t → sampleRow n * 4 + 3 < length t → flagIn (flagged t n v) n ≡ v

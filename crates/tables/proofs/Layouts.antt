@@ -18,7 +18,7 @@ use Rattle.words.specs.Lists.{nth, upto}
 use Rattle.words.proofs.Tests.{by-bool}
 use Rattle.bundles.specs.Limits.{sampleMost}
 use Rattle.bundles.specs.Recordings.{Layout, Recording, noTrack, noEntry, sampleCount, contentOf}
-use Rattle.tables.specs.Tables.{atMost, countsRow, samplesColumn, cell, trackTotal, referenceTotal, sampleTotal, trackIn, referenceIn, entryIn, contentIn, laidOut, spelled}
+use Rattle.tables.specs.Tables.{atMost, countsRow, samplesColumn, cell, trackTotal, referenceTotal, sampleTotal, trackIn, referenceIn, entryIn, contentIn, layoutIn, recordingIn}
 use Rattle.words.proofs.Rows.{upto-length, nth-upto, nth-past, nth-none}
 
 pub total-fits : (most n : ℕ) → n ≤ most → atMost most n ≡ n
@@ -28,51 +28,51 @@ pub total-most : (most n : ℕ) → most < n → atMost most n ≡ most
 total-most most n h = rw (lt-leb n most h)
 
 module _ (t : List ℕ) where
-  pub tracks-count : length (laidOut t .tracks) ≡ trackTotal t
-  unfolding laidOut
+  pub tracks-count : length (layoutIn t .tracks) ≡ trackTotal t
+  unfolding layoutIn
   tracks-count = length-map (upto (trackTotal t)) (trackIn t) ∙ upto-length (trackTotal t)
 
-  pub references-count : length (laidOut t .references) ≡ referenceTotal t
-  unfolding laidOut
+  pub references-count : length (layoutIn t .references) ≡ referenceTotal t
+  unfolding layoutIn
   references-count = length-map (upto (referenceTotal t)) (referenceIn t) ∙ upto-length (referenceTotal t)
 
-  pub samples-count : sampleCount (laidOut t) ≡ sampleTotal t
-  unfolding laidOut
+  pub samples-count : sampleCount (layoutIn t) ≡ sampleTotal t
+  unfolding layoutIn
   samples-count = length-map (upto (sampleTotal t)) (entryIn t) ∙ upto-length (sampleTotal t)
 
-  pub samples-most : sampleCount (laidOut t) ≤ sampleMost
+  pub samples-most : sampleCount (layoutIn t) ≤ sampleMost
   samples-most = rw samples-count (by-bool (leb (cell t countsRow samplesColumn) sampleMost) (λ q. rw q (leb-true (cell t countsRow samplesColumn) sampleMost q)) (λ q. rw q (omega arith)))
 
-  pub track-here : (k : ℕ) → 0 < k → k ≤ trackTotal t → nth (laidOut t .tracks) k noTrack ≡ trackIn t k
-  unfolding laidOut
+  pub track-here : (k : ℕ) → 0 < k → k ≤ trackTotal t → nth (layoutIn t .tracks) k noTrack ≡ trackIn t k
+  unfolding layoutIn
   track-here k h l = nth-upto (trackIn t) (trackTotal t) k noTrack h l
 
-  pub track-none : (k : ℕ) → k ≡ 0 → nth (laidOut t .tracks) k noTrack ≡ noTrack
-  track-none k e = rw e (nth-none (laidOut t .tracks) noTrack)
+  pub track-none : (k : ℕ) → k ≡ 0 → nth (layoutIn t .tracks) k noTrack ≡ noTrack
+  track-none k e = rw e (nth-none (layoutIn t .tracks) noTrack)
 
-  pub track-past : (k : ℕ) → trackTotal t < k → nth (laidOut t .tracks) k noTrack ≡ noTrack
-  unfolding laidOut
+  pub track-past : (k : ℕ) → trackTotal t < k → nth (layoutIn t .tracks) k noTrack ≡ noTrack
+  unfolding layoutIn
   track-past k h = nth-past (trackIn t) (trackTotal t) k noTrack h
 
-  pub entry-here : (n : ℕ) → 0 < n → n ≤ sampleTotal t → nth (laidOut t .entries) n noEntry ≡ entryIn t n
-  unfolding laidOut
+  pub entry-here : (n : ℕ) → 0 < n → n ≤ sampleTotal t → nth (layoutIn t .entries) n noEntry ≡ entryIn t n
+  unfolding layoutIn
   entry-here n h l = nth-upto (entryIn t) (sampleTotal t) n noEntry h l
 
-  pub entry-none : (n : ℕ) → n ≡ 0 → nth (laidOut t .entries) n noEntry ≡ noEntry
-  entry-none n e = rw e (nth-none (laidOut t .entries) noEntry)
+  pub entry-none : (n : ℕ) → n ≡ 0 → nth (layoutIn t .entries) n noEntry ≡ noEntry
+  entry-none n e = rw e (nth-none (layoutIn t .entries) noEntry)
 
-  pub entry-past : (n : ℕ) → sampleTotal t < n → nth (laidOut t .entries) n noEntry ≡ noEntry
-  unfolding laidOut
+  pub entry-past : (n : ℕ) → sampleTotal t < n → nth (layoutIn t .entries) n noEntry ≡ noEntry
+  unfolding layoutIn
   entry-past n h = nth-past (entryIn t) (sampleTotal t) n noEntry h
 
 module _ (b t : List ℕ) where
-  pub content-here : (n : ℕ) → 0 < n → n ≤ sampleTotal t → contentOf (spelled b t) n ≡ contentIn b t n
-  unfolding spelled
+  pub content-here : (n : ℕ) → 0 < n → n ≤ sampleTotal t → contentOf (recordingIn b t) n ≡ contentIn b t n
+  unfolding recordingIn
   content-here n h l = nth-upto (contentIn b t) (sampleTotal t) n [] h l
 
-  pub content-none : (n : ℕ) → n ≡ 0 → contentOf (spelled b t) n ≡ []
-  content-none n e = rw e (nth-none (spelled b t .contents) [])
+  pub content-none : (n : ℕ) → n ≡ 0 → contentOf (recordingIn b t) n ≡ []
+  content-none n e = rw e (nth-none (recordingIn b t .contents) [])
 
-  pub content-past : (n : ℕ) → sampleTotal t < n → contentOf (spelled b t) n ≡ []
-  unfolding spelled
+  pub content-past : (n : ℕ) → sampleTotal t < n → contentOf (recordingIn b t) n ≡ []
+  unfolding recordingIn
   content-past n h = nth-past (contentIn b t) (sampleTotal t) n [] h

@@ -20,7 +20,7 @@ use Rattle.words.proofs.Tests.{by-bool, true-false, and-both, and-holds, bool-s
 use Rattle.words.proofs.Lists.{keep-append, keep-nothing, lastThat-snoc, upto-from}
 use Rattle.bundles.specs.Recordings.{samplesIn, sampleCount, trackOf}
 use Rattle.words.proofs.Entries.{map-append}
-use Rattle.tables.specs.Tables.{sampleTotal, trackTotal, beforeIn, afterIn, ownerIn, rangeIn, numbersIn, laidOut}
+use Rattle.tables.specs.Tables.{sampleTotal, trackTotal, beforeIn, afterIn, ownerIn, rangeIn, numbersIn, layoutIn}
 use Rattle.words.proofs.Rows.{upto-length}
 use Rattle.tables.proofs.Layouts.{samples-count, entry-here}
 
@@ -140,28 +140,28 @@ keep-same f g [] h = refl
 keep-same f g (x ∷ xs) h = rw (h x (List·Memᴰ·head refl), keep-same f g xs (λ y m. h y (List·Memᴰ·tail m)))
 
 module _ (t : List ℕ) (k : ℕ) (some : 0 < k) where
-  track-is : (n : ℕ) → List·Memᴰ n (upto (sampleTotal t)) → trackOf (laidOut t) n ≡ ownerIn t n
+  track-is : (n : ℕ) → List·Memᴰ n (upto (sampleTotal t)) → trackOf (layoutIn t) n ≡ ownerIn t n
   track-is n m = let u = upto-from (sampleTotal t) n m in ap (λ e. e .track) (entry-here t n (u .0) (u .1))
 
-  test-same : k ≤ trackTotal t → (n : ℕ) → List·Memᴰ n (upto (sampleTotal t)) → (trackOf (laidOut t) n ≡? k) ≡ between (beforeIn t k) (afterIn t k (trackTotal t)) n
+  test-same : k ≤ trackTotal t → (n : ℕ) → List·Memᴰ n (upto (sampleTotal t)) → (trackOf (layoutIn t) n ≡? k) ≡ between (beforeIn t k) (afterIn t k (trackTotal t)) n
   test-same h n m =
       let u = upto-from (sampleTotal t) n m in
-      bool-same (trackOf (laidOut t) n ≡? k) (between (beforeIn t k) (afterIn t k (trackTotal t)) n)
+      bool-same (trackOf (layoutIn t) n ≡? k) (between (beforeIn t k) (afterIn t k (trackTotal t)) n)
       (λ q. let w = owner-from t n k (trackTotal t) some h (u .1) (sym (track-is n m) ∙ eqb-true _ _ q) in and-holds _ _ (lt-ltb _ _ (w .0)) (le-leb _ _ (w .1)))
       (λ q. let w = and-both _ _ q in eq-eqb _ _ (track-is n m ∙ owner-is t n k (trackTotal t) some h (ltb-true _ _ (w .0)) (leb-true _ _ (w .1))))
 
-  inside-case : k ≤ trackTotal t → samplesIn (laidOut t) k ≡ numbersIn (rangeIn t k)
+  inside-case : k ≤ trackTotal t → samplesIn (layoutIn t) k ≡ numbersIn (rangeIn t k)
   unfolding samplesIn rangeIn
   inside-case h =
       rw (ne-eqb k 0 (λ z. omega arith), le-ltb (trackTotal t) k h, samples-count t)
-      (keep-same (λ n. trackOf (laidOut t) n ≡? k) (between (beforeIn t k) (afterIn t k (trackTotal t))) (upto (sampleTotal t)) (test-same h)
+      (keep-same (λ n. trackOf (layoutIn t) n ≡? k) (between (beforeIn t k) (afterIn t k (trackTotal t))) (upto (sampleTotal t)) (test-same h)
       ∙ keep-range (beforeIn t k) (afterIn t k (trackTotal t)) (sampleTotal t) (after-most t k (trackTotal t)))
 
-  outside-case : trackTotal t < k → samplesIn (laidOut t) k ≡ numbersIn (rangeIn t k)
+  outside-case : trackTotal t < k → samplesIn (layoutIn t) k ≡ numbersIn (rangeIn t k)
   unfolding samplesIn rangeIn upto
   outside-case h =
       rw (ne-eqb k 0 (λ z. omega arith), lt-ltb (trackTotal t) k h, samples-count t)
-      (keep-nothing (λ n. trackOf (laidOut t) n ≡? k) (upto (sampleTotal t)) (λ n m. let u = owner-most t n (trackTotal t) in let e = track-is n m in ne-eqb (trackOf (laidOut t) n) k (λ z. omega arith)))
+      (keep-nothing (λ n. trackOf (layoutIn t) n ≡? k) (upto (sampleTotal t)) (λ n m. let u = owner-most t n (trackTotal t) in let e = track-is n m in ne-eqb (trackOf (layoutIn t) n) k (λ z. omega arith)))
 
-  pub range-samples : samplesIn (laidOut t) k ≡ numbersIn (rangeIn t k)
+  pub range-samples : samplesIn (layoutIn t) k ≡ numbersIn (rangeIn t k)
   range-samples = by-bool (leb k (trackTotal t)) (λ q. inside-case (leb-true k (trackTotal t) q)) (λ q. outside-case (leb-false k (trackTotal t) q))

@@ -16,7 +16,7 @@ use Rattle.words.specs.Lists.{keep, nth, upto}
 use Rattle.words.proofs.Tests.{by-bool}
 use Rattle.bundles.specs.Recordings.{Reference, Layout, noReference, referencesFrom}
 use Rattle.words.proofs.Entries.{map-append}
-use Rattle.tables.specs.Tables.{cell, referenceRow, fromColumn, toColumn, referenceTotal, referenceIn, laidOut}
+use Rattle.tables.specs.Tables.{cell, referenceRow, fromColumn, toColumn, referenceTotal, referenceIn, layoutIn}
 use Rattle.words.proofs.Rows.{upto-more, Split, upto-split, keep-at, keep-more, nth-beyond}
 
 abbrev pub comesFrom : ℕ → Reference → Bool
@@ -35,18 +35,18 @@ module _ (t : List ℕ) (k : ℕ) where
   unfolding counted
   counted-more i = rw (upto-more i, map-append (referenceIn t) (upto i) ((i + 1) ∷ [])) (keep-more (comesFrom k) (map (referenceIn t) (upto i)) (referenceIn t (i + 1)))
 
-  pub counted-all : length (referencesFrom (laidOut t) k) ≡ counted (referenceTotal t)
-  unfolding referencesFrom laidOut counted
+  pub counted-all : length (referencesFrom (layoutIn t) k) ≡ counted (referenceTotal t)
+  unfolding referencesFrom layoutIn counted
   counted-all = refl
 
-  found-at : (i : ℕ) → i < referenceTotal t → comesFrom k (referenceIn t (i + 1)) ≡ true → nth (referencesFrom (laidOut t) k) (counted i + 1) noReference ≡ referenceIn t (i + 1)
-  unfolding referencesFrom laidOut counted
+  found-at : (i : ℕ) → i < referenceTotal t → comesFrom k (referenceIn t (i + 1)) ≡ true → nth (referencesFrom (layoutIn t) k) (counted i + 1) noReference ≡ referenceIn t (i + 1)
+  unfolding referencesFrom layoutIn counted
   found-at i h e =
       let s = upto-split i (referenceTotal t) h in
       rw (s .is, map-append (referenceIn t) (upto i) ((i + 1) ∷ s .rest)) (keep-at (comesFrom k) (map (referenceIn t) (upto i)) (referenceIn t (i + 1)) (map (referenceIn t) (s .rest)) noReference e)
 
   -- the count has come to the number that is looked for
-  pub found-here : (i index : ℕ) → i < referenceTotal t → counted i < index → counted (i + 1) ≡ index → nth (referencesFrom (laidOut t) k) index noReference ≡ referenceIn t (i + 1)
+  pub found-here : (i index : ℕ) → i < referenceTotal t → counted i < index → counted (i + 1) ≡ index → nth (referencesFrom (layoutIn t) k) index noReference ≡ referenceIn t (i + 1)
   found-here i index h l e =
       by-bool (eqb (cell t (referenceRow (i + 1)) fromColumn) k)
       (λ q.
@@ -56,5 +56,5 @@ module _ (t : List ℕ) (k : ℕ) where
       let c : index ≡ counted i = sym e ∙ counted-more i ∙ rw q in
       absurd (omega arith))
 
-  pub found-none : (index : ℕ) → counted (referenceTotal t) < index → nth (referencesFrom (laidOut t) k) index noReference ≡ noReference
-  found-none index h = nth-beyond (referencesFrom (laidOut t) k) index noReference (rw counted-all h)
+  pub found-none : (index : ℕ) → counted (referenceTotal t) < index → nth (referencesFrom (layoutIn t) k) index noReference ≡ noReference
+  found-none index h = nth-beyond (referencesFrom (layoutIn t) k) index noReference (rw counted-all h)

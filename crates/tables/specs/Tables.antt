@@ -1,11 +1,11 @@
 -- A table of numbers t, by which a sample's track, time and bytes and a track's kind, length size, references and samples are reached without
 -- walking the bundle again. Rows of four numbers: row 0 has the counts, rows 1 to 16 the tracks, rows 17 to 80 the references, the rows from 81
 -- on the samples. A number past the table's end reads as 0, and a count beyond its limit as the limit. So every table says a layout, and
--- together with any bytes it spells a recording: a sample whose bytes do not lie in the bundle has none.
+-- together with any bytes it gives a recording: a sample whose bytes do not lie in the bundle has none.
 --
 --   cell t row column     a number of the table
---   laidOut t             the layout that it says
---   spelled b t           the recording that it spells with the bytes b
+--   layoutIn t             the layout that it says
+--   recordingIn b t           the recording that it gives with the bytes b
 --   rangeIn t k           the samples of track k: those after `before`, up to `after`
 --   numbersIn r           their numbers
 --   sampleCell t n column    a number of the row of sample n
@@ -127,8 +127,8 @@ module _ (t : List ℕ) where
   abbrev pub entryIn : ℕ → Entry
   entryIn n = record { track = ownerIn n; time = cell (sampleRow n) timeColumn }
 
-  unfoldable pub laidOut : Layout
-  laidOut =
+  unfoldable pub layoutIn : Layout
+  layoutIn =
       record {
         tracks = map trackIn (upto trackTotal);
         references = map referenceIn (upto referenceTotal);
@@ -171,5 +171,5 @@ module _ (b t : List ℕ) where
   abbrev pub contentIn : ℕ → List ℕ
   contentIn n = inside b (cell t (sampleRow n) startColumn) (cell t (sampleRow n) lengthColumn)
 
-  unfoldable pub spelled : Recording
-  spelled = record { layout = laidOut t; contents = map contentIn (upto (sampleTotal t)) }
+  unfoldable pub recordingIn : Recording
+  recordingIn = record { layout = layoutIn t; contents = map contentIn (upto (sampleTotal t)) }

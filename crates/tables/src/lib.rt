@@ -9,7 +9,7 @@ ghost use Rattle.numbers.specs.Kinds.{kindOf};
 ghost use Rattle.numbers.specs.Sizes.{lengthSizeOf};
 ghost use Rattle.bundles.specs.Recordings.{noTrack, noReference, sampleCount, trackOf, timeOf, referencesFrom, contentOf};
 ghost use Rattle.bundles.specs.Tracks.{knownKind, knownSize};
-ghost use Rattle.tables.specs.Tables.{inside, sampleCell, startIn, flagIn, flagged, cell, trackTotal, referenceTotal, sampleTotal, ownerIn, afterIn, rangeIn, laidOut, spelled};
+ghost use Rattle.tables.specs.Tables.{inside, sampleCell, startIn, flagIn, flagged, cell, trackTotal, referenceTotal, sampleTotal, ownerIn, afterIn, rangeIn, layoutIn, recordingIn};
 use numbers::ByteOffset;
 use numbers::Kind;
 use numbers::LengthSize;
@@ -128,14 +128,14 @@ fn size_of(n: usize) -> LengthSize
 
 // How many samples there are.
 pub fn sample_count(t: &[u64]) -> usize
-    ensures { λ r. ⌜ r ≡ sampleCount (laidOut (now (t .entry))) ⌝ }
+    ensures { λ r. ⌜ r ≡ sampleCount (layoutIn (now (t .entry))) ⌝ }
 {
     sample_total(t)
 }
 
 // The kind of a track; AVC where there is no such track.
 pub fn track_kind(t: &[u64], k: TrackNumber) -> Kind
-    ensures { λ r. ⌜ r ≡ nth (laidOut (now (t .entry)) .tracks) (k .0) noTrack .kind ⌝ }
+    ensures { λ r. ⌜ r ≡ nth (layoutIn (now (t .entry)) .tracks) (k .0) noTrack .kind ⌝ }
 {
     let n = k.0;
     if n == 0 {
@@ -149,7 +149,7 @@ pub fn track_kind(t: &[u64], k: TrackNumber) -> Kind
 
 // The length size of a track; 1 where there is no such track.
 pub fn track_length_size(t: &[u64], k: TrackNumber) -> LengthSize
-    ensures { λ r. ⌜ r ≡ nth (laidOut (now (t .entry)) .tracks) (k .0) noTrack .lengthSize ⌝ }
+    ensures { λ r. ⌜ r ≡ nth (layoutIn (now (t .entry)) .tracks) (k .0) noTrack .lengthSize ⌝ }
 {
     let n = k.0;
     if n == 0 {
@@ -185,7 +185,7 @@ fn owner(t: &[u64], n: usize) -> usize
 
 // The track of a sample; 0 where there is no such sample.
 pub fn sample_track(t: &[u64], n: SampleNumber) -> TrackNumber
-    ensures { λ r. ⌜ r .0 ≡ trackOf (laidOut (now (t .entry))) (n .0) ⌝ }
+    ensures { λ r. ⌜ r .0 ≡ trackOf (layoutIn (now (t .entry))) (n .0) ⌝ }
 {
     let m = n.0;
     if m == 0 {
@@ -199,7 +199,7 @@ pub fn sample_track(t: &[u64], n: SampleNumber) -> TrackNumber
 
 // The decode time of a sample; 0 where there is no such sample.
 pub fn sample_time(t: &[u64], n: SampleNumber) -> u64
-    ensures { λ r. ⌜ r ≡ timeOf (laidOut (now (t .entry))) (n .0) ⌝ }
+    ensures { λ r. ⌜ r ≡ timeOf (layoutIn (now (t .entry))) (n .0) ⌝ }
 {
     let m = n.0;
     if m == 0 {
@@ -227,7 +227,7 @@ fn part_of(b: &[u8], start: usize, n: usize) -> &[u8]
 
 // The bytes of a sample, as a part of the bundle; none where there is no such sample.
 pub fn sample_bytes<'a>(b: &'a [u8], t: &[u64], n: SampleNumber) -> &'a [u8]
-    ensures { λ r. ⌜ now r ≡ contentOf (spelled (now (b .entry)) (now (t .entry))) (n .0) ⌝ }
+    ensures { λ r. ⌜ now r ≡ contentOf (recordingIn (now (b .entry)) (now (t .entry))) (n .0) ⌝ }
 {
     let m = n.0;
     if m == 0 {
@@ -324,7 +324,7 @@ fn one_more(from: usize, k: usize, count: usize) -> usize
 
 // How many references a track has.
 pub fn reference_count(t: &[u64], k: TrackNumber) -> usize
-    ensures { λ r. ⌜ r ≡ length (referencesFrom (laidOut (now (t .entry))) (k .0)) ⌝ }
+    ensures { λ r. ⌜ r ≡ length (referencesFrom (layoutIn (now (t .entry))) (k .0)) ⌝ }
 {
     let n = k.0;
     let total = reference_total(t);
@@ -340,7 +340,7 @@ pub fn reference_count(t: &[u64], k: TrackNumber) -> usize
 
 // The track that a track's reference of a number, its track_ref_index, leads to; 0 where there is no such reference.
 pub fn reference(t: &[u64], k: TrackNumber, index: usize) -> TrackNumber
-    ensures { λ r. ⌜ r .0 ≡ nth (referencesFrom (laidOut (now (t .entry))) (k .0)) index noReference .to ⌝ }
+    ensures { λ r. ⌜ r .0 ≡ nth (referencesFrom (layoutIn (now (t .entry))) (k .0)) index noReference .to ⌝ }
 {
     if index == 0 {
         return TrackNumber(0);

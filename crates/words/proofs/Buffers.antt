@@ -9,20 +9,22 @@
 --   within-room, within-not  an answer with room, and without
 --   refused-leaves           a refusal's count is zero, and it leaves the buffer as it was
 --   refuse, accept           what a call did: refused, or wrote bytes that fit
+--   fit-all, lacks-here, lacks-later    several rooms: all are enough; one is not
+--   within-all-room, within-all-not, refused-leaves-all, refuse-all, accept-all    the same laws of several buffers
 use Prim.Native.Nat.{ℕ, zero, suc, _+_, _-_, _≤_, _<_}
 use mathlib.Core.Path.{_≡_, refl, ap, sym, _∙_}
-use mathlib.Core.Bool.{false}
-use mathlib.Core.List.{List, [], _∷_, _++_, append-assoc, append-nil}
+use mathlib.Core.Bool.{true, false, true-or, or-true}
+use mathlib.Core.List.{List, [], _∷_, _++_, map, append-assoc, append-nil}
 use native.Mathlib.Nat.{add-assoc, add-zero, zero-add}
 use native.Mathlib.Omega.{arith}
 use native.Mathlib.Numerals.{add-one}
 use borrow.Author.Tests.{le-leb, lt-leb, leb-true, le-ltb, lt-ltb}
-use lib.Dec.{leb}
+use lib.Dec.{leb, ltb}
 use lib.ListN.{length, getD, take, drop, set, take-append-drop, length-append, length-take, length-drop}
 use lib.Seq.{paste, paste-suc, length-take-le, drop-drop, take-at, drop-at, take-length, set-at, take-suc}
 use Rattle.words.specs.RefusalNumbers.{outputTooLong}
 use Rattle.words.specs.Refusals.{Answer, refused, ok, passed, countOf}
-use Rattle.words.specs.Buffers.{writeAt, overwrite, put, within, left, counted, Wrote}
+use Rattle.words.specs.Buffers.{writeAt, overwrite, put, lacksRoom, within, leaves, counted, Wrote, withinAll, leavesAll, countedAll, overwriteAll, WroteAll}
 use Rattle.words.proofs.Tests.{by-bool, true-false}
 
 pub copy-step : (o s : List ℕ) (p i : ℕ) → p + i < length o → i < length s → set (paste o p s i) (p + i) (getD s i 0) ≡ paste o p s (i + 1)
@@ -103,3 +105,30 @@ refuse e = record { answer = rw e; buffer = rw e }
 
 pub accept : {o o' : List ℕ} {out : List ℕ} {a : Answer (List ℕ)} → a ≡ ok out → o' ≡ overwrite o out → Wrote o o' (ok (length out)) a
 accept e f = record { answer = rw e; buffer = rw e f }
+
+-- several buffers
+module _ (room : ℕ) (rooms out : List ℕ) (outs : List (List ℕ)) where
+  pub fit-all : length out ≤ room → lacksRoom rooms outs ≡ false → lacksRoom (room ∷ rooms) (out ∷ outs) ≡ false
+  fit-all h g = rw g (le-ltb room (length out) h)
+
+  pub lacks-here : room < length out → lacksRoom (room ∷ rooms) (out ∷ outs) ≡ true
+  lacks-here h = rw (lt-ltb room (length out) h) (or-true (lacksRoom rooms outs))
+
+  pub lacks-later : lacksRoom rooms outs ≡ true → lacksRoom (room ∷ rooms) (out ∷ outs) ≡ true
+  lacks-later g = rw g (true-or (ltb room (length out)))
+
+pub within-all-room : (rooms : List ℕ) (outs : List (List ℕ)) → lacksRoom rooms outs ≡ false → withinAll rooms (ok outs) ≡ ok outs
+within-all-room rooms outs h = rw h
+
+pub within-all-not : (rooms : List ℕ) (outs : List (List ℕ)) → lacksRoom rooms outs ≡ true → withinAll rooms (ok outs) ≡ refused outputTooLong 0
+within-all-not rooms outs h = rw h
+
+pub refused-leaves-all : {os os' : List (List ℕ)} {r : Answer (List ℕ)} {a : Answer (List (List ℕ))} → WroteAll os os' r a → passed r ≡ false → os' ≡ os
+refused-leaves-all {r = r} {a = refused n p} w f = w .buffers
+refused-leaves-all {r = r} {a = ok outs} w f = true-false (passed r) (rw (w .answers)) f
+
+pub refuse-all : {os : List (List ℕ)} {n p : ℕ} {a : Answer (List (List ℕ))} → a ≡ refused n p → WroteAll os os (refused n p) a
+refuse-all e = record { answers = rw e; buffers = rw e }
+
+pub accept-all : {os os' outs : List (List ℕ)} {a : Answer (List (List ℕ))} → a ≡ ok outs → os' ≡ overwriteAll os outs → WroteAll os os' (ok (map length outs)) a
+accept-all e f = record { answers = rw e; buffers = rw e f }

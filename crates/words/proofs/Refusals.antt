@@ -7,7 +7,7 @@
 --   at-ok, at-none, at-from, at-refused         a number at a place, as a verdict
 --   and-ok                    a verdict and an answer that is no refusal
 --   by-verdict, by-answer     cases of a verdict and of an answer, with the equation
---   Within, within-if, within-orElse, within-firstOf, within-some    refusal numbers of a chain that lie from a to b
+--   NoneOr, none-or-if, -orElse, -pick, -firstOf, -some, -wider    refusal numbers of a chain that are none, or one of a set
 --   firstOf-none, -cong, -map     the first refusal number of a list
 --   first-ok, first-all, first-from, first-cong    the first refusal of a list
 --   ok-same, ok-refused, refused-same, refused-along    two answers that are equal; what is said of the number and place of the one holds of the other's
@@ -17,6 +17,8 @@ use mathlib.Core.List.{List, [], _∷_, map, List·Memᴰ, List·Memᴰ·head, L
 use mathlib.Core.Bool.{Bool, true, false}
 use mathlib.Core.Logic.{_⊎_, inl, inr}
 use native.Mathlib.Omega.{arith}
+use Rattle.words.specs.Tests.{pick}
+use Rattle.words.specs.Lists.{_∈_}
 use Rattle.words.specs.Refusals.{_if_, _orElse_, firstOf, Answer, refused, ok, Verdict, _andThen_, _atPlace_, first}
 
 pub if-none : (n : ℕ) (b : Bool) → (suc n if b) ≡ 0 → b ≡ false
@@ -88,6 +90,37 @@ module _ {A : Type 0} where
 
   pub refused-along : (P : ℕ → ℕ → Type 0) {n m p q : ℕ} → _≡_ {A = Answer A} (refused n p) (refused m q) → P n p → P m q
   refused-along P {n} {m} {p} {q} e w = let s = refused-same e in subst (λ (x : ℕ). P x q) (s .0) (subst (P n) (s .1) w)
+
+-- a refusal number that is none, or one of a set
+abbrev pub NoneOr : List ℕ → ℕ → Type 0
+NoneOr ns n = (n ≡ 0) ⊎ (n ∈ ns)
+
+module _ (ns : List ℕ) where
+  pub none-or-if : (n : ℕ) (t : Bool) → n ∈ ns → NoneOr ns (n if t)
+  none-or-if n true h = inr h
+  none-or-if n false h = inl refl
+
+  pub none-or-orElse : (n m : ℕ) → NoneOr ns n → NoneOr ns m → NoneOr ns (n orElse m)
+  none-or-orElse zero m h k = k
+  none-or-orElse (suc n) m h k = h
+
+  pub none-or-pick : (t : Bool) (n m : ℕ) → NoneOr ns n → NoneOr ns m → NoneOr ns (pick t n m)
+  none-or-pick true n m h k = h
+  none-or-pick false n m h k = k
+
+  pub none-or-firstOf : (f : ℕ → ℕ) (ps : List ℕ) → ((p : ℕ) → NoneOr ns (f p)) → NoneOr ns (firstOf f ps)
+  unfolding firstOf
+  none-or-firstOf f [] h = inl refl
+  none-or-firstOf f (p ∷ ps) h = none-or-orElse (f p) (firstOf f ps) (h p) (none-or-firstOf f ps h)
+
+  pub none-or-some : {n : ℕ} → NoneOr ns n → 0 < n → n ∈ ns
+  none-or-some (inl z) e = absurd (omega arith)
+  none-or-some (inr w) e = w
+
+-- a set that is part of another
+pub none-or-wider : {ns ms : List ℕ} {n : ℕ} → ((m : ℕ) → m ∈ ns → m ∈ ms) → NoneOr ns n → NoneOr ms n
+none-or-wider f (inl z) = inl z
+none-or-wider {n = n} f (inr w) = inr (f n w)
 
 -- a refusal number that is none, or lies from a to b
 abbrev pub Within : ℕ → ℕ → ℕ → Type 0

@@ -2,13 +2,14 @@
 --
 --   keep t xs, some t xs   the elements that pass a test; whether one does
 --   has n ns               whether the number n is among ns
+--   x ∈ xs                 x is an element of xs
 --   each f xs              the lists f x joined, in order
 --   nth xs n d             the nth element from 1, or d where there is none
 --   upto n                 1, 2, .. n
 --   lastThat t xs          the number, from 1, of the last element that passes; 0 if none does
 --   sum ns                 the sum of numbers
 use Prim.Native.Nat.{ℕ, zero, suc, _+_}
-use mathlib.Core.List.{List, [], _∷_, _++_}
+use mathlib.Core.List.{List, [], _∷_, _++_, List·Memᴰ}
 use mathlib.Core.Bool.{Bool, true, false, _||_}
 use lib.ListN.{getD}
 use Rattle.words.specs.Tests.{_≡?_, pick, _when_else_}
@@ -29,6 +30,10 @@ module _ {A : Type 0} where
   unfoldable pub lastThat : (A → Bool) → List A → ℕ
   lastThat t [] = 0
   lastThat t (x ∷ xs) = let n = lastThat t xs in (1 when t x else 0) when n ≡? 0 else suc n
+
+infix 40 _∈_
+abbrev pub _∈_ : {A : Type 0} → A → List A → Type 0
+x ∈ xs = List·Memᴰ x xs
 
 abbrev pub has : ℕ → List ℕ → Bool
 has n ns = some (λ m. n ≡? m) ns

@@ -1,6 +1,17 @@
--- The refusal numbers of document 01, 'Numbers for no', by name. The code's table is crates/numbers/src/refusals.rt.
+-- The refusal numbers of document 01, 'Numbers for no', by name, and the sets that the calls refuse with. The code's table is
+-- crates/numbers/src/refusals.rt.
+--
+--   recordRefusals       a configuration record: 8 to 13
+--   bundleRefusals       a bundle, and the records in it: 1 to 13
+--   unitRefusals         a unit by itself: 14 to 18
+--   formRefusals         a sample's form: 14 to 22
+--   nameRefusals         which sample an extractor names: 23, 24
+--   copyRefusals         what it copies of that sample: 25 to 28
+--   extractorRefusals    an extractor: 23 to 28
+--   sampleRefusals       a sample resolved: 14 to 28
+--   refusalNumbers       all of them
 use Prim.Native.Nat.{ℕ}
-use mathlib.Core.List.{List, [], _∷_}
+use mathlib.Core.List.{List, [], _∷_, _++_}
 
 -- the bundle
 abbrev pub bundleTooLong : ℕ
@@ -100,15 +111,32 @@ noSuchNumber = 30
 abbrev pub fieldsFitNoRecord : ℕ
 fieldsFitNoRecord = 31
 
--- all of them, in order
+-- The sets, each in number order.
+abbrev pub recordRefusals : List ℕ
+recordRefusals = recordCut ∷ badVersion ∷ wrongFixedBits ∷ badLengthSize ∷ badSet ∷ bytesAfterRecord ∷ []
+
+abbrev pub bundleRefusals : List ℕ
+bundleRefusals =
+    bundleTooLong ∷ bundleCut ∷ countOutOfLimits ∷ unknownKind ∷ badReference ∷ badTrackOrTime ∷ badByteCount
+    ∷ recordRefusals
+
+abbrev pub unitRefusals : List ℕ
+unitRefusals = lengthFieldCut ∷ unitTooLong ∷ emptyUnit ∷ topBitSet ∷ unitTooShort ∷ []
+
+abbrev pub formRefusals : List ℕ
+formRefusals = unitRefusals ++ (nestedAggregator ∷ sliceInAvcAggregator ∷ badAdditionalBytes ∷ badExtractorSize ∷ [])
+
+abbrev pub nameRefusals : List ℕ
+nameRefusals = badTrackRefIndex ∷ noSampleNamed ∷ []
+
+abbrev pub copyRefusals : List ℕ
+copyRefusals = namedIllFormed ∷ badDataOffset ∷ badDataLength ∷ extractorCopied ∷ []
+
+abbrev pub extractorRefusals : List ℕ
+extractorRefusals = nameRefusals ++ copyRefusals
+
+abbrev pub sampleRefusals : List ℕ
+sampleRefusals = formRefusals ++ extractorRefusals
+
 abbrev pub refusalNumbers : List ℕ
-refusalNumbers =
-    bundleTooLong ∷ bundleCut ∷ countOutOfLimits ∷ unknownKind
-    ∷ badReference ∷ badTrackOrTime ∷ badByteCount ∷ recordCut
-    ∷ badVersion ∷ wrongFixedBits ∷ badLengthSize ∷ badSet
-    ∷ bytesAfterRecord ∷ lengthFieldCut ∷ unitTooLong ∷ emptyUnit
-    ∷ topBitSet ∷ unitTooShort ∷ nestedAggregator ∷ sliceInAvcAggregator
-    ∷ badAdditionalBytes ∷ badExtractorSize ∷ badTrackRefIndex ∷ noSampleNamed
-    ∷ namedIllFormed ∷ badDataOffset ∷ badDataLength ∷ extractorCopied
-    ∷ outputTooLong ∷ noSuchNumber ∷ fieldsFitNoRecord
-    ∷ []
+refusalNumbers = bundleRefusals ++ sampleRefusals ++ (outputTooLong ∷ noSuchNumber ∷ fieldsFitNoRecord ∷ [])

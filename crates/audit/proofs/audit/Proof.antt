@@ -6,7 +6,7 @@ use lib.ListN.{length}
 use Rattle.audit.proofs.audit.Statement.{statement}
 use Rattle.words.proofs.Buffers.{refuse}
 use Rattle.filling.proofs.Promises.{says-refused, never-short, table-short}
-use Rattle.auditing.proofs.Calls.{audit-bundle, tally-bundle}
+use Rattle.audit_rules.proofs.Calls.{audit-bundle, tally-bundle}
 use Rattle.audit.proofs.Answered.{lines-filled, tally-filled}
 use Rattle.audit.proofs.audit.Tie as tie
 

@@ -5,17 +5,17 @@ use mathlib.Core.Path.{_≡_, sym, _∙_}
 use Rattle.audit.proofs.audit_accepted.Statement.{statement}
 use Rattle.words.proofs.Buffers.{refuse, accept}
 use Rattle.bundles.specs.Recordings.{Recording, sampleCount}
-use Rattle.tables.specs.Tables.{spelled}
+use Rattle.tables.specs.Tables.{recordingIn}
 use Rattle.tables.proofs.Layouts.{samples-most}
-use Rattle.auditing.proofs.Lines.{lines-length}
-use Rattle.audit.proofs.Answered.{count-spelled, lines-not, tally-not, lines-fit, tally-fits}
+use Rattle.audit_rules.proofs.Lines.{lines-length}
+use Rattle.audit.proofs.Answered.{count-in-table, lines-not, tally-not, lines-fit, tally-fits}
 use Rattle.audit.proofs.audit_accepted.Tie as tie
 
 abbrev R : tie.After-sample-count → Recording
-R c = spelled (c .before .before .before .before .args .b .now) (c .before .before .before .before .args .t .now)
+R c = recordingIn (c .before .before .before .before .args .b .now) (c .before .before .before .before .args .t .now)
 
 count : (c : tie.After-sample-count) → c .sample-count .result ≡ sampleCount (R c .layout)
-count c = count-spelled (c .before .before .before .before .args .b .now) (c .before .before .before .before .args .t .now) (c .sample-count .ensures)
+count c = count-in-table (c .before .before .before .before .args .b .now) (c .before .before .before .before .args .t .now) (c .sample-count .ensures)
 
 sample-count-requires : tie.Need-sample-count-requires
 sample-count-requires c κs = search needs

@@ -2,13 +2,13 @@
 use borrow.Author.Needs.{needs}
 use Prim.Native.Nat.{_-_}
 use Rattle.audit.proofs.audit_samples.Statement.{statement}
-use Rattle.tables.specs.Tables.{spelled}
+use Rattle.tables.specs.Tables.{recordingIn}
 use Rattle.audit.proofs.Steps.{Auditing, auditing-start, auditing-length, auditing-room, auditing-more, auditing-end}
 use native.Mathlib.Omega.{arith}
 use Rattle.audit.proofs.audit_samples.Tie as tie
 
 abbrev Inv-loop : tie.InvT-loop
-Inv-loop b t count out₀ tally₀ done₀ out tally done = Auditing (spelled b t) out₀ done out tally
+Inv-loop b t count out₀ tally₀ done₀ out tally done = Auditing (recordingIn b t) out₀ done out tally
 
 abbrev μ-loop : tie.MeasureT-loop
 μ-loop b t count out₀ tally₀ done₀ out tally done = count - done

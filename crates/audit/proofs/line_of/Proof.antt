@@ -3,7 +3,7 @@ use borrow.Author.Needs.{needs}
 use mathlib.Core.Path.{_≡_, sym, _∙_}
 use Rattle.audit.proofs.line_of.Statement.{statement}
 use Rattle.words.specs.Bytes.{big}
-use Rattle.auditing.specs.Auditing.{refusalSize}
+use Rattle.audit_rules.specs.Auditing.{refusalSize}
 use Rattle.audit.proofs.Reading.{first-byte, says-gone, says-refused, says-empty, says-passed}
 use Rattle.audit.proofs.line_of.Tie as tie
 

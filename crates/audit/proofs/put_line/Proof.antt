@@ -1,7 +1,7 @@
 -- The line of a sample that is refused, and of one that is good. Assumes nothing.
 use borrow.Author.Needs.{needs}
 use Rattle.audit.proofs.put_line.Statement.{statement}
-use Rattle.auditing.specs.Auditing.{lineBytes}
+use Rattle.audit_rules.specs.Auditing.{lineBytes}
 use Rattle.audit.proofs.put_line.Tie as tie
 
 enum-known-judged : tie.Need-enum-known-judged

@@ -4,8 +4,8 @@ use mathlib.Core.Path.{_≡_, sym, ap, _∙_}
 use Rattle.judging.proofs.judge.Statement.{statement}
 use Rattle.units.specs.Units.{sample}
 use Rattle.samples.specs.Check.{answerOf}
-use Rattle.tables.specs.Tables.{spelled}
-use Rattle.resolving.specs.Resolving.{sampleOf}
+use Rattle.tables.specs.Tables.{recordingIn}
+use Rattle.resolution_rules.specs.Resolving.{sampleOf}
 use Rattle.judging.proofs.Amounts.{sample-from}
 use Rattle.judging.specs.Steps.{judgement, judgementIn}
 use Rattle.judging.proofs.Counting.{judgement-form}
@@ -13,11 +13,11 @@ use Rattle.judging.proofs.Judgements.{judgement-in, judgement-long}
 use Rattle.judging.proofs.judge.Tie as tie
 
 -- the sample
-same : (c : tie.After-check-sample) → let a = c .before .before .before .before .before .before .args in sample (c .before .before .track-of .result) (c .before .sample-bytes .result .now) ≡ sampleOf (spelled (a .b .now) (a .t .now)) (a .n .0)
+same : (c : tie.After-check-sample) → let a = c .before .before .before .before .before .before .args in sample (c .before .before .track-of .result) (c .before .sample-bytes .result .now) ≡ sampleOf (recordingIn (a .b .now) (a .t .now)) (a .n .0)
 same c = let a = c .before .before .before .before .before .before .args in sample-from (a .b .now) (a .t .now) (a .n .0) (c .before .before .track-of .ensures) (c .before .sample-bytes .ensures)
 
 -- the bundle is not too long
-short : (c : tie.After-check-sample) → let a = c .before .before .before .before .before .before .args in judgementIn (a .b .now) (a .t .now) (a .n .0) ≡ judgement (spelled (a .b .now) (a .t .now)) (a .n .0)
+short : (c : tie.After-check-sample) → let a = c .before .before .before .before .before .before .args in judgementIn (a .b .now) (a .t .now) (a .n .0) ≡ judgement (recordingIn (a .b .now) (a .t .now)) (a .n .0)
 short c = let a = c .before .before .before .before .before .before .args in judgement-in (a .b .now) (a .t .now) (a .n .0) (c .before .before .before .if1 .left)
 
 returns : tie.Need-returns

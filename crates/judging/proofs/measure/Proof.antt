@@ -12,14 +12,14 @@ use Rattle.units.specs.Units.{Sample, sample, size, next, isAggregator}
 use Rattle.units.specs.Aggregators.{includedStart}
 use Rattle.units.proofs.Units.{next-after}
 use Rattle.samples.proofs.Walks.{next-is}
-use Rattle.tables.specs.Tables.{spelled}
+use Rattle.tables.specs.Tables.{recordingIn}
 use Rattle.bundles.specs.Recordings.{Recording}
-use Rattle.judging.proofs.Amounts.{spelled-most}
+use Rattle.judging.proofs.Amounts.{contents-most}
 use Rattle.judging.proofs.Counting.{Passing, passing-skip, passing-take, Judging, judging-start, judging-skip, judging-fits, judging-few, judging-refused, judging-take, judging-end}
 use Rattle.judging.proofs.measure.Tie as tie
 
 abbrev Inv-loop : tie.InvT-loop
-Inv-loop b t n k x l w count₀ size₀ p₀ count size p = Judging (spelled b t) (n .0) (sample k x) p count size
+Inv-loop b t n k x l w count₀ size₀ p₀ count size p = Judging (recordingIn b t) (n .0) (sample k x) p count size
 
 abbrev μ-loop : tie.MeasureT-loop
 μ-loop b t n k x l w count₀ size₀ p₀ count size p = length x - p
@@ -32,7 +32,7 @@ abbrev X : At → Sample
 X c = sample (c .before .before .before .before .before .before .args .k) (c .before .before .before .before .before .before .args .x .now)
 
 abbrev R : At → Recording
-R c = spelled (c .before .before .before .before .before .before .args .b .now) (c .before .before .before .before .before .before .args .t .now)
+R c = recordingIn (c .before .before .before .before .before .before .args .b .now) (c .before .before .before .before .before .before .args .t .now)
 
 abbrev P : At → ℕ
 P c = c .before .loop .p
@@ -64,7 +64,7 @@ bytes-requires : tie.Need-bytes-requires Inv-loop μ-loop
 bytes-requires c κs = search needs
 
 loop-holds : tie.Need-loop-holds Inv-loop μ-loop
-loop-holds c = judging-start _ _ _ (c .before .before .before .before .pre .0) (c .before .before .before .before .pre .1) (λ m. let l = spelled-most (c .before .before .before .before .args .b .now) (c .before .before .before .before .args .t .now) m in omega (arith, c .before .before .before .before .pre .2))
+loop-holds c = judging-start _ _ _ (c .before .before .before .before .pre .0) (c .before .before .before .before .pre .1) (λ m. let l = contents-most (c .before .before .before .before .args .b .now) (c .before .before .before .before .args .t .now) m in omega (arith, c .before .before .before .before .pre .2))
 
 type-at-requires : tie.Need-type-at-requires Inv-loop μ-loop
 type-at-requires c κs = search needs

@@ -1,7 +1,7 @@
 -- Each return is a test of 30. Assumes nothing.
 use Rattle.judging.proofs.number_fault.Statement.{statement}
 use Rattle.words.proofs.Tests.{tests}
-use Rattle.resolving.specs.Calls.{numberFault}
+use Rattle.resolution_rules.specs.Calls.{numberFault}
 use Rattle.judging.proofs.number_fault.Tie as tie
 
 returns : tie.Need-returns

@@ -3,13 +3,13 @@ use borrow.Author.Needs.{needs}
 use mathlib.Core.Path.{_≡_}
 use Prim.Native.Nat.{_-_, _≤_}
 use Rattle.links.proofs.base_in.Statement.{statement}
-use Rattle.tables.specs.Tables.{laidOut}
+use Rattle.tables.specs.Tables.{layoutIn}
 use Rattle.links.proofs.Naming.{searched, searched-none, searched-here, searched-on, base-searched}
 use native.Mathlib.Omega.{arith}
 use Rattle.links.proofs.base_in.Tie as tie
 
 abbrev Inv-loop : tie.InvT-loop
-Inv-loop t own range b₀ m₀ b m = (range .before ≤ m) × (m - range .before ≤ range .after - range .before) × (b ≡ searched (laidOut t) own (range .before) (m - range .before))
+Inv-loop t own range b₀ m₀ b m = (range .before ≤ m) × (m - range .before ≤ range .after - range .before) × (b ≡ searched (layoutIn t) own (range .before) (m - range .before))
 
 abbrev μ-loop : tie.MeasureT-loop
 μ-loop t own range b₀ m₀ b m = range .after - m
@@ -21,7 +21,7 @@ sample-range-requires : tie.Need-sample-range-requires Inv-loop μ-loop
 sample-range-requires c κs = search needs
 
 loop-holds : tie.Need-loop-holds Inv-loop μ-loop
-loop-holds c = (omega arith, omega arith, searched-none (laidOut (c .before .before .before .args .t .now)) (c .before .sample-time .result) (c .sample-range .result .before))
+loop-holds c = (omega arith, omega arith, searched-none (layoutIn (c .before .before .before .args .t .now)) (c .before .sample-time .result) (c .sample-range .result .before))
 
 add-m : tie.Need-add-m Inv-loop μ-loop
 add-m c = search needs
@@ -37,7 +37,7 @@ loop-less c = search needs
 
 loop-again : tie.Need-loop-again Inv-loop μ-loop
 loop-again c =
-    let y = laidOut (c .before .before .before .before .before .before .before .before .before .args .t .now) in
+    let y = layoutIn (c .before .before .before .before .before .before .before .before .before .args .t .now) in
     let h = c .before .if2 .taken in
     (omega arith, omega arith, searched-here y (c .before .before .before .before .before .before .before .sample-time .result) (c .before .before .before .before .before .before .sample-range .result .before) (c .before .before .before .before .before .loop .m) (c .before .before .before .before .before .loop .inv .0) (rw (← c .before .before .sample-time2 .ensures) h))
 
@@ -46,7 +46,7 @@ loop-less-2 c = search needs
 
 loop-again-2 : tie.Need-loop-again-2 Inv-loop μ-loop
 loop-again-2 c =
-    let y = laidOut (c .before .before .before .before .before .before .before .before .args .t .now) in
+    let y = layoutIn (c .before .before .before .before .before .before .before .before .args .t .now) in
     let h = c .if2 .left in
     (omega arith, omega arith, searched-on y (c .before .before .before .before .before .before .sample-time .result) (c .before .before .before .before .before .sample-range .result .before) (c .before .before .before .before .loop .m) (c .before .before .before .before .loop .inv .0) (rw (← c .before .sample-time2 .ensures) h) (c .before .before .before .before .loop .inv .2))
 

@@ -7,24 +7,24 @@ use Rattle.links.proofs.sample_named.Statement.{statement}
 use native.Mathlib.Nat.{pos-of-ne-zero}
 use Rattle.words.specs.Lists.{nth}
 use Rattle.bundles.specs.Recordings.{samplesIn}
-use Rattle.tables.specs.Tables.{laidOut, rangeIn}
+use Rattle.tables.specs.Tables.{layoutIn, rangeIn}
 use Rattle.links.specs.Links.{linkedTrack, sampleNamed}
 use Rattle.links.proofs.Naming.{range-most, base-most, named-no-track, named-no-base, named-at, linked-by, range-at, range-past}
 use Rattle.words.proofs.Rows.{nth-none}
 use Rattle.links.proofs.sample_named.Tie as tie
 
-linked : (c : tie.After-reference) → let a = c .before .before .before .args in c .reference .result .0 ≡ linkedTrack (laidOut (a .t .now)) (a .n .0) (a .index)
+linked : (c : tie.After-reference) → let a = c .before .before .before .args in c .reference .result .0 ≡ linkedTrack (layoutIn (a .t .now)) (a .n .0) (a .index)
 linked c =
     let a = c .before .before .before .args in
-    linked-by (laidOut (a .t .now)) (a .n .0) (a .index) (c .before .sample-track .ensures) (c .reference .ensures)
+    linked-by (layoutIn (a .t .now)) (a .n .0) (a .index) (c .before .sample-track .ensures) (c .reference .ensures)
 
 -- the base is a sample of the range
 within : (c : tie.After-base-in) → let k = c .before .before .before .reference .result .0 in let r = rangeIn (c .before .before .before .before .before .before .args .t .now) k in c .base-in .result ≤ r .after - r .before
 within c = rw (c .base-in .ensures) (base-most (c .before .before .before .before .before .before .args .t .now) (c .before .before .before .before .before .before .args .n .0) (c .before .before .before .reference .result .0) (pos-of-ne-zero (c .before .if1 .left)))
 
 -- the steps lead to the sample that stands there
-at : (c : tie.After-stepped) → let a = c .before .before .before .before .before .before .before .before .args in sampleNamed (laidOut (a .t .now)) (a .n .0) (a .index) (a .offset) ≡ nth (samplesIn (laidOut (a .t .now)) (c .before .before .before .before .before .reference .result .0)) (c .stepped .result) 0
-at c = let a = c .before .before .before .before .before .before .before .before .args in named-at (laidOut (a .t .now)) (a .n .0) (a .index) (a .offset) (linked (c .before .before .before .before .before)) (c .before .before .base-in .ensures) (c .before .before .before .if1 .left) (c .before .if2 .left) (c .stepped .ensures)
+at : (c : tie.After-stepped) → let a = c .before .before .before .before .before .before .before .before .args in sampleNamed (layoutIn (a .t .now)) (a .n .0) (a .index) (a .offset) ≡ nth (samplesIn (layoutIn (a .t .now)) (c .before .before .before .before .before .reference .result .0)) (c .stepped .result) 0
+at c = let a = c .before .before .before .before .before .before .before .before .args in named-at (layoutIn (a .t .now)) (a .n .0) (a .index) (a .offset) (linked (c .before .before .before .before .before)) (c .before .before .base-in .ensures) (c .before .before .before .if1 .left) (c .before .if2 .left) (c .stepped .ensures)
 
 sample-track-requires : tie.Need-sample-track-requires
 sample-track-requires c κs = search needs
@@ -35,7 +35,7 @@ reference-requires c κs = search needs
 returns : tie.Need-returns
 returns c =
     let a = c .before .before .before .before .before .args in
-    sym (named-no-track (laidOut (a .t .now)) (a .n .0) (a .index) (a .offset) (linked (c .before .before)) (c .if1 .taken))
+    sym (named-no-track (layoutIn (a .t .now)) (a .n .0) (a .index) (a .offset) (linked (c .before .before)) (c .if1 .taken))
 
 base-in-requires : tie.Need-base-in-requires
 base-in-requires c κs = search needs
@@ -43,7 +43,7 @@ base-in-requires c κs = search needs
 returns-2 : tie.Need-returns-2
 returns-2 c =
     let a = c .before .before .before .before .before .before .before .args in
-    sym (named-no-base (laidOut (a .t .now)) (a .n .0) (a .index) (a .offset) (linked (c .before .before .before .before)) (c .before .base-in .ensures) (c .if2 .taken))
+    sym (named-no-base (layoutIn (a .t .now)) (a .n .0) (a .index) (a .offset) (linked (c .before .before .before .before)) (c .before .base-in .ensures) (c .if2 .taken))
 
 stepped-requires : tie.Need-stepped-requires
 stepped-requires c κs =
@@ -53,7 +53,7 @@ stepped-requires c κs =
 returns-3 : tie.Need-returns-3
 returns-3 c =
     let a = c .before .before .before .before .before .before .before .before .before .args in
-    rw (at (c .before), c .if3 .taken) (sym (nth-none (samplesIn (laidOut (a .t .now)) (c .before .before .before .before .before .before .reference .result .0)) 0))
+    rw (at (c .before), c .if3 .taken) (sym (nth-none (samplesIn (layoutIn (a .t .now)) (c .before .before .before .before .before .before .reference .result .0)) 0))
 
 sample-range-requires : tie.Need-sample-range-requires
 sample-range-requires c κs = search needs

@@ -6,20 +6,20 @@ use Prim.Native.Nat.{_*_, _≤_}
 use lib.ListN.{length}
 use Rattle.words.proofs.Buffers.{refuse, accept}
 use Rattle.bundles.specs.Recordings.{Recording, sampleCount}
-use Rattle.tables.specs.Tables.{laidOut, spelled}
-use Rattle.resolving.specs.Calls.{numberFault}
-use Rattle.naming.specs.Naming.{namingList, listBytes}
-use Rattle.naming.proofs.Listing.{list-size}
+use Rattle.tables.specs.Tables.{layoutIn, recordingIn}
+use Rattle.resolution_rules.specs.Calls.{numberFault}
+use Rattle.naming_list_rules.specs.Naming.{namingList, listBytes}
+use Rattle.naming_list_rules.proofs.Listing.{list-size}
 use Rattle.naming_list.proofs.Listings.{list-few, names-number, names-room, names-listed}
 use Rattle.naming_list.proofs.list_sample.Statement.{statement}
 use Rattle.naming_list.proofs.list_sample.Tie as tie
 
 abbrev R : tie.Else1 → Recording
-R c = spelled (c .before .before .before .before .before .before .before .args .b .now) (c .before .before .before .before .before .before .before .args .t .now)
+R c = recordingIn (c .before .before .before .before .before .before .before .args .b .now) (c .before .before .before .before .before .before .before .args .t .now)
 
 -- the number is good, or it is not
-fault : (c : tie.After-number-fault) → c .number-fault .result ≡ numberFault (sampleCount (spelled (c .before .before .before .before .before .before .args .b .now) (c .before .before .before .before .before .before .args .t .now) .layout)) (c .before .before .before .before .before .before .args .s .0)
-unfolding spelled
+fault : (c : tie.After-number-fault) → c .number-fault .result ≡ numberFault (sampleCount (recordingIn (c .before .before .before .before .before .before .args .b .now) (c .before .before .before .before .before .before .args .t .now) .layout)) (c .before .before .before .before .before .before .args .s .0)
+unfolding recordingIn
 fault c = rw (c .before .sample-count .ensures) at (c .number-fault .ensures)
 
 sound : (c : tie.Else1) → numberFault (sampleCount (R c .layout)) (c .before .before .before .before .before .before .before .args .s .0) ≡ 0
@@ -64,7 +64,7 @@ returns-2 : tie.Need-returns-2
 returns-2 c = let e = size (c .before .before) .0 in let h = c .before .if2 .taken in rw (c .refused2 .ensures) (refuse (names-room _ _ _ (sound (c .before .before .before .before .before .before)) (omega arith)))
 
 put-list-requires : tie.Need-put-list-requires
-unfolding spelled
+unfolding recordingIn
 put-list-requires c κs =
     let w = c .before .before .before .before .before .count-all .ensures in
     let e = size (c .before .before .before) .0 in

@@ -1,7 +1,7 @@
 -- By what the extractor names. Assumes nothing.
 use borrow.Author.Needs.{needs}
 use mathlib.Core.Path.{sym, _∙_}
-use Rattle.tables.specs.Tables.{laidOut}
+use Rattle.tables.specs.Tables.{layoutIn}
 use Rattle.links.proofs.Naming.{naming-refused, naming-sample}
 use Rattle.naming_list.proofs.Namers.{names-refused, names-sample}
 use Rattle.naming_list.proofs.names_with.Statement.{statement}
@@ -19,14 +19,14 @@ enum-known-named c = search needs
 returns : tie.Need-returns
 returns c =
     let a = c .before .before .before .before .args in
-    let w = naming-refused (laidOut (a .t .now)) (a .n .0) (a .f .«track_ref_index») (a .f .«sample_offset») (sym (c .before .before .name .ensures) ∙ c .enum-told .given .1) in
-    sym (names-refused (laidOut (a .t .now)) (a .s .0) (a .n .0) (a .f) (w .0) (w .1))
+    let w = naming-refused (layoutIn (a .t .now)) (a .n .0) (a .f .«track_ref_index») (a .f .«sample_offset») (sym (c .before .before .name .ensures) ∙ c .enum-told .given .1) in
+    sym (names-refused (layoutIn (a .t .now)) (a .s .0) (a .n .0) (a .f) (w .0) (w .1))
 
 returns-2 : tie.Need-returns-2
 returns-2 c =
     let a = c .before .before .before .before .before .before .before .args in
-    let w = naming-sample (laidOut (a .t .now)) (a .n .0) (a .f .«track_ref_index») (a .f .«sample_offset») (sym (c .before .before .before .before .before .name .ensures) ∙ c .before .before .before .named .given .1) in
-    sym (names-sample (laidOut (a .t .now)) (a .s .0) (a .n .0) (a .f) (w .0) (w .1))
+    let w = naming-sample (layoutIn (a .t .now)) (a .n .0) (a .f .«track_ref_index») (a .f .«sample_offset») (sym (c .before .before .before .before .before .name .ensures) ∙ c .before .before .before .named .given .1) in
+    sym (names-sample (layoutIn (a .t .now)) (a .s .0) (a .n .0) (a .f) (w .0) (w .1))
 
 pub names-with-spec : {M : Type 1} → statement M
 names-with-spec =

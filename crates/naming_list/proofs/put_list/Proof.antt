@@ -9,11 +9,11 @@ use Rattle.samples.specs.Check.{check}
 use Rattle.words.specs.Refusals.{ok}
 use Rattle.bundles.specs.Limits.{bundleMost}
 use Rattle.bundles.specs.Recordings.{Recording, sampleCount}
-use Rattle.tables.specs.Tables.{laidOut, spelled}
+use Rattle.tables.specs.Tables.{layoutIn, recordingIn}
 use Rattle.tables.proofs.Layouts.{samples-most}
-use Rattle.resolving.specs.Resolving.{sampleOf}
-use Rattle.judging.proofs.Amounts.{sample-from, spelled-most}
-use Rattle.naming.specs.Naming.{namersIn}
+use Rattle.resolution_rules.specs.Resolving.{sampleOf}
+use Rattle.judging.proofs.Amounts.{sample-from, contents-most}
+use Rattle.naming_list_rules.specs.Naming.{namersIn}
 use Rattle.naming_list.specs.Steps.{namersFrom}
 use Rattle.naming_list.proofs.Namers.{namers-formed}
 use Rattle.naming_list.proofs.Listings.{namers-few, some-formed, Putting, putting-start, putting-length, putting-most, putting-none, putting-room, putting-some, putting-end}
@@ -21,22 +21,22 @@ use Rattle.naming_list.proofs.put_list.Statement.{statement}
 use Rattle.naming_list.proofs.put_list.Tie as tie
 
 abbrev Inv-loop : tie.InvT-loop
-Inv-loop out₀ b t s total at₀ n₀ out at n = Putting (spelled b t) (s .0) out₀ n at out
+Inv-loop out₀ b t s total at₀ n₀ out at n = Putting (recordingIn b t) (s .0) out₀ n at out
 
 abbrev μ-loop : tie.MeasureT-loop
 μ-loop out₀ b t s total at₀ n₀ out at n = total - n
 
 abbrev R : tie.In-loop Inv-loop μ-loop → Recording
-R c = spelled (c .before .before .before .before .before .before .args .b .now) (c .before .before .before .before .before .before .args .t .now)
+R c = recordingIn (c .before .before .before .before .before .before .args .b .now) (c .before .before .before .before .before .before .args .t .now)
 
 -- one sample more
 next : (c : tie.In-loop Inv-loop μ-loop) → (c .before .loop .n < sampleCount (R c .layout)) × (sampleCount (R c .layout) ≤ 4096)
-unfolding spelled
+unfolding recordingIn
 next c = (rw (c .before .before .sample-count .ensures) at (c .loop-test .taken), samples-most (c .before .before .before .before .before .before .args .t .now))
 
 -- its flag
 flag : (c : tie.After-flag Inv-loop μ-loop) → c .flag .result ≡ length (namersIn (R (c .before)) (c .before .before .before .before .before .before .before .args .s .0) (c .before .before .loop .n + 1))
-unfolding spelled
+unfolding recordingIn
 flag c = let h = next (c .before) .0 in c .flag .ensures ∙ c .before .before .before .before .before .before .before .pre .2 _ (omega arith) (omega arith)
 
 -- the sample, which is well formed
@@ -47,8 +47,8 @@ formed : (c : tie.After-put-namers-arg Inv-loop μ-loop) → check (sample (c .b
 formed c = some-formed (R (c .before .before .before .before .before)) (c .before .before .before .before .before .before .before .before .before .before .before .args .s .0) (c .before .before .before .before .before .before .loop .n + 1) _ (same c) (λ z. c .before .before .before .if1 .taken (flag (c .before .before .before .before) ∙ z))
 
 -- its extractors that name s
-namers : (c : tie.After-put-namers-arg Inv-loop μ-loop) → namersFrom (laidOut (c .before .before .before .before .before .before .before .before .before .before .before .args .t .now)) (c .before .before .before .before .before .before .before .before .before .before .before .args .s .0) (c .before .before .before .before .before .before .loop .n + 1) (sample (c .before .before .track-of .result) (c .before .sample-bytes .result .now)) 0 ≡ namersIn (R (c .before .before .before .before .before)) (c .before .before .before .before .before .before .before .before .before .before .before .args .s .0) (c .before .before .before .before .before .before .loop .n + 1)
-unfolding spelled
+namers : (c : tie.After-put-namers-arg Inv-loop μ-loop) → namersFrom (layoutIn (c .before .before .before .before .before .before .before .before .before .before .before .args .t .now)) (c .before .before .before .before .before .before .before .before .before .before .before .args .s .0) (c .before .before .before .before .before .before .loop .n + 1) (sample (c .before .before .track-of .result) (c .before .sample-bytes .result .now)) 0 ≡ namersIn (R (c .before .before .before .before .before)) (c .before .before .before .before .before .before .before .before .before .before .before .args .s .0) (c .before .before .before .before .before .before .loop .n + 1)
+unfolding recordingIn
 namers c = namers-formed (R (c .before .before .before .before .before)) (c .before .before .before .before .before .before .before .before .before .before .before .args .s .0) (c .before .before .before .before .before .before .loop .n + 1) _ (same c) (formed c)
 
 number : (c : tie.After-slice-known2 Inv-loop μ-loop) → c .before .before .put-namers .result ≡ length (namersIn (R (c .before .before .before .before .before .before .before .before)) (c .before .before .before .before .before .before .before .before .before .before .before .before .before .before .args .s .0) (c .before .before .before .before .before .before .before .before .before .loop .n + 1))
@@ -59,9 +59,9 @@ few : (c : tie.In-loop Inv-loop μ-loop) → (c .before .loop .at ≤ c .before 
 few c =
     let a = c .before .before .before .before .before .before .args in
     let m = namers-few (R c) (a .s .0) (c .before .loop .n + 1) in
-    let l = spelled-most (a .b .now) (a .t .now) (c .before .loop .n + 1) in
+    let l = contents-most (a .b .now) (a .t .now) (c .before .loop .n + 1) in
     let h = c .before .before .before .before .before .before .pre .0 in
-    (putting-most _ _ _ bundleMost (λ k. let j = spelled-most (a .b .now) (a .t .now) k in omega arith) _ _ _ (c .before .loop .inv), omega arith)
+    (putting-most _ _ _ bundleMost (λ k. let j = contents-most (a .b .now) (a .t .now) k in omega arith) _ _ _ (c .before .loop .inv), omega arith)
 
 sample-count-requires : tie.Need-sample-count-requires Inv-loop μ-loop
 sample-count-requires c κs = search needs
@@ -84,7 +84,7 @@ sample-bytes-requires c κs = search needs
 put-namers-requires : tie.Need-put-namers-requires Inv-loop μ-loop
 put-namers-requires c κs =
     let a = c .before .before .before .before .before .before .before .before .before .before .before .args in
-    let m = spelled-most (a .b .now) (a .t .now) (c .before .before .before .before .before .before .loop .n + 1) in
+    let m = contents-most (a .b .now) (a .t .now) (c .before .before .before .before .before .before .loop .n + 1) in
     let l : length (c .before .sample-bytes .result .now) ≤ length (a .b .now) = rw (c .before .sample-bytes .ensures) m in
     let s = c .before .before .before .before .before .before .before .before .before .before .before .pre .0 in
     let f = few (c .before .before .before .before .before) in
@@ -118,7 +118,7 @@ same-length : tie.Need-same-length Inv-loop μ-loop
 same-length c = putting-length _ _ _ (c .before .before .before .before .before .before .pre .1) _ _ _ (c .before .loop .inv)
 
 returns : tie.Need-returns Inv-loop μ-loop
-unfolding spelled
+unfolding recordingIn
 returns c = putting-end _ _ _ (c .before .before .before .before .before .before .pre .1) _ _ _ (c .before .loop .inv) (rw (c .before .before .sample-count .ensures) at (c .loop-test .left))
 
 pub put-list-spec : {M : Type 1} → statement M

@@ -13,7 +13,7 @@ use Rattle.units.specs.Aggregators.{includedStart}
 use Rattle.units.proofs.Units.{next-after}
 use Rattle.samples.proofs.Walks.{next-is}
 use Rattle.bundles.specs.Limits.{bundleMost}
-use Rattle.tables.specs.Tables.{laidOut}
+use Rattle.tables.specs.Tables.{layoutIn}
 use Rattle.copies.proofs.Flat.{Walking}
 use Rattle.copies.proofs.Rest.{walking-skip, walking-take}
 use Rattle.naming_list.specs.Steps.{namesAt}
@@ -22,7 +22,7 @@ use Rattle.naming_list.proofs.put_namers.Statement.{statement}
 use Rattle.naming_list.proofs.put_namers.Tie as tie
 
 abbrev Inv-loop : tie.InvT-loop
-Inv-loop out₀ at t n k x s l w count₀ p₀ out count p = Looking (laidOut t) (s .0) (n .0) (sample k x) out₀ at p count out
+Inv-loop out₀ at t n k x s l w count₀ p₀ out count p = Looking (layoutIn t) (s .0) (n .0) (sample k x) out₀ at p count out
 
 abbrev μ-loop : tie.MeasureT-loop
 μ-loop out₀ at t n k x s l w count₀ p₀ out count p = length x - p
@@ -58,7 +58,7 @@ few c = (looking-few _ _ _ _ _ _ _ _ _ (c .before .loop .inv), c .before .before
 -- one more, or none
 one : (c : tie.After-slice-known2 Inv-loop μ-loop) → c .before .before .put-namer .result ≤ 1
 one c =
-    let t = namesAt (laidOut (c .before .before .before .before .before .before .before .before .before .before .before .before .args .t .now)) (c .before .before .before .before .before .before .before .before .before .before .before .before .args .s .0) (c .before .before .before .before .before .before .before .before .before .before .before .before .args .n .0) (X (c .before .before .before .before .before .before)) (P (c .before .before .before .before .before .before)) in
+    let t = namesAt (layoutIn (c .before .before .before .before .before .before .before .before .before .before .before .before .args .t .now)) (c .before .before .before .before .before .before .before .before .before .before .before .before .args .s .0) (c .before .before .before .before .before .before .before .before .before .before .before .before .args .n .0) (X (c .before .before .before .before .before .before)) (P (c .before .before .before .before .before .before)) in
     rw (c .before .before .put-namer .ensures .0) (by-bool t (λ q. rw q (omega arith)) (λ q. rw q (omega arith)))
 
 ends : (c : tie.After-number Inv-loop μ-loop) → P (c .before .before .before .before .before .before .before) + c .before .before .before .before .before .before .before .before .before .bytes .result + c .number .result ≡ next (X (c .before .before .before .before .before .before .before)) (P (c .before .before .before .before .before .before .before))

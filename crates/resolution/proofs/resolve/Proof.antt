@@ -6,7 +6,7 @@ use lib.ListN.{length}
 use Rattle.resolution.proofs.resolve.Statement.{statement}
 use Rattle.words.proofs.Buffers.{refuse}
 use Rattle.filling.proofs.Promises.{says-refused, never-short, table-short}
-use Rattle.resolving.proofs.Calls.{call-bundle}
+use Rattle.resolution_rules.proofs.Calls.{call-bundle}
 use Rattle.resolution.proofs.Answered.{call-filled}
 use Rattle.resolution.proofs.resolve.Tie as tie
 

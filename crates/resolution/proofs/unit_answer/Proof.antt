@@ -4,7 +4,7 @@ use native.Mathlib.Omega.{arith}
 use mathlib.Core.Path.{sym, _∙_}
 use Rattle.resolution.proofs.unit_answer.Statement.{statement}
 use Rattle.filling.proofs.Promises.{says-refused, never-short, table-short}
-use Rattle.resolving.proofs.Calls.{unit-bundle}
+use Rattle.resolution_rules.proofs.Calls.{unit-bundle}
 use Rattle.resolution.proofs.Answered.{unit-filled}
 use Rattle.resolution.proofs.unit_answer.Tie as tie
 

@@ -4,8 +4,8 @@ use native.Mathlib.Omega.{arith}
 use mathlib.Core.Path.{sym, ap, _∙_}
 use Rattle.resolution.proofs.unit_bytes.Statement.{statement}
 use Rattle.filling.proofs.Promises.{says-refused, never-short, table-short}
-use Rattle.resolving.specs.Calls.{unitPart}
-use Rattle.resolving.proofs.Calls.{unit-bundle}
+use Rattle.resolution_rules.specs.Calls.{unitPart}
+use Rattle.resolution_rules.proofs.Calls.{unit-bundle}
 use Rattle.resolution.proofs.Answered.{part-filled}
 use Rattle.resolution.proofs.unit_bytes.Tie as tie
 

@@ -4,8 +4,8 @@ use native.Mathlib.Omega.{arith}
 use mathlib.Core.Path.{sym, ap, _∙_}
 use Rattle.bundles.specs.Bundles.{contentAt}
 use Rattle.filling.proofs.Promises.{says-refused, never-short, table-short}
-use Rattle.resolving.specs.Calls.{placedBy, placeCall}
-use Rattle.resolving.proofs.Calls.{unit-bundle}
+use Rattle.resolution_rules.specs.Calls.{placedBy, placeCall}
+use Rattle.resolution_rules.proofs.Calls.{unit-bundle}
 use Rattle.resolution.proofs.Answered.{place-filled, starts-inside}
 use Rattle.resolution.proofs.unit_place.Statement.{statement}
 use Rattle.resolution.proofs.unit_place.Tie as tie

@@ -6,7 +6,7 @@ use Prim.Native.Nat.{_+_, _-_, _≤_, _<_}
 use Rattle.tables.proofs.reference.Statement.{statement}
 use native.Mathlib.Nat.{pos-of-ne-zero}
 use Rattle.bundles.specs.Recordings.{noReference, referencesFrom}
-use Rattle.tables.specs.Tables.{laidOut}
+use Rattle.tables.specs.Tables.{layoutIn}
 use Rattle.words.proofs.Rows.{nth-none}
 use Rattle.tables.proofs.References.{counted, counted-none, counted-more, found-here, found-none}
 use Rattle.tables.proofs.reference.Tie as tie
@@ -24,7 +24,7 @@ more c = c .one-more .ensures .0 ∙ rw (c .before .cell .ensures, c .before .be
 returns : tie.Need-returns Inv-loop μ-loop
 returns c =
     let a = c .before .before .args in
-    rw (c .if1 .taken) (sym (ap (λ f. f .to) (nth-none (referencesFrom (laidOut (a .t .now)) (a .k .0)) noReference)))
+    rw (c .if1 .taken) (sym (ap (λ f. f .to) (nth-none (referencesFrom (layoutIn (a .t .now)) (a .k .0)) noReference)))
 
 reference-total-requires : tie.Need-reference-total-requires Inv-loop μ-loop
 reference-total-requires c κs = search needs

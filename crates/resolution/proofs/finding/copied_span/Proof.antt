@@ -4,25 +4,25 @@ use mathlib.Core.Path.{_≡_, sym, _∙_}
 use Rattle.resolution.proofs.finding.copied_span.Statement.{statement}
 use Rattle.units.specs.Units.{Sample, sample, end}
 use Rattle.units.proofs.Units.{whole-end}
-use Rattle.tables.specs.Tables.{laidOut, spelled}
+use Rattle.tables.specs.Tables.{layoutIn, recordingIn}
 use Rattle.bundles.specs.Recordings.{Recording}
 use Rattle.links.specs.Links.{nameFault, sampleNamed}
 use Rattle.links.proofs.Naming.{naming-refused, naming-sample}
 use Rattle.copies.proofs.Answers.{place-whole}
-use Rattle.resolving.specs.Resolving.{sampleOf}
+use Rattle.resolution_rules.specs.Resolving.{sampleOf}
 use Rattle.judging.proofs.Amounts.{sample-from}
 use Rattle.resolution.proofs.Spans.{span-refused, span-past, span-here}
 use Rattle.resolution.proofs.finding.copied_span.Tie as tie
 
 abbrev R : tie.After-name → Recording
-R c = spelled (c .before .before .before .args .b .now) (c .before .before .before .args .t .now)
+R c = recordingIn (c .before .before .before .args .b .now) (c .before .before .before .args .t .now)
 
 abbrev Z : tie.After-copied-place → Sample
 Z c = sample (c .before .before .track-of .result) (c .before .sample-bytes .result .now)
 
 named : (c : tie.After-named) → let a = c .before .before .before .before .before .args in (nameFault (R (c .before .before) .layout) (a .n .0) (a .f .«track_ref_index») (a .f .«sample_offset») ≡ 0) × (sampleNamed (R (c .before .before) .layout) (a .n .0) (a .f .«track_ref_index») (a .f .«sample_offset») ≡ c .named .given .0 .0 .0)
-unfolding spelled
-named c = let a = c .before .before .before .before .before .args in let w = naming-sample (laidOut (a .t .now)) (a .n .0) (a .f .«track_ref_index») (a .f .«sample_offset») (sym (c .before .before .name .ensures) ∙ c .named .given .1) in (w .0, w .1)
+unfolding recordingIn
+named c = let a = c .before .before .before .before .before .args in let w = naming-sample (layoutIn (a .t .now)) (a .n .0) (a .f .«track_ref_index») (a .f .«sample_offset») (sym (c .before .before .name .ensures) ∙ c .named .given .1) in (w .0, w .1)
 
 same : (c : tie.After-copied-place) → Z c ≡ sampleOf (R (c .before .before .before .before .before .before)) (c .before .before .before .before .named .given .0 .0 .0)
 same c = let a = c .before .before .before .before .before .before .before .before .before .args in sample-from (a .b .now) (a .t .now) _ (c .before .before .track-of .ensures) (c .before .sample-bytes .ensures)
@@ -64,11 +64,11 @@ span-of-requires c κs =
     rw e (whole-end z (end z) _ (place-whole z (a .f .«data_offset» .0) (a .f .«data_length») (a .i) (rw e at (c .if1 .left))) .1)
 
 returns-2 : tie.Need-returns-2
-unfolding spelled
+unfolding recordingIn
 returns-2 c =
     let a = c .before .before .before .before .before .before .args in
-    let w = naming-refused (laidOut (a .t .now)) (a .n .0) (a .f .«track_ref_index») (a .f .«sample_offset») (sym (c .before .before .before .name .ensures) ∙ c .before .enum-told .given .1) in
-    c .no-unit .ensures ∙ sym (span-refused (spelled (a .b .now) (a .t .now)) (a .n .0) (a .f) (a .i) (w .0) (w .1))
+    let w = naming-refused (layoutIn (a .t .now)) (a .n .0) (a .f .«track_ref_index») (a .f .«sample_offset») (sym (c .before .before .before .name .ensures) ∙ c .before .enum-told .given .1) in
+    c .no-unit .ensures ∙ sym (span-refused (recordingIn (a .b .now) (a .t .now)) (a .n .0) (a .f) (a .i) (w .0) (w .1))
 
 returns-3 : tie.Need-returns-3
 returns-3 c =

@@ -11,15 +11,15 @@ use Rattle.units.specs.Units.{Sample, sample, size, next, isAggregator}
 use Rattle.units.specs.Aggregators.{includedStart}
 use Rattle.units.proofs.Units.{next-after}
 use Rattle.samples.proofs.Walks.{next-is}
-use Rattle.tables.specs.Tables.{spelled}
+use Rattle.tables.specs.Tables.{recordingIn}
 use Rattle.bundles.specs.Recordings.{Recording}
-use Rattle.judging.proofs.Amounts.{spelled-most}
+use Rattle.judging.proofs.Amounts.{contents-most}
 use Rattle.judging.proofs.Counting.{Passing, passing-skip, passing-take}
 use Rattle.resolution.proofs.Spans.{Seeking, seeking-start, seeking-skip, seeking-found, seeking-take, seeking-end}
 use Rattle.resolution.proofs.finding.find.Tie as tie
 
 abbrev Inv-loop : tie.InvT-loop
-Inv-loop b t n k x i l w left₀ p₀ left p = Seeking (spelled b t) (n .0) (sample k x) i p left
+Inv-loop b t n k x i l w left₀ p₀ left p = Seeking (recordingIn b t) (n .0) (sample k x) i p left
 
 abbrev μ-loop : tie.MeasureT-loop
 μ-loop b t n k x i l w left₀ p₀ left p = length x - p
@@ -32,7 +32,7 @@ abbrev X : At → Sample
 X c = sample (c .before .before .before .before .before .before .args .k) (c .before .before .before .before .before .before .args .x .now)
 
 abbrev R : At → Recording
-R c = spelled (c .before .before .before .before .before .before .args .b .now) (c .before .before .before .before .before .before .args .t .now)
+R c = recordingIn (c .before .before .before .before .before .before .args .b .now) (c .before .before .before .before .before .before .args .t .now)
 
 abbrev P : At → ℕ
 P c = c .before .loop .p
@@ -60,7 +60,7 @@ bytes-requires c κs = search needs
 loop-holds : tie.Need-loop-holds Inv-loop μ-loop
 loop-holds c =
     let a = c .before .before .before .before .args in let h = c .before .before .before .before .pre in
-    seeking-start _ _ _ _ (h .0) (h .1) (λ m. let l = spelled-most (a .b .now) (a .t .now) m in omega (arith, h .2)) (h .3)
+    seeking-start _ _ _ _ (h .0) (h .1) (λ m. let l = contents-most (a .b .now) (a .t .now) m in omega (arith, h .2)) (h .3)
 
 type-at-requires : tie.Need-type-at-requires Inv-loop μ-loop
 type-at-requires c κs = search needs

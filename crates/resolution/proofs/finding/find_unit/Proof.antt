@@ -4,11 +4,11 @@ use mathlib.Core.Path.{_≡_, sym, ap, _∙_}
 use lib.ListN.{length}
 use Rattle.resolution.proofs.finding.find_unit.Statement.{statement}
 use Rattle.units.specs.Units.{sample}
-use Rattle.tables.specs.Tables.{spelled}
+use Rattle.tables.specs.Tables.{recordingIn}
 use Rattle.words.specs.Refusals.{ok}
 use Rattle.bundles.specs.Recordings.{Recording, sampleCount}
-use Rattle.resolving.specs.Resolving.{delivered, judged}
-use Rattle.resolving.specs.Calls.{output, numberFault}
+use Rattle.resolution_rules.specs.Resolving.{delivered, judged}
+use Rattle.resolution_rules.specs.Calls.{output, numberFault}
 use Rattle.judging.specs.Steps.{answerOf}
 use Rattle.judging.proofs.Amounts.{sample-from}
 use Rattle.judging.proofs.Judgements.{judged-refused, judged-good}
@@ -16,11 +16,11 @@ use Rattle.resolution.proofs.Answered.{number-some, find-number, find-s
 use Rattle.resolution.proofs.finding.find_unit.Tie as tie
 
 abbrev R : tie.Else1 → Recording
-R c = spelled (c .before .before .before .before .before .args .b .now) (c .before .before .before .before .before .args .t .now)
+R c = recordingIn (c .before .before .before .before .before .args .b .now) (c .before .before .before .before .before .args .t .now)
 
 -- the number is good, or it is not
-fault : (c : tie.After-number-fault) → c .number-fault .result ≡ numberFault (sampleCount (spelled (c .before .before .before .before .args .b .now) (c .before .before .before .before .args .t .now) .layout)) (c .before .before .before .before .args .n .0)
-unfolding spelled
+fault : (c : tie.After-number-fault) → c .number-fault .result ≡ numberFault (sampleCount (recordingIn (c .before .before .before .before .args .b .now) (c .before .before .before .before .args .t .now) .layout)) (c .before .before .before .before .args .n .0)
+unfolding recordingIn
 fault c = rw (c .before .sample-count .ensures) at (c .number-fault .ensures)
 
 sound : (c : tie.Else1) → numberFault (sampleCount (R c .layout)) (c .before .before .before .before .before .args .n .0) ≡ 0

@@ -6,9 +6,9 @@ use Prim.Native.Nat.{_≤_}
 use lib.ListN.{length}
 use Rattle.words.specs.Refusals.{ok}
 use Rattle.bundles.specs.Recordings.{contentOf, sampleCount}
-use Rattle.tables.specs.Tables.{spelled, laidOut, startIn}
-use Rattle.resolving.specs.Calls.{unitOf, placedBy}
-use Rattle.judging.proofs.Amounts.{spelled-most}
+use Rattle.tables.specs.Tables.{recordingIn, layoutIn, startIn}
+use Rattle.resolution_rules.specs.Calls.{unitOf, placedBy}
+use Rattle.judging.proofs.Amounts.{contents-most}
 use Rattle.resolution.specs.Steps.{spanFor}
 use Rattle.resolution.specs.Answers.{unitAnswerOf}
 use Rattle.resolution.proofs.Answered.{found-inside, found-there}
@@ -16,7 +16,7 @@ use Rattle.resolution.proofs.finding.place_unit.Statement.{statement}
 use Rattle.resolution.proofs.finding.place_unit.Tie as tie
 
 -- the unit that was found
-found : (c : tie.After-known-told2) → let a = c .before .before .before .before .before .before .args in unitOf (spelled (a .b .now) (a .t .now)) (a .n .0) (a .i) ≡ ok (spanFor (c .before .found2 .given .0 .0))
+found : (c : tie.After-known-told2) → let a = c .before .before .before .before .before .before .args in unitOf (recordingIn (a .b .now) (a .t .now)) (a .n .0) (a .i) ≡ ok (spanFor (c .before .found2 .given .0 .0))
 found c = sym (c .before .before .before .find-unit .ensures) ∙ ap unitAnswerOf (c .before .found2 .given .1)
 
 find-unit-requires : tie.Need-find-unit-requires
@@ -32,15 +32,15 @@ sample-start-requires : tie.Need-sample-start-requires
 sample-start-requires c κs = search needs
 
 add-start : tie.Need-add-start
-unfolding spelled
+unfolding recordingIn
 add-start c =
     let a = c .before .before .before .before .before .before .before .before .before .args in
     let u = c .before .before .before .before .found2 .given .0 .0 in
-    let r = spelled (a .b .now) (a .t .now) in
+    let r = recordingIn (a .b .now) (a .t .now) in
     let i = found-inside r (a .n .0) (a .i) (spanFor u) (found (c .before .before .before)) in
     let w = found-there r (a .n .0) (a .i) (spanFor u) (found (c .before .before .before)) in
     let s = c .before .before .before .before .before .before .before .before .before .pre .1 (u .sample .0) (w .0) (w .1) in
-    let m = spelled-most (a .b .now) (a .t .now) (u .sample .0) in
+    let m = contents-most (a .b .now) (a .t .now) (u .sample .0) in
     let l = c .before .before .before .before .before .before .before .before .before .pre .0 in
     let e = c .before .before .sample-start .ensures in
     omega arith

@@ -6,10 +6,10 @@ use lib.ListN.{length}
 use Rattle.resolution.proofs.writing.resolve_sample.Statement.{statement}
 use Rattle.words.specs.Refusals.{ok}
 use Rattle.words.proofs.Buffers.{refuse, accept}
-use Rattle.tables.specs.Tables.{spelled}
+use Rattle.tables.specs.Tables.{recordingIn}
 use Rattle.bundles.specs.Recordings.{Recording, sampleCount}
-use Rattle.resolving.specs.Resolving.{delivered, judged}
-use Rattle.resolving.specs.Calls.{output, numberFault}
+use Rattle.resolution_rules.specs.Resolving.{delivered, judged}
+use Rattle.resolution_rules.specs.Calls.{output, numberFault}
 use Rattle.judging.specs.Steps.{answerOf}
 use Rattle.judging.proofs.Amounts.{sample-from}
 use Rattle.judging.proofs.Judgements.{judged-refused, judged-good}
@@ -17,11 +17,11 @@ use Rattle.resolution.proofs.Answered.{number-refused, sample-refused, 
 use Rattle.resolution.proofs.writing.resolve_sample.Tie as tie
 
 abbrev R : tie.Else1 → Recording
-R c = spelled (c .before .before .before .before .before .before .args .b .now) (c .before .before .before .before .before .before .args .t .now)
+R c = recordingIn (c .before .before .before .before .before .before .args .b .now) (c .before .before .before .before .before .before .args .t .now)
 
 -- the number is good, or it is not
-fault : (c : tie.After-number-fault) → c .number-fault .result ≡ numberFault (sampleCount (spelled (c .before .before .before .before .before .args .b .now) (c .before .before .before .before .before .args .t .now) .layout)) (c .before .before .before .before .before .args .n .0)
-unfolding spelled
+fault : (c : tie.After-number-fault) → c .number-fault .result ≡ numberFault (sampleCount (recordingIn (c .before .before .before .before .before .args .b .now) (c .before .before .before .before .before .args .t .now) .layout)) (c .before .before .before .before .before .args .n .0)
+unfolding recordingIn
 fault c = rw (c .before .sample-count .ensures) at (c .number-fault .ensures)
 
 sound : (c : tie.Else1) → numberFault (sampleCount (R c .layout)) (c .before .before .before .before .before .before .args .n .0) ≡ 0

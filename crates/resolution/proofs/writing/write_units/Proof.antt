@@ -11,7 +11,7 @@ use Rattle.units.specs.Units.{Sample, sample, size, next, isAggregator}
 use Rattle.units.specs.Aggregators.{includedStart}
 use Rattle.units.proofs.Units.{next-after}
 use Rattle.samples.proofs.Walks.{next-is}
-use Rattle.tables.specs.Tables.{spelled}
+use Rattle.tables.specs.Tables.{recordingIn}
 use Rattle.bundles.specs.Recordings.{Recording}
 use Rattle.resolution.specs.Steps.{bytesAt}
 use Rattle.judging.proofs.Counting.{Passing, passing-skip, passing-take}
@@ -19,7 +19,7 @@ use Rattle.resolution.proofs.Output.{Writing, writing-start, writing-le
 use Rattle.resolution.proofs.writing.write_units.Tie as tie
 
 abbrev Inv-loop : tie.InvT-loop
-Inv-loop out₀ b t n k x l w at₀ p₀ out at p = Writing (spelled b t) (n .0) (sample k x) out₀ p at out
+Inv-loop out₀ b t n k x l w at₀ p₀ out at p = Writing (recordingIn b t) (n .0) (sample k x) out₀ p at out
 
 abbrev μ-loop : tie.MeasureT-loop
 μ-loop out₀ b t n k x l w at₀ p₀ out at p = length x - p
@@ -32,7 +32,7 @@ abbrev X : At → Sample
 X c = sample (c .before .before .before .before .before .before .before .args .k) (c .before .before .before .before .before .before .before .args .x .now)
 
 abbrev R : At → Recording
-R c = spelled (c .before .before .before .before .before .before .before .args .b .now) (c .before .before .before .before .before .before .before .args .t .now)
+R c = recordingIn (c .before .before .before .before .before .before .before .args .b .now) (c .before .before .before .before .before .before .before .args .t .now)
 
 abbrev P : At → ℕ
 P c = c .before .loop .p

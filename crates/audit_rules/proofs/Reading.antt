@@ -1,0 +1,90 @@
+-- What is read back from the lines of an accepted bundle: no number is cut by its width. Assumes nothing.
+--
+--   read-at                     a number that was written is read back where it stands
+--   line-reads                  the three numbers of a line
+--   content-few, units-few      bytes and delivered units of a sample of an accepted bundle, at most
+--   found                       what the line of a sample says
+--   said-found                  so the line and the sample's length give the outcome
+--   line-each                   for all lines
+use Prim.Native.Nat.{ℕ, _+_, _*_, _^_, _≤_, _<_}
+use mathlib.Core.Path.{_≡_, ap, sym, _∙_}
+use mathlib.Core.List.{List, [], _++_, append-assoc, append-nil}
+use native.Mathlib.Omega.{arith}
+use borrow.Author.Tests.{ne-eqb}
+use lib.Dec.{lit<}
+use lib.ListN.{length, drop, length-append}
+use lib.Seq.{drop-at}
+use Rattle.words.specs.Refusals.{ok}
+use Rattle.words.specs.Bytes.{big, bytes}
+use Rattle.words.proofs.Bytes.{bytes-length, big-bytes, big-inside}
+use Rattle.bundles.specs.Limits.{bundleMost}
+use Rattle.bundles.specs.Recordings.{Recording, contentOf}
+use Rattle.bundles.specs.Bundles.{meaning}
+use Rattle.bundles.proofs.Promises.{limits-kept}
+use Rattle.resolution_rules.specs.Resolving.{judged, delivered}
+use Rattle.resolution_rules.proofs.Good.{good-rules, judged-refused}
+use Rattle.resolution_rules.proofs.Sizes.{delivered-count, content-most}
+use Rattle.tally.specs.declared.Outcome.{Outcome}
+use Rattle.audit_rules.specs.Auditing.{refusalSize, placeSize, unitsSize, outcomeOf, lineOf, lines}
+use Rattle.audit_rules.specs.Rules.{Reads, said, Found, LineEach}
+use Rattle.audit_rules.proofs.Outcomes.{empty-good, empty-nothing, outcome-empty, outcome-passed, outcome-refused, by-outcome}
+use Rattle.audit_rules.proofs.Lines.{line-refused, line-good, lines-length, line-at}
+
+pub read-at : (s : List ℕ) (p n v : ℕ) (rest : List ℕ) → drop p s ≡ bytes n v ++ rest → v < 256 ^ n → big s p n ≡ v
+read-at s p n v rest e h =
+    let l = bytes-length n v in
+    let a : p + 0 ≡ p = omega arith in
+    let b : big s (p + 0) n ≡ big (bytes n v) 0 n = big-inside s p (bytes n v) rest e 0 n (omega arith) in
+    let c : big (bytes n v ++ []) 0 n ≡ v = big-bytes n v [] h in
+    ap (λ (q : ℕ). big s q n) (sym a) ∙ b ∙ ap (λ (x : List ℕ). big x 0 n) (sym (append-nil (bytes n v))) ∙ c
+
+pub line-reads : (m p units : ℕ) → m < 256 ^ refusalSize → p < 256 ^ placeSize → units < 256 ^ unitsSize → Reads (bytes refusalSize m ++ bytes placeSize p ++ bytes unitsSize units) m p units
+line-reads m p units h k l =
+    let a = bytes refusalSize m in
+    let b = bytes placeSize p in
+    let c = bytes unitsSize units in
+    let x = bytes-length refusalSize m in
+    let y = bytes-length placeSize p in
+    let z = bytes-length unitsSize units in
+    let front : length (a ++ b) ≡ refusalSize + placeSize = length-append a b ∙ (omega arith) in
+    record {
+      size = length-append (a ++ b) c ∙ (omega arith);
+      refusal = read-at _ 0 refusalSize m (b ++ c) (append-assoc a b c) h;
+      place = read-at _ refusalSize placeSize p c (ap (drop refusalSize) (append-assoc a b c) ∙ drop-at a (b ++ c) refusalSize x) k;
+      units = read-at _ (refusalSize + placeSize) unitsSize units [] (drop-at (a ++ b) c (refusalSize + placeSize) front ∙ sym (append-nil c)) l;
+    }
+
+module _ (b : List ℕ) (r : Recording) (accepted : meaning b ≡ ok r) where
+  pub content-few : (n : ℕ) → length (contentOf r n) ≤ bundleMost
+  content-few n = let c = content-most b r accepted n in let l = limits-kept b r accepted .bytes in omega arith
+
+  pub units-few : (n : ℕ) → judged r n ≡ ok tt → length (delivered r n) ≤ bundleMost * bundleMost
+  units-few n j = delivered-count r n (good-rules r n j) bundleMost content-few
+
+  pub found : (n : ℕ) → Found r n (lineOf r n) (outcomeOf r n)
+  found n = by-outcome r n
+      (λ z.
+      let e : lineOf r n ≡ bytes refusalSize 0 ++ bytes placeSize 0 ++ bytes unitsSize 0 = line-good r n (empty-good r n z) ∙ rw (empty-nothing r n z) in
+      rw (outcome-empty r n z, e) (Found.empty z (line-reads 0 0 0 (lit< tt) (lit< tt) (lit< tt))))
+      (λ h j.
+      let u = units-few n j in
+      rw (outcome-passed r n h j, line-good r n j) (Found.good h j (line-reads 0 0 (length (delivered r n)) (lit< tt) (lit< tt) (omega arith))))
+      (λ m p j.
+      let w = judged-refused r n m p j in
+      let k = w .1 in
+      let l = w .2 in
+      let c = content-few n in
+      rw (outcome-refused r n j, line-refused r n j) (Found.bad j w (line-reads m p 0 (omega arith) (omega arith) (lit< tt))))
+
+  pub said-found : (n : ℕ) (s : List ℕ) (o : Outcome) → Found r n s o → said s (length (contentOf r n)) ≡ o
+  said-found n s o (Found.good h j w) = rw (w .refusal, ne-eqb (length (contentOf r n)) 0 (λ z. absurd (omega arith)))
+  said-found n s o (Found.empty z w) = rw (w .refusal, z)
+  said-found n s o (Found.bad {m} {p} j k w) = let a = k .0 in rw (w .refusal, ne-eqb m 0 (λ z. absurd (omega arith)))
+
+  pub line-each : LineEach r (lines r)
+  line-each =
+      record {
+        size = lines-length r;
+        found = λ n h l. rw (line-at r n h l) (found n);
+        says = λ n h l. rw (line-at r n h l) (said-found n (lineOf r n) (outcomeOf r n) (found n));
+      }

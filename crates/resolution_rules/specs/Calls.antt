@@ -1,0 +1,87 @@
+-- What the calls on a bundle answer (01, 'Resolving', 'Numbers for no'): 1 to 13 first, then 30, then 14 to 28, then 29; for one delivered
+-- unit 30 again, for its number, after 28.
+--
+--   spanBytes r u           the bytes of a delivered unit
+--   output r us             delivered units, each after a 4-byte length
+--   numberFault count n     30
+--   resolve r n             sample n resolved
+--   unitOf r n k            the kth unit that sample n delivers
+--   resolveCall b n room    the call on a bundle, with room for the output
+--   unitCall b n k          the call for one unit
+--   placeCall b n k         the call for where in the bundle that unit stands
+--   spanIn b u              a delivered unit as a part of the bundle
+--   unitPart b a            that part for the answer of unitCall; empty if refused
+use Prim.Native.Nat.{ℕ, _+_}
+use mathlib.Core.List.{List, [], _++_}
+use lib.ListN.{length}
+use Rattle.words.specs.Tests.{_<?_, _≡?_}
+use Rattle.words.specs.RefusalNumbers.{noSuchNumber}
+use Rattle.words.specs.Refusals.{_if_, _orElse_, Answer, refused, ok, _andThen_, _atPlace_}
+use Rattle.words.specs.Lists.{each, nth}
+use Rattle.words.specs.Bytes.{bytes, part}
+use Rattle.words.specs.Buffers.{within}
+use Rattle.bundles.specs.Recordings.{Recording, sampleCount, contentOf}
+use Rattle.bundles.specs.Bundles.{meaning, contentAt}
+use Rattle.copies.specs.Written.{lengthBefore}
+use Rattle.resolution_rules.specs.Resolving.{Span, delivered, judged}
+
+module _ (r : Recording) where
+  abbrev pub spanBytes : Span → List ℕ
+  spanBytes u = part (contentOf r (u .sample)) (u .start) (u .size)
+
+  unfoldable pub written : Span → List ℕ
+  written u = bytes lengthBefore (u .size) ++ spanBytes u
+
+  unfoldable pub output : List Span → List ℕ
+  output us = each written us
+
+-- 30: a number 0 or past the last
+unfoldable pub numberFault : ℕ → ℕ → ℕ
+numberFault count n =
+    noSuchNumber if n ≡? 0 orElse
+    noSuchNumber if count <? n
+
+-- there is no unit 0
+abbrev pub noSpan : Span
+noSpan = record { sample = 0; start = 0; size = 0 }
+
+module _ (r : Recording) (n : ℕ) where
+  unfoldable pub resolve : Answer (List ℕ)
+  resolve = numberFault (sampleCount (r .layout)) n atPlace 0 andThen judged r n andThen ok (output r (delivered r n))
+
+  unfoldable pub unitOf : ℕ → Answer Span
+  unitOf k =
+      numberFault (sampleCount (r .layout)) n atPlace 0 andThen judged r n andThen
+      numberFault (length (delivered r n)) k atPlace 0 andThen ok (nth (delivered r n) k noSpan)
+
+-- A part of the bundle: where it starts, and its size.
+pub record BundlePart : Type 0 where
+  pub start : ℕ
+  pub size : ℕ
+
+-- where a delivered unit stands, by where each sample starts
+abbrev pub placedBy : (ℕ → ℕ) → Answer Span → Answer BundlePart
+placedBy starts (refused n p) = refused n p
+placedBy starts (ok u) = ok (record { start = starts (u .sample) + u .start; size = u .size })
+
+-- 1 to 13, else what is said of the recording
+abbrev pub onBundle : {A : Type 0} → Answer Recording → (Recording → Answer A) → Answer A
+onBundle (refused n p) call = refused n p
+onBundle (ok r) call = call r
+
+module _ (b : List ℕ) where
+  unfoldable pub resolveCall : ℕ → ℕ → Answer (List ℕ)
+  resolveCall n room = within room (onBundle (meaning b) (λ r. resolve r n))
+
+  unfoldable pub unitCall : ℕ → ℕ → Answer Span
+  unitCall n k = onBundle (meaning b) (λ r. unitOf r n k)
+
+  unfoldable pub placeCall : ℕ → ℕ → Answer BundlePart
+  placeCall n k = placedBy (contentAt b) (unitCall n k)
+
+  unfoldable pub spanIn : Span → List ℕ
+  spanIn u = part b (contentAt b (u .sample) + u .start) (u .size)
+
+  abbrev pub unitPart : Answer Span → List ℕ
+  unitPart (refused n p) = []
+  unitPart (ok u) = spanIn u
