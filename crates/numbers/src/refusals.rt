@@ -1,7 +1,8 @@
 // The refusal numbers of document 01, 'Numbers for no', by name. The definitions' table is crates/words/specs/RefusalNumbers.antt;
 // `table` ties the two.
 ghost use mathlib.Core.Path.{_≡_};
-ghost use Rattle.words.specs.RefusalNumbers.{refusalNumbers};
+ghost use Rattle.words.specs.Lists.{has};
+ghost use Rattle.words.specs.RefusalNumbers.{refusalNumbers, bundleRefusals};
 
 // the bundle
 pub const BUNDLE_TOO_LONG: u8 = 1;
@@ -110,4 +111,42 @@ pub fn table() -> [u8; COUNT]
         NO_SUCH_NUMBER,
         FIELDS_FIT_NO_RECORD,
     ]
+}
+
+// How many are refusals of a bundle.
+pub const BUNDLE_COUNT: usize = 13;
+
+// The refusals of a bundle, and of the records in it.
+pub fn of_bundle() -> [u8; BUNDLE_COUNT]
+    ensures { λ r. ⌜ r ≡ bundleRefusals ⌝ }
+{
+    [
+        BUNDLE_TOO_LONG,
+        BUNDLE_CUT,
+        COUNT_OUT_OF_LIMITS,
+        UNKNOWN_KIND,
+        BAD_REFERENCE,
+        BAD_TRACK_OR_TIME,
+        BAD_BYTE_COUNT,
+        RECORD_CUT,
+        BAD_VERSION,
+        WRONG_FIXED_BITS,
+        BAD_LENGTH_SIZE,
+        BAD_SET,
+        BYTES_AFTER_RECORD,
+    ]
+}
+
+// Whether a number is one of a set.
+pub fn is_one_of(n: u8, set: &[u8]) -> bool
+    ensures { λ r. ⌜ r ≡ has n (now (set .entry)) ⌝ }
+{
+    let mut i: usize = 0;
+    while i < set.len() {
+        if set[i] == n {
+            return true;
+        }
+        i += 1;
+    }
+    false
 }

@@ -28,9 +28,10 @@ pub(crate) fn refusal(r: Refusal) {
     end();
 }
 
-// A line that refuses a call on a bundle: 1 to 13 are refusals of the bundle itself.
+// A line that refuses a call on a bundle; it says so where the refusal is the bundle's own.
 pub(crate) fn refused(r: Refusal) {
-    if r.number <= refusals::BYTES_AFTER_RECORD {
+    let own = refusals::of_bundle();
+    if refusals::is_one_of(r.number, &own) {
         text(b"bundle ");
     }
     refusal(r);
