@@ -2,7 +2,7 @@
 use libc::STDIN_FILENO;
 
 fn main() {
-    let mut buffer = [0u8; 65536];
+    let mut buffer = [0u8; report::MOST];
     let n = io::read_full(STDIN_FILENO, &mut buffer);
     if report::is_too_big(n) {
         return;

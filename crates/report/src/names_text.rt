@@ -1,4 +1,6 @@
 // The naming list of a sample as text.
+ghost use mathlib.Core.Path.{_≡_};
+ghost use Rattle.report.specs.Input.{front};
 use crate::text;
 use naming_list::Listed;
 use numbers::SampleNumber;
@@ -32,7 +34,9 @@ fn print_list(list: &[u8]) {
 }
 
 // The first n bytes; all where there are fewer.
-fn first(s: &[u8], n: usize) -> &[u8] {
+fn first(s: &[u8], n: usize) -> &[u8]
+    ensures { λ r. ⌜ now r ≡ front (now (s .entry)) n ⌝ }
+{
     if s.len() < n {
         return s;
     }
