@@ -6,7 +6,7 @@ mod names_text;
 mod text;
 
 pub use audit_text::print_audit;
+pub use input::MOST;
 pub use input::is_too_big;
 pub use input::too_big;
-pub use input::MOST;
 pub use names_text::print_names;
