@@ -77,8 +77,8 @@ module _ (x : Sample) where
   -- 14 to 18, in number order, for the unit at p in what ends at e: the sample, or the aggregator that includes it.
   unfoldable pub unitFault : ℕ → ℕ → ℕ
   unitFault e p =
-      lengthFieldCut if e - p <? L orElse
-      unitTooLong if e - p - L <? size p orElse
+      lengthFieldCut if e <? p + L orElse
+      unitTooLong if e <? next p orElse
       emptyUnit if size p ≡? 0 orElse
       topBitSet if 128 ≤? firstByte p orElse
       unitTooShort if size p <? leastSize (type p)
