@@ -1,8 +1,9 @@
 // Which sample an extractor names, by a table alone. Every public function takes any table and any numbers.
 ghost use mathlib.Core.Path.{_≡_};
 ghost use Prim.Native.Nat.{_≤_, _<_};
+ghost use Rattle.bundles.specs.Limits.{sampleMost};
 ghost use Rattle.tables.specs.Tables.{layoutIn};
-ghost use Rattle.links.specs.Links.{linkFault, base, stepped, sampleNamed};
+ghost use Rattle.links.specs.Links.{linkFault, base, signed, stepped, sampleNamed};
 ghost use Rattle.links.specs.Named.{naming};
 use numbers::SampleNumber;
 use numbers::TrackNumber;
@@ -48,8 +49,8 @@ fn base_in(t: &[u64], n: SampleNumber, track: TrackNumber) -> usize
 
 // sample_offset steps from the base. It is signed: a byte of 128 or more is 256 less. Before the first is 0.
 fn stepped(b: usize, offset: u8) -> usize
-    requires { ⌜ b ≤ 4096 ⌝ }
-    ensures { λ r. ⌜ r ≡ stepped b offset ⌝ }
+    requires { ⌜ b ≤ sampleMost ⌝ }
+    ensures { λ r. ⌜ r ≡ stepped b (signed offset) ⌝ }
 {
     let forward = b + offset as usize;
     if offset < 128 {

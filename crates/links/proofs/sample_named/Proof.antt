@@ -9,7 +9,7 @@ use Rattle.words.specs.Lists.{nth}
 use Rattle.bundles.specs.Recordings.{samplesIn}
 use Rattle.tables.specs.Tables.{layoutIn, rangeIn}
 use Rattle.links.specs.Links.{linkedTrack, sampleNamed}
-use Rattle.links.proofs.Naming.{range-most, base-most, named-no-track, named-no-base, named-at, linked-by, range-at, range-past}
+use Rattle.links.proofs.Search.{range-most, base-most, named-no-track, named-no-base, named-at, linked-by, range-at, range-past}
 use Rattle.words.proofs.Rows.{nth-none}
 use Rattle.links.proofs.sample_named.Tie as tie
 
