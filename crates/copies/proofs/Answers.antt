@@ -25,11 +25,11 @@ use Rattle.units.specs.Units.{Sample, L, end, size}
 use Rattle.units.specs.Rules.{Whole}
 use Rattle.samples.specs.Check.{check}
 use Rattle.samples.proofs.Laws.{formed-ok}
-use Rattle.copies.specs.Copies.{copyEnd, copied, formFault, borderFault, chainFault, copyFault}
+use Rattle.copies.specs.Copies.{copyEnd, copied, formFault, borderFault, chainFault, copyFault, copyUnits}
 use Rattle.copies.specs.Extracted.{unitBytes, copiedUnit}
 use Rattle.copies.specs.Flat.{flatPlaces}
 use Rattle.copies.specs.Written.{refusedAmount, unchainedAmount, copyAmount, copiedPlace}
-use Rattle.words.proofs.Numbered.{nth-other, nth-map, part-past}
+use Rattle.words.proofs.Numbered.{nth-none, nth-other, nth-map, part-past}
 use Rattle.copies.proofs.Flat.{flat-good}
 use Rattle.copies.proofs.Copies.{copy-cut, copy-most, copied-flat}
 use Rattle.copies.proofs.Rest.{rest, rest-few}
@@ -80,7 +80,7 @@ module _ (z : Sample) where
       good-whole q m = flat-good z o (copyEnd z o n) (copy-cut z o n good-border good-formed) q (keep-from _ (flatPlaces z o (copyEnd z o n)) (rw good-flat at m) .0) .0
 
       pub place-good : (i : ℕ) → copiedPlace z o n i ≡ nth (copied z o n) i (end z)
-      unfolding copiedPlace
+      unfolding copiedPlace copyUnits
       place-good i = rw (eq-eqb _ 0 g)
 
     -- a copy has no more units, and no more bytes in them, than the sample has bytes
@@ -94,8 +94,8 @@ module _ (z : Sample) where
         (λ t. rw t (omega arith, omega arith))
 
     pub place-refused : (i : ℕ) → (copyFault z o n ≡ 0 → ⊥) → copiedPlace z o n i ≡ end z
-    unfolding copiedPlace
-    place-refused i h = rw (ne-eqb _ 0 h)
+    unfolding copiedPlace copyUnits
+    place-refused i h = rw (ne-eqb _ 0 h) (nth-none i (end z))
 
     pub place-whole : (i : ℕ) → copiedPlace z o n i < end z → Whole z (end z) (copiedPlace z o n i)
     place-whole i h = by-bool (copyFault z o n ≡? 0)
@@ -104,7 +104,5 @@ module _ (z : Sample) where
         (λ t. let e = place-refused i (eqb-false _ _ t) in absurd (omega arith))
 
     pub unit-place : (i : ℕ) → copiedUnit z o n i ≡ unitBytes z (copiedPlace z o n i)
-    unfolding copiedUnit
-    unit-place i = by-bool (copyFault z o n ≡? 0)
-        (λ t. rw (t, place-good (eqb-true _ _ t) i) (ap (nth (map (unitBytes z) (copied z o n)) i) (sym (unit-past (end z) (omega arith))) ∙ nth-map (unitBytes z) (copied z o n) i (end z)))
-        (λ t. rw (t, place-refused i (eqb-false _ _ t)) (sym (unit-past (end z) (omega arith))))
+    unfolding copiedUnit copiedPlace
+    unit-place i = ap (nth (map (unitBytes z) (copyUnits z o n)) i) (sym (unit-past (end z) (omega arith))) ∙ nth-map (unitBytes z) (copyUnits z o n) i (end z)

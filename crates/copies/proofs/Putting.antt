@@ -25,7 +25,7 @@ use Rattle.units.specs.Units as units
 use Rattle.units.specs.Aggregators.{includedStart}
 use Rattle.units.specs.Rules.{Whole}
 use Rattle.units.proofs.Units.{whole-end}
-use Rattle.copies.specs.Copies.{copied, copyFault}
+use Rattle.copies.specs.Copies.{copied, copyFault, copyUnits}
 use Rattle.copies.specs.declared.CopyAmount.{CopyAmount}
 use Rattle.copies.specs.Extracted.{unitBytes}
 use Rattle.copies.specs.Flat.{BetweenBorders}
@@ -119,11 +119,11 @@ module _ (x : Sample) where
   -- a copy as it is written
   module _ (o n : ℕ) where
     pub bytes-refused : (copyFault x o n ≡ 0 → ⊥) → copyBytes x o n ≡ []
-    unfolding copyBytes
+    unfolding copyBytes copyUnits each
     bytes-refused h = rw (ne-eqb _ 0 h)
 
     pub bytes-good : copyFault x o n ≡ 0 → copyBytes x o n ≡ listed x (copied x o n)
-    unfolding copyBytes
+    unfolding copyBytes copyUnits
     bytes-good g = rw (eq-eqb _ 0 g)
 
     pub bytes-size : (r : CopyAmount) → r ≡ copyAmount x o n → copyFault x o n ≡ 0 → length (copyBytes x o n) ≡ lengthBefore * r .count + r .bytes

@@ -9,8 +9,9 @@
 --   borderFault                 the one, then the other
 --   chainFault z qs             28
 --   copyFault                   25 to 28
+--   copyUnits                   what a copy delivers: its units, or nothing where it is refused
 use Prim.Native.Nat.{ℕ, _+_}
-use mathlib.Core.List.{List}
+use mathlib.Core.List.{List, []}
 use mathlib.Core.Bool.{Bool, not}
 use Rattle.words.specs.Tests.{_≡?_, pick, _when_else_}
 use Rattle.words.specs.Refusals.{_if_, _orElse_}
@@ -64,3 +65,7 @@ module _ (z : Sample) (o n : ℕ) where
   -- 25; 26, 27; 28
   unfoldable pub copyFault : ℕ
   copyFault = formFault z orElse borderFault orElse chainFault z copied
+
+  -- What a copy delivers: nothing where it is refused.
+  unfoldable pub copyUnits : List ℕ
+  copyUnits = pick (copyFault ≡? 0) copied []

@@ -11,13 +11,13 @@
 --   copiedPlace z o n k     where the kth copied unit stands, from 1; the end of the sample where there is none
 --   putCount o p b          the number of bytes b that are written into o at p: all, or none where they do not fit
 use Prim.Native.Nat.{ℕ, _+_}
-use mathlib.Core.List.{List, [], map, _++_}
+use mathlib.Core.List.{List, map, _++_}
 use lib.ListN.{length}
 use Rattle.words.specs.Tests.{_≤?_, _≡?_, pick, _when_else_}
 use Rattle.words.specs.Lists.{each, nth, sum}
 use Rattle.words.specs.Bytes.{bytes}
 use Rattle.units.specs.Units.{Sample, end, size}
-use Rattle.copies.specs.Copies.{copied, chainFault, copyFault}
+use Rattle.copies.specs.Copies.{copied, chainFault, copyFault, copyUnits}
 use Rattle.copies.specs.Extracted.{unitBytes}
 use Rattle.copies.specs.declared.CopyAmount.{CopyAmount}
 
@@ -48,10 +48,10 @@ module _ (z : Sample) (o n : ℕ) where
   copyAmount = amountUnless (copyFault z o n) z (copied z o n)
 
   unfoldable pub copyBytes : List ℕ
-  copyBytes = pick (copyFault z o n ≡? 0) (listed z (copied z o n)) []
+  copyBytes = listed z (copyUnits z o n)
 
   unfoldable pub copiedPlace : ℕ → ℕ
-  copiedPlace k = pick (copyFault z o n ≡? 0) (nth (copied z o n) k (end z)) (end z)
+  copiedPlace k = nth (copyUnits z o n) k (end z)
 
 unfoldable pub putCount : List ℕ → ℕ → List ℕ → ℕ
 putCount o p b = length b when p + length b ≤? length o else 0

@@ -55,7 +55,7 @@ module _ (x : Sample) where
 
 -- Outside a bundle the kind and the length size come as numbers: 4 first, then 11, both at 0.
 abbrev pub checkOf : MaybeKind → MaybeLengthSize → List ℕ → Verdict
-checkOf kind length s = onKind kind (λ k. onLengthSize length (λ l. check (record { kind = k; lengthSize = l; content = s })))
+checkOf kind lengthSize s = onKind kind (λ k. onLengthSize lengthSize (λ l. check (record { kind = k; lengthSize = l; content = s })))
 
 abbrev pub checkAlone : ℕ → ℕ → List ℕ → Verdict
 checkAlone kind l s = checkOf (kindOf kind) (lengthSizeOf l) s
