@@ -11,7 +11,6 @@
 use Prim.Native.Nat.{ℕ, _≤_, _<_}
 use mathlib.Core.Path.{_≡_, refl, ap}
 use mathlib.Core.List.{List·Memᴰ}
-use mathlib.Core.Bool.{_||_}
 use native.Mathlib.Omega.{arith}
 use native.Mathlib.Nat.{pos-of-ne-zero}
 use borrow.Author.Tests.{le-ltb, ltb-true, ltb-false, eq-eqb, ne-eqb, eqb-true, eqb-false}
@@ -59,7 +58,7 @@ module _ (y : Layout) (n : ℕ) where
   linked-default index e = ap (λ (f : Reference). f .to) e
 
   named-default : (index offset : ℕ) → linkedTrack y n index ≡ 0 → sampleNamed y n index offset ≡ 0
-  unfolding sampleNamed
+  unfolding sampleNamed base
   named-default index offset e = rw e
 
   pub linked-none : (index offset : ℕ) → (linkFault y n index ≡ 0 → ⊥) → (linkedTrack y n index ≡ 0) × (sampleNamed y n index offset ≡ 0)
@@ -91,7 +90,7 @@ module _ (y : Layout) (n : ℕ) where
   pub named-there : (index offset : ℕ) → 0 < sampleNamed y n index offset → List·Memᴰ (sampleNamed y n index offset) (samplesIn y (linkedTrack y n index))
   unfolding sampleNamed
   named-there index offset h =
-      by-bool ((linkedTrack y n index ≡? 0) || (base y n (linkedTrack y n index) ≡? 0))
+      by-bool (base y n (linkedTrack y n index) ≡? 0)
       (λ q. let z : 0 < 0 = rw q at h in absurd (omega arith))
       (λ q. rw q (nth-found (samplesIn y (linkedTrack y n index)) (stepped (base y n (linkedTrack y n index)) (signed offset)) _ refl (λ z. let w : 0 < 0 = rw (q, z) at h in absurd (omega arith))))
 

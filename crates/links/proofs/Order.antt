@@ -5,6 +5,7 @@
 --   before-test, upTo-test       which samples stand in tracks before k, and up to k
 --   samples-range                the samples of track k are those after `before`, up to `upTo`
 -- Where besides times rise, as in every accepted bundle:
+--   base-is                      the base is the last sample of the linked track at or before, by its number there
 --   base-none                    no base: no sample of the linked track is at or before
 --   base-last                    the base is at or before, and no later sample of the linked track is
 --   base-times, later-without    the same in times
@@ -16,7 +17,7 @@
 --   named-steps                  the four together
 use Prim.Native.Nat.{ℕ, _+_, _-_, _≤_, _<_}
 use mathlib.Core.Path.{_≡_, sym, _∙_}
-use mathlib.Core.List.{List, map, List·Memᴰ}
+use mathlib.Core.List.{List, [], map, List·Memᴰ}
 use mathlib.Core.Bool.{true, false, _&&_}
 use native.Mathlib.Omega.{arith}
 use borrow.Author.Tests.{le-leb, lt-leb, leb-true, leb-false, lt-ltb, le-ltb, ltb-true, ltb-false, eq-eqb, ne-eqb, eqb-true, eqb-false}
@@ -24,9 +25,9 @@ use lib.Dec.{leb, ltb, eqb}
 use lib.ListN.{length, length-map}
 use Rattle.words.specs.Tests.{_<?_, _≤?_, _≡?_}
 use Rattle.words.specs.Refusals.{ok}
-use Rattle.words.specs.Lists.{nth, upto}
+use Rattle.words.specs.Lists.{nth, upto, lastThat}
 use Rattle.words.proofs.Tests.{by-bool, by-number}
-use Rattle.words.proofs.Lists.{upto-from, nth-mem}
+use Rattle.words.proofs.Lists.{keep-nothing, upto-from, nth-mem}
 use Rattle.words.proofs.Rows.{upto-length, nth-upto, nth-none, nth-beyond}
 use Rattle.words.proofs.Kept.{keep-same}
 use Rattle.bundles.specs.Recordings.{Layout, Recording, noEntry, sampleCount, trackOf, timeOf, samplesIn}
@@ -42,6 +43,7 @@ use Rattle.links.proofs.Links.{in-track, track-rise}
 pub ordered-rise : (y : Layout) → Ordered y → TimesRise y
 ordered-rise y o = record {
   tracks = λ i j h l k. rising-nth InOrder (y .entries) (o .rise) i j noEntry h l k .track;
+  numbered = λ i h l. let x = o .exist (nth-mem (y .entries) i noEntry h l) in omega arith;
   times = λ i j h l k e. rising-nth InOrder (y .entries) (o .rise) i j noEntry h l k .time e;
 }
 
@@ -116,15 +118,27 @@ module _ (y : Layout) (rise : TracksRise y) where
 
 -- where besides times rise: the base, and signed steps from it
 module _ (y : Layout) (rise : TimesRise y) where
+  -- there is no track 0
+  no-samples : samplesIn y 0 ≡ []
+  unfolding samplesIn
+  no-samples = keep-nothing (λ m. trackOf y m ≡? 0) (upto (sampleCount y)) (λ m h.
+      let u = upto-from (sampleCount y) m h in
+      let s = rise .numbered m (u .0) (u .1) in
+      ne-eqb (trackOf y m) 0 (λ z. absurd (omega arith)))
+
   -- the base, by its number within the linked track
   module _ (n k : ℕ) where
+    pub base-is : base y n k ≡ lastThat (λ m. atOrBefore y m n) (samplesIn y k)
+    unfolding base lastThat
+    base-is = by-bool (k ≡? 0)
+        (λ q. let z : k ≡ 0 = eqb-true k 0 q in rw (z, no-samples))
+        (λ q. rw q)
+
     base-most : base y n k ≤ length (samplesIn y k)
-    unfolding base
-    base-most = last-most (λ m. atOrBefore y m n) (samplesIn y k)
+    base-most = rw base-is (last-most (λ m. atOrBefore y m n) (samplesIn y k))
 
     base-later : (i : ℕ) → base y n k < i → i ≤ length (samplesIn y k) → atOrBefore y (nth (samplesIn y k) i 0) n ≡ false
-    unfolding base
-    base-later i h l = last-later (λ m. atOrBefore y m n) (samplesIn y k) 0 i h l
+    base-later i h l = last-later (λ m. atOrBefore y m n) (samplesIn y k) 0 i (rw base-is at h) l
 
     pub base-none : base y n k ≡ 0 → (m : ℕ) → List·Memᴰ m (samplesIn y k) → atOrBefore y m n ≡ false
     base-none e m h =
@@ -134,7 +148,7 @@ module _ (y : Layout) (rise : TimesRise y) where
     pub base-last : 0 < base y n k → Base y n k
     base-last h = record {
       there = nth-mem (samplesIn y k) (base y n k) 0 h base-most;
-      passes = unfold base in last-passes (λ m. atOrBefore y m n) (samplesIn y k) 0 h;
+      passes = rw base-is (last-passes (λ m. atOrBefore y m n) (samplesIn y k) 0 (rw base-is at h));
       last = λ m j u.
           let w = mem-nth (samplesIn y k) m 0 j in
           by-bool (ltb (base y n k) (w .0))
@@ -172,10 +186,10 @@ module _ (y : Layout) (rise : TimesRise y) where
 
   pub named-baseless : (n index offset : ℕ) → base y n (linkedTrack y n index) ≡ 0 → sampleNamed y n index offset ≡ 0
   unfolding sampleNamed
-  named-baseless n index offset e = by-bool (linkedTrack y n index ≡? 0) (λ q. rw q) (λ q. rw (q, e))
+  named-baseless n index offset e = rw e
 
   -- signed steps
-  module _ (n index offset : ℕ) (link : 0 < linkedTrack y n index) (found : 0 < base y n (linkedTrack y n index)) where
+  module _ (n index offset : ℕ) (found : 0 < base y n (linkedTrack y n index)) where
     abbrev k : ℕ
     k = linkedTrack y n index
 
@@ -184,7 +198,7 @@ module _ (y : Layout) (rise : TimesRise y) where
 
     steps : sampleNamed y n index offset ≡ nth (samplesIn y k) (stepped b (signed offset)) 0
     unfolding sampleNamed
-    steps = rw (ne-eqb k 0 (λ z. absurd (omega arith)), ne-eqb b 0 (λ z. absurd (omega arith)))
+    steps = rw (ne-eqb b 0 (λ z. absurd (omega arith)))
 
     pub named-up : offset < 128 → baseSample y n k + offset ≤ upTo y k → sampleNamed y n index offset ≡ baseSample y n k + offset
     named-up h l =

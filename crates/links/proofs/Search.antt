@@ -6,10 +6,11 @@
 --   searched                                  the last of the first samples of a range that passes a test
 --   searched-none, searched-here, searched-on    no sample yet; one more, which passes; one more, which does not
 --   base-searched, base-most                  the base is the one among all of them; its number is at most how many they are
+--   base-track                                where there is a base there is a track
 --   steps-ahead, steps-before, steps-back     signed steps from the base
 --   link-zero, link-past                      23
 --   linked-by                                 the linked track, by the own one
---   named-no-track, named-no-base, named-at   the sample named, by the base
+--   named-no-base, named-at                   the sample named, by the base
 --   name-link, name-nothing, name-sample      the answer, by its parts
 use Prim.Native.Nat.{ℕ, _+_, _-_, _≤_, _<_}
 use mathlib.Core.Path.{_≡_, refl, ap, sym, _∙_}
@@ -17,7 +18,8 @@ use mathlib.Core.Bool.{Bool, true, false}
 use mathlib.Core.List.{List, [], _∷_, map}
 use native.Mathlib.Omega.{arith}
 use native.Mathlib.Numerals.{add-one}
-use borrow.Author.Tests.{lt-ltb, le-ltb, ltb-true, ltb-false, leb-true, eq-eqb, ne-eqb}
+use native.Mathlib.Nat.{pos-of-ne-zero}
+use borrow.Author.Tests.{lt-ltb, le-ltb, ltb-true, ltb-false, leb-true, eq-eqb, ne-eqb, eqb-true, eqb-false}
 use lib.Dec.{ltb, leb, eqb, eqb·suc-zero}
 use lib.ListN.{length, length-map}
 use Rattle.words.specs.Tests.{pick}
@@ -72,6 +74,13 @@ module _ (passes : ℕ → Bool) (a : ℕ) where
   searched-more i =
       rw (upto-more i, map-append (λ j. a + j) (upto i) ((i + 1) ∷ []), lastThat-snoc passes (map (λ j. a + j) (upto i)) (a + (i + 1)), length-map (upto i) (λ j. a + j), upto-length i, add-one i)
 
+  pub searched-most : (i : ℕ) → searched i ≤ i
+  unfolding searched
+  searched-most i =
+      let h = last-most passes (map (λ j. a + j) (upto i)) in
+      let l : length (map (λ j. a + j) (upto i)) ≡ i = length-map (upto i) (λ j. a + j) ∙ upto-length i in
+      omega arith
+
   pub searched-none : 0 ≡ searched (a - a)
   searched-none = let e : a - a ≡ 0 = omega arith in rw e (sym searched-zero)
 
@@ -89,17 +98,30 @@ module _ (passes : ℕ → Bool) (a : ℕ) where
         let x : a + (m - a + 1) ≡ m + 1 = omega arith in
         rw (e, searched-more (m - a), x, h) f
 
-module _ (t : List ℕ) (n k : ℕ) (some : 0 < k) where
-  pub base-searched : base (layoutIn t) n k ≡ searched (λ m. atOrBefore (layoutIn t) m n) (rangeIn t k .before) (rangeIn t k .after - rangeIn t k .before)
+module _ (t : List ℕ) (n k : ℕ) where
+  base-zero : k ≡ 0 → base (layoutIn t) n k ≡ 0
+  unfolding base
+  base-zero z = rw z
+
+  range-zero : k ≡ 0 → rangeIn t k .after - rangeIn t k .before ≡ 0
+  unfolding rangeIn
+  range-zero z = rw z
+
+  base-within : (k ≡ 0 → ⊥) → base (layoutIn t) n k ≡ searched (λ m. atOrBefore (layoutIn t) m n) (rangeIn t k .before) (rangeIn t k .after - rangeIn t k .before)
   unfolding base searched
-  base-searched = rw (range-samples t k some)
+  base-within h = rw (ne-eqb k 0 h, range-samples t k (pos-of-ne-zero h))
+
+  pub base-searched : base (layoutIn t) n k ≡ searched (λ m. atOrBefore (layoutIn t) m n) (rangeIn t k .before) (rangeIn t k .after - rangeIn t k .before)
+  base-searched = by-bool (eqb k 0)
+      (λ q. let z = eqb-true k 0 q in rw (base-zero z, range-zero z) (sym (searched-zero (λ m. atOrBefore (layoutIn t) m n) (rangeIn t k .before))))
+      (λ q. base-within (eqb-false k 0 q))
 
   pub base-most : base (layoutIn t) n k ≤ rangeIn t k .after - rangeIn t k .before
-  unfolding base
-  base-most =
-      let h = last-most (λ m. atOrBefore (layoutIn t) m n) (samplesIn (layoutIn t) k) in
-      let l : length (samplesIn (layoutIn t) k) ≡ rangeIn t k .after - rangeIn t k .before = rw (range-samples t k some) (length-map (upto (rangeIn t k .after - rangeIn t k .before)) (λ i. rangeIn t k .before + i) ∙ upto-length (rangeIn t k .after - rangeIn t k .before)) in
-      omega arith
+  base-most = rw base-searched (searched-most (λ m. atOrBefore (layoutIn t) m n) (rangeIn t k .before) (rangeIn t k .after - rangeIn t k .before))
+
+  -- where there is a base there is a track
+  pub base-track : (base (layoutIn t) n k ≡ 0 → ⊥) → 0 < k
+  base-track h = pos-of-ne-zero (λ z. h (base-zero z))
 
 -- signed steps, as the code takes them
 module _ (b offset : ℕ) where
@@ -131,19 +153,14 @@ module _ (y : Layout) (n index : ℕ) where
 
   module _ (offset : ℕ) where
     -- the sample named, by the linked track k and the base b
-    module _ {k : ℕ} (linked : k ≡ linkedTrack y n index) where
-      pub named-no-track : k ≡ 0 → sampleNamed y n index offset ≡ 0
+    module _ {k : ℕ} (linked : k ≡ linkedTrack y n index) {b : ℕ} (found : b ≡ base y n k) where
+      pub named-no-base : b ≡ 0 → sampleNamed y n index offset ≡ 0
       unfolding sampleNamed
-      named-no-track e = rw (← linked, eq-eqb k 0 e)
+      named-no-base e = rw (← linked, ← found, eq-eqb b 0 e)
 
-      module _ {b : ℕ} (found : b ≡ base y n k) where
-        pub named-no-base : b ≡ 0 → sampleNamed y n index offset ≡ 0
-        unfolding sampleNamed
-        named-no-base e = rw (← linked, ← found, eq-eqb b 0 e) (by-bool (eqb k 0) (λ q. rw q) (λ q. rw q))
-
-        pub named-at : {j : ℕ} → (k ≡ 0 → ⊥) → (b ≡ 0 → ⊥) → j ≡ stepped b (signed offset) → sampleNamed y n index offset ≡ nth (samplesIn y k) j 0
-        unfolding sampleNamed
-        named-at {j} g h e = rw (← linked, ← found, ne-eqb k 0 g, ne-eqb b 0 h, ← e)
+      pub named-at : {j : ℕ} → (b ≡ 0 → ⊥) → j ≡ stepped b (signed offset) → sampleNamed y n index offset ≡ nth (samplesIn y k) j 0
+      unfolding sampleNamed
+      named-at {j} h e = rw (← linked, ← found, ne-eqb b 0 h, ← e)
 
     -- the answer
     pub name-link : {f : ℕ} → f ≡ linkFault y n index → (f ≡ 0 → ⊥) → Refused f ≡ naming y n index offset

@@ -10,7 +10,7 @@
 --   sampleNamed n index offset     the sample named; 0 is none
 --   nameFault n index offset       23, 24
 use Prim.Native.Nat.{ℕ, _+_, _-_}
-use mathlib.Core.Bool.{Bool, _||_}
+use mathlib.Core.Bool.{Bool}
 use lib.ListN.{length}
 use Rattle.words.specs.Tests.{_<?_, _≤?_, _≡?_, pick, _when_else_}
 use Rattle.words.specs.Refusals.{_if_, _orElse_}
@@ -47,9 +47,9 @@ module _ (y : Layout) where
   abbrev pub atOrBefore : ℕ → ℕ → Bool
   atOrBefore m n = timeOf y m ≤? timeOf y n
 
-  -- The base: the last sample of the linked track with decode time at or before the own sample's.
+  -- The base: the last sample of the linked track with decode time at or before the own sample's. Without a track there is none.
   unfoldable pub base : ℕ → ℕ → ℕ
-  base n track = lastThat (λ m. atOrBefore m n) (samplesIn y track)
+  base n track = 0 when track ≡? 0 else lastThat (λ m. atOrBefore m n) (samplesIn y track)
 
   -- The sample named: sample_offset steps from the base in the linked track, in number order; with no base, or past either end, there
   -- is none.
@@ -57,7 +57,7 @@ module _ (y : Layout) where
   sampleNamed n index offset =
       let track = linkedTrack n index in
       let b = base n track in
-      0 when (track ≡? 0) || (b ≡? 0) else nth (samplesIn y track) (stepped b (signed offset)) 0
+      0 when b ≡? 0 else nth (samplesIn y track) (stepped b (signed offset)) 0
 
   -- 23, then 24: no sample named
   unfoldable pub nameFault : ℕ → ℕ → ℕ → ℕ

@@ -1,7 +1,7 @@
 -- What is needed of a layout so that the samples of a track are neighbours. Every accepted bundle's has it (6).
 --
 --   TracksRise y     track numbers never fall
---   TimesRise y      besides, within a track times strictly rise
+--   TimesRise y      besides, tracks are numbered from 1, and within a track times strictly rise
 --   before y k       the last sample of the tracks before track k; 0 is none
 --   upTo y k         the last sample of the tracks up to track k
 --   baseSample       the base, by its number in the recording; 0 is none
@@ -22,6 +22,7 @@ module _ (y : Layout) where
 
   pub record TimesRise : Type 0 where
     pub tracks : TracksRise
+    pub numbered : (i : ℕ) → 0 < i → i ≤ sampleCount y → 0 < trackOf y i
     pub times : (i j : ℕ) → 0 < i → i < j → j ≤ sampleCount y → trackOf y i ≡ trackOf y j → timeOf y i < timeOf y j
 
   unfoldable pub before : ℕ → ℕ
