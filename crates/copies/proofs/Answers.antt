@@ -2,7 +2,7 @@
 --
 --   copy-ill, copy-border, copy-formed    25; 26 and 27; 28 or none
 --   refused-as                            a copy that is refused
---   measured-copy                         a copy that is not is what one walk over it counts
+--   unchained-copy                         a copy that is not is what one walk over it counts
 --   fault-of                              the refusal number in it
 --   good-formed, good-border              a copy without a refusal: of a well-formed sample, without 26 and 27
 --   good-flat, good-whole                 its units are those of one walk, and whole
@@ -12,26 +12,24 @@
 use Prim.Native.Nat.{ℕ, _+_, _≤_, _<_}
 use mathlib.Core.Path.{_≡_, ap, sym, _∙_}
 use mathlib.Core.List.{[], map, List·Memᴰ}
-use mathlib.Core.Bool.{not}
 use native.Mathlib.Omega.{arith}
-use borrow.Author.Tests.{eq-eqb, ne-eqb, eqb-true, eqb-false}
+use borrow.Author.Tests.{eq-eqb, ne-eqb, eqb-true, eqb-false, not-false}
 use Rattle.words.specs.Tests.{_≡?_}
-use Rattle.words.specs.Refusals.{ok, refused, _if_}
-use Rattle.words.specs.RefusalNumbers.{namedIllFormed, extractorCopied}
-use Rattle.words.specs.Lists.{some, nth}
+use Rattle.words.specs.Refusals.{ok, refused}
+use Rattle.words.specs.RefusalNumbers.{namedIllFormed}
+use Rattle.words.specs.Lists.{nth}
 use Rattle.words.proofs.Tests.{by-bool}
 use Rattle.words.proofs.Refusals.{if-none, orElse-none, orElse-here}
 use Rattle.words.proofs.Lists.{keep-from}
-use Rattle.units.specs.Units.{Sample, L, end, size, isExtractor}
+use Rattle.units.specs.Units.{Sample, L, end, size}
 use Rattle.units.specs.Rules.{Whole}
-use Rattle.samples.specs.Check.{check, wellFormed}
+use Rattle.samples.specs.Check.{check}
 use Rattle.samples.proofs.Laws.{formed-ok}
-use Rattle.copies.specs.Copies.{copyEnd, copied, borderFault, copyFault}
+use Rattle.copies.specs.Copies.{copyEnd, copied, formFault, borderFault, chainFault, copyFault, copyUnits}
 use Rattle.copies.specs.Extracted.{unitBytes, copiedUnit}
 use Rattle.copies.specs.Flat.{flatPlaces}
-use Rattle.copies.specs.Written.{refusal, measured, copyOf, copiedPlace}
-use borrow.Author.Tests.{not-false}
-use Rattle.words.proofs.Numbered.{nth-other, nth-map, part-past}
+use Rattle.copies.specs.Written.{refusedAmount, unchainedAmount, copyAmount, copiedPlace}
+use Rattle.words.proofs.Numbered.{nth-none, nth-other, nth-map, part-past}
 use Rattle.copies.proofs.Flat.{flat-good}
 use Rattle.copies.proofs.Copies.{copy-cut, copy-most, copied-flat}
 use Rattle.copies.proofs.Rest.{rest, rest-few}
@@ -49,32 +47,31 @@ module _ (z : Sample) where
     unfolding copyFault
     copy-border k e h = rw k (orElse-here _ e h)
 
-    pub copy-formed : check z ≡ ok tt → borderFault z o n ≡ 0 → copyFault z o n ≡ (extractorCopied if some (isExtractor z) (copied z o n))
+    pub copy-formed : check z ≡ ok tt → borderFault z o n ≡ 0 → copyFault z o n ≡ chainFault z (copied z o n)
     unfolding copyFault
     copy-formed k e = rw (k, e)
 
-    pub refused-as : {f : ℕ} → f ≡ copyFault z o n → (f ≡ 0 → ⊥) → refusal f ≡ copyOf z o n
-    unfolding copyOf
+    pub refused-as : {f : ℕ} → f ≡ copyFault z o n → (f ≡ 0 → ⊥) → refusedAmount f ≡ copyAmount z o n
+    unfolding copyAmount
     refused-as {f} e h = rw (← e, ne-eqb f 0 h)
 
-    pub measured-copy : check z ≡ ok tt → borderFault z o n ≡ 0 → measured z (rest z (copyEnd z o n) o) ≡ copyOf z o n
-    unfolding measured copyOf
-    measured-copy k e = rw (← copied-flat z o n e k, copy-formed k e)
-        (by-bool (some (isExtractor z) (copied z o n)) (λ t. rw t) (λ t. rw t))
+    pub unchained-copy : check z ≡ ok tt → borderFault z o n ≡ 0 → unchainedAmount z (rest z (copyEnd z o n) o) ≡ copyAmount z o n
+    unfolding unchainedAmount copyAmount
+    unchained-copy k e = rw (← copied-flat z o n e k, copy-formed k e)
 
-    pub fault-of : copyOf z o n .fault ≡ copyFault z o n
-    unfolding copyOf
+    pub fault-of : copyAmount z o n .fault ≡ copyFault z o n
+    unfolding copyAmount
     fault-of = by-bool (copyFault z o n ≡? 0) (λ t. rw t (sym (eqb-true _ _ t))) (λ t. rw t)
 
     -- a copy without a refusal
     module _ (g : copyFault z o n ≡ 0) where
       pub good-formed : check z ≡ ok tt
       unfolding copyFault
-      good-formed = formed-ok z (not-false _ (if-none 24 _ (orElse-none (namedIllFormed if not (wellFormed z)) _ g .0)))
+      good-formed = formed-ok z (not-false _ (if-none 24 _ (orElse-none (formFault z) _ g .0)))
 
       pub good-border : borderFault z o n ≡ 0
       unfolding copyFault
-      good-border = orElse-none (borderFault z o n) _ (orElse-none (namedIllFormed if not (wellFormed z)) _ g .1) .0
+      good-border = orElse-none (borderFault z o n) _ (orElse-none (formFault z) _ g .1) .0
 
       pub good-flat : copied z o n ≡ rest z (copyEnd z o n) o
       good-flat = copied-flat z o n good-border good-formed
@@ -83,12 +80,12 @@ module _ (z : Sample) where
       good-whole q m = flat-good z o (copyEnd z o n) (copy-cut z o n good-border good-formed) q (keep-from _ (flatPlaces z o (copyEnd z o n)) (rw good-flat at m) .0) .0
 
       pub place-good : (i : ℕ) → copiedPlace z o n i ≡ nth (copied z o n) i (end z)
-      unfolding copiedPlace
+      unfolding copiedPlace copyUnits
       place-good i = rw (eq-eqb _ 0 g)
 
     -- a copy has no more units, and no more bytes in them, than the sample has bytes
-    pub copy-few : (copyOf z o n .count ≤ end z) × (copyOf z o n .bytes ≤ end z)
-    unfolding copyOf
+    pub copy-few : (copyAmount z o n .count ≤ end z) × (copyAmount z o n .bytes ≤ end z)
+    unfolding copyAmount
     copy-few = by-bool (copyFault z o n ≡? 0)
         (λ t. let g = eqb-true _ _ t in
         let f = rest-few z o (copyEnd z o n) (copy-cut z o n (good-border g) (good-formed g)) in
@@ -97,8 +94,8 @@ module _ (z : Sample) where
         (λ t. rw t (omega arith, omega arith))
 
     pub place-refused : (i : ℕ) → (copyFault z o n ≡ 0 → ⊥) → copiedPlace z o n i ≡ end z
-    unfolding copiedPlace
-    place-refused i h = rw (ne-eqb _ 0 h)
+    unfolding copiedPlace copyUnits
+    place-refused i h = rw (ne-eqb _ 0 h) (nth-none i (end z))
 
     pub place-whole : (i : ℕ) → copiedPlace z o n i < end z → Whole z (end z) (copiedPlace z o n i)
     place-whole i h = by-bool (copyFault z o n ≡? 0)
@@ -107,7 +104,5 @@ module _ (z : Sample) where
         (λ t. let e = place-refused i (eqb-false _ _ t) in absurd (omega arith))
 
     pub unit-place : (i : ℕ) → copiedUnit z o n i ≡ unitBytes z (copiedPlace z o n i)
-    unfolding copiedUnit
-    unit-place i = by-bool (copyFault z o n ≡? 0)
-        (λ t. rw (t, place-good (eqb-true _ _ t) i) (ap (nth (map (unitBytes z) (copied z o n)) i) (sym (unit-past (end z) (omega arith))) ∙ nth-map (unitBytes z) (copied z o n) i (end z)))
-        (λ t. rw (t, place-refused i (eqb-false _ _ t)) (sym (unit-past (end z) (omega arith))))
+    unfolding copiedUnit copiedPlace
+    unit-place i = ap (nth (map (unitBytes z) (copyUnits z o n)) i) (sym (unit-past (end z) (omega arith))) ∙ nth-map (unitBytes z) (copyUnits z o n) i (end z)

@@ -20,7 +20,7 @@ use Rattle.words.specs.Lists.{keep}
 use Rattle.words.proofs.Tests.{by-bool, true-false, and-both}
 use Rattle.words.proofs.Lists.{keep-nothing, keep-from, has-from}
 use Rattle.units.specs.Units.{Sample, end, next, places, topUnits, border, topBetween}
-use Rattle.units.specs.Rules.{Whole, Wholes}
+use Rattle.units.specs.Rules.{Whole, TopUnitsWhole}
 use Rattle.units.proofs.Units.{next-after, whole-end}
 use Rattle.units.proofs.Walks.{places-step, in-places, in-top, Reached, reached-start, reached-next, reached-top, reached-between, border-past, border-here, border-inside}
 use Rattle.words.proofs.Kept.{keep-same, keep-all}
@@ -48,7 +48,7 @@ module _ (x : Sample) where
   pub border-reached : (q : ℕ) → border x q ≡ true → q < end x → Reached x q
   border-reached q h l = reached-top x q (border-top q h l)
 
-  module _ (w : Wholes x) where
+  module _ (w : TopUnitsWhole x) where
     pub border-next : (q : ℕ) → border x q ≡ true → q < end x → border x (next x q) ≡ true
     border-next q h l = border-here x (next x q) (reached-next x q l (border-reached q h l)) (whole-end x (end x) q (w q (border-top q h l)) .1)
 
@@ -91,12 +91,12 @@ module _ (x : Sample) where
 
   -- A walk from border to border, come to q, that looks for a border at b.
   pub record Seeking (b q : ℕ) : Type 0 where
-    pub wholes : Wholes x
+    pub wholes : TopUnitsWhole x
     pub here : border x q ≡ true
     pub fits : b ≤ end x
     pub past : b < q → border x b ≡ false
 
-  pub seeking-start : (b a : ℕ) → Wholes x → border x a ≡ true → a ≤ b → b ≤ end x → Seeking b a
+  pub seeking-start : (b a : ℕ) → TopUnitsWhole x → border x a ≡ true → a ≤ b → b ≤ end x → Seeking b a
   seeking-start b a w h l f = record { wholes = w; here = h; fits = f; past = λ k. absurd (omega arith) }
 
   module _ (b q : ℕ) (s : Seeking b q) where

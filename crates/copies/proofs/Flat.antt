@@ -4,10 +4,10 @@
 --   flat-after                    the walk goes on
 --   flat-end, flat-step           the places from p up to e: none, or p and those from the next on
 --   flat-unit                     a top-level unit with what it includes, then those from the next on
---   flat-between                  the units of a stretch, top-level and included
---   whole-stretch, flat-units     a well-formed sample is a stretch; all its units
---   flat-good                     each unit of a stretch is whole, and the walk does not leave the stretch
---   Walking, walking-start, -whole, -step, -next    a walk over a stretch that has come to p: what stands there is whole
+--   flat-between                  the units between two borders, top-level and included
+--   sample-borders, flat-units    a well-formed sample lies between two borders; all its units
+--   flat-good                     each unit between two borders is whole, and the walk does not leave them
+--   Walking, walking-start, -whole, -step, -next    a walk between two borders that has come to p: what stands there is whole
 use Prim.Native.Nat.{ℕ, zero, suc, _-_, _≤_, _<_}
 use mathlib.Core.Path.{_≡_, refl, ap, sym, _∙_}
 use mathlib.Core.List.{[], _∷_, _++_, List·Memᴰ, List·Memᴰ·not-nil, List·Memᴰ·cases-cons, List·Memᴰ·head, List·Memᴰ·tail}
@@ -28,7 +28,7 @@ use Rattle.units.proofs.Units.{next-after, whole-end, whole-aggregator, whole-w
 use Rattle.units.proofs.Walks.{places-end, places-step}
 use Rattle.samples.specs.Check.{check}
 use Rattle.samples.proofs.Laws.{rules, included-inside}
-use Rattle.copies.specs.Flat.{flatStep, flatFrom, flatPlaces, Stretch}
+use Rattle.copies.specs.Flat.{flatStep, flatFrom, flatPlaces, BetweenBorders}
 use Rattle.copies.proofs.Borders.{border-start, border-end, border-most, border-top, top-border, border-next, border-before, between-end, between-step, in-between, between-all}
 
 module _ (x : Sample) where
@@ -86,32 +86,32 @@ module _ (x : Sample) where
         (λ t. rw (flat-aggregator p t, t) (run (next x p) b (next x p) (includedStart x p) (omega arith) (whole-aggregator x (end x) p (rules x ok .tops p m) t) h (λ q k. let i = included-inside x ok p m t q k in (i .1, i .2))))
         (λ t. rw (flat-other p t, t)))
 
-    stretch : (k a b : ℕ) → b - a ≤ k → border x a ≡ true → border x b ≡ true → a ≤ b → each (withIncluded x) (topBetween x a b) ≡ flatPlaces x a b
+    between : (k a b : ℕ) → b - a ≤ k → border x a ≡ true → border x b ≡ true → a ≤ b → each (withIncluded x) (topBetween x a b) ≡ flatPlaces x a b
     unfolding each
-    stretch zero a b f h g l = rw (between-end x a b (omega arith), flat-end a b (omega arith))
-    stretch (suc k) a b f h g l = by-bool (leb b a)
+    between zero a b f h g l = rw (between-end x a b (omega arith), flat-end a b (omega arith))
+    between (suc k) a b f h g l = by-bool (leb b a)
         (λ t. let i = leb-true b a t in rw (between-end x a b i, flat-end a b i))
         (λ t. let i = leb-false b a t in
         let m = border-most x b g in
         let w = rules x ok .tops in
         let n = next-after x a in
         let n' = border-before x w a b h g i in
-        rw (between-step x a b h i m, flat-unit a b (border-top x a h (omega arith)) n', stretch k (next x a) b (omega arith) (border-next x w a h (omega arith)) g n'))
+        rw (between-step x a b h i m, flat-unit a b (border-top x a h (omega arith)) n', between k (next x a) b (omega arith) (border-next x w a h (omega arith)) g n'))
 
-  -- the units of a stretch, top-level and included
-  pub flat-between : (a b : ℕ) → Stretch x a b → each (withIncluded x) (topBetween x a b) ≡ flatPlaces x a b
-  flat-between a b s = stretch (s .formed) b a b (omega arith) (s .start) (s .stop) (s .order)
+  -- the units between two borders, top-level and included
+  pub flat-between : (a b : ℕ) → BetweenBorders x a b → each (withIncluded x) (topBetween x a b) ≡ flatPlaces x a b
+  flat-between a b s = between (s .formed) b a b (omega arith) (s .start) (s .stop) (s .order)
 
-  -- a whole sample is a stretch
-  pub whole-stretch : check x ≡ ok tt → Stretch x 0 (end x)
-  whole-stretch k = record { formed = k; start = border-start x; stop = border-end x; order = omega arith }
+  -- a whole sample lies between two borders
+  pub sample-borders : check x ≡ ok tt → BetweenBorders x 0 (end x)
+  sample-borders k = record { formed = k; start = border-start x; stop = border-end x; order = omega arith }
 
   pub flat-units : check x ≡ ok tt → units x ≡ flatPlaces x 0 (end x)
   unfolding units
-  flat-units k = ap (each (withIncluded x)) (sym (between-all x)) ∙ flat-between 0 (end x) (whole-stretch k)
+  flat-units k = ap (each (withIncluded x)) (sym (between-all x)) ∙ flat-between 0 (end x) (sample-borders k)
 
-  -- each unit of a stretch is whole, and the walk does not leave the stretch
-  pub flat-good : (a b : ℕ) → Stretch x a b → (q : ℕ) → List·Memᴰ q (flatPlaces x a b) → Whole x (end x) q × (flatStep x q ≤ b)
+  -- each unit between two borders is whole, and the walk does not leave them
+  pub flat-good : (a b : ℕ) → BetweenBorders x a b → (q : ℕ) → List·Memᴰ q (flatPlaces x a b) → Whole x (end x) q × (flatStep x q ≤ b)
   unfolding withIncluded
   flat-good a b s q m =
       let r = rules x (s .formed) in
@@ -135,13 +135,13 @@ module _ (x : Sample) where
       (λ g. absurd (List·Memᴰ·not-nil (rw g at j))))
       (List·Memᴰ·cases-cons (f .2))
 
-  -- A walk over a stretch that ends at e, come to p.
+  -- A walk up to a border at e, come to p.
   pub record Walking (e p : ℕ) : Type 0 where
     pub inside : p ≤ e
     pub fits : e ≤ end x
     pub good : (q : ℕ) → List·Memᴰ q (flatPlaces x p e) → Whole x (end x) q × (flatStep x q ≤ e)
 
-  pub walking-start : (a e : ℕ) → Stretch x a e → Walking e a
+  pub walking-start : (a e : ℕ) → BetweenBorders x a e → Walking e a
   walking-start a e s = record { inside = s .order; fits = border-most x e (s .stop); good = flat-good a e s }
 
   module _ (e p : ℕ) (w : Walking e p) (h : p < e) where

@@ -1,7 +1,7 @@
 -- Units written over a buffer one after the other. Assumes nothing.
 --
 --   with-length                            the size of a unit as it is written
---   Putting, putting-start, -length, -skip, -room, -take, -end    a loop that writes the units of a stretch
+--   Putting, putting-start, -length, -skip, -room, -take, -end    a loop that writes the units between two borders
 --   listed-length                          the size of units as they are written
 --   bytes-refused, bytes-good, bytes-size  a copy as it is written, and its size
 --   count-none, put-none, count-not, count-fits    nothing written; how much is written
@@ -25,11 +25,11 @@ use Rattle.units.specs.Units as units
 use Rattle.units.specs.Aggregators.{includedStart}
 use Rattle.units.specs.Rules.{Whole}
 use Rattle.units.proofs.Units.{whole-end}
-use Rattle.copies.specs.Copies.{copied, copyFault}
-use Rattle.copies.specs.declared.Copy.{Copy}
+use Rattle.copies.specs.Copies.{copied, copyFault, copyUnits}
+use Rattle.copies.specs.declared.CopyAmount.{CopyAmount}
 use Rattle.copies.specs.Extracted.{unitBytes}
-use Rattle.copies.specs.Flat.{Stretch}
-use Rattle.copies.specs.Written.{lengthBefore, withLength, listed, copyOf, copyBytes, putCount}
+use Rattle.copies.specs.Flat.{BetweenBorders}
+use Rattle.copies.specs.Written.{lengthBefore, withLength, listed, copyAmount, copyBytes, putCount}
 use Rattle.words.proofs.Numbered.{put-after}
 use Rattle.copies.proofs.Flat.{Walking, walking-start, walking-whole}
 use Rattle.copies.proofs.Answers.{good-whole}
@@ -48,7 +48,7 @@ module _ (x : Sample) where
     pub split : listed x (rest x e a) ≡ done ++ listed x (rest x e p)
     pub fits : at + length (listed x (rest x e a)) ≤ length o
 
-  pub putting-start : (o : List ℕ) (at a e : ℕ) → Stretch x a e → at + length (listed x (rest x e a)) ≤ length o → Putting o at a e a at o
+  pub putting-start : (o : List ℕ) (at a e : ℕ) → BetweenBorders x a e → at + length (listed x (rest x e a)) ≤ length o → Putting o at a e a at o
   putting-start o at a e s h = record { walking = walking-start x a e s; done = []; is = write-none o at; here = omega arith; split = refl; fits = h }
 
   -- a unit as it is written
@@ -119,15 +119,15 @@ module _ (x : Sample) where
   -- a copy as it is written
   module _ (o n : ℕ) where
     pub bytes-refused : (copyFault x o n ≡ 0 → ⊥) → copyBytes x o n ≡ []
-    unfolding copyBytes
+    unfolding copyBytes copyUnits each
     bytes-refused h = rw (ne-eqb _ 0 h)
 
     pub bytes-good : copyFault x o n ≡ 0 → copyBytes x o n ≡ listed x (copied x o n)
-    unfolding copyBytes
+    unfolding copyBytes copyUnits
     bytes-good g = rw (eq-eqb _ 0 g)
 
-    pub bytes-size : (r : Copy) → r ≡ copyOf x o n → copyFault x o n ≡ 0 → length (copyBytes x o n) ≡ lengthBefore * r .count + r .bytes
-    unfolding copyOf
+    pub bytes-size : (r : CopyAmount) → r ≡ copyAmount x o n → copyFault x o n ≡ 0 → length (copyBytes x o n) ≡ lengthBefore * r .count + r .bytes
+    unfolding copyAmount
     bytes-size r e g = rw (e, bytes-good g, g) (listed-length (copied x o n) (good-whole x o n g))
 
 module _ (o : List ℕ) (p : ℕ) where

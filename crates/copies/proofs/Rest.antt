@@ -1,4 +1,4 @@
--- What is left of a walk over a stretch, aggregators dropped, and what a loop has done before. Assumes nothing.
+-- What is left of a walk between two borders, aggregators dropped, and what a loop has done before. Assumes nothing.
 --
 --   rest                                   the units from p up to e, aggregators dropped
 --   rest-end, rest-skip, rest-take         none; those after an aggregator's head; p and those after it
@@ -21,15 +21,14 @@ use Rattle.words.specs.RefusalNumbers.{extractorCopied}
 use Rattle.numbers.proofs.Laws.{L-some}
 use Rattle.units.specs.Units.{Sample, end, size, next, isAggregator, isExtractor}
 use Rattle.units.specs.Aggregators.{includedStart}
-use Rattle.copies.specs.Copies.{plain}
-use Rattle.copies.specs.Flat.{flatPlaces, Stretch}
-use Rattle.copies.specs.Written.{refusal, measured}
+use Rattle.copies.specs.Flat.{unitsBetween, BetweenBorders}
+use Rattle.copies.specs.Written.{refusedAmount, unchainedAmount}
 use Rattle.words.proofs.Numbered.{nth-none, nth-first, nth-later}
 use Rattle.copies.proofs.Flat.{flat-aggregator, flat-other, flat-end, flat-step, Walking, walking-start, walking-next}
 
 module _ (x : Sample) where
   abbrev pub rest : ℕ → ℕ → List ℕ
-  rest e p = plain x (flatPlaces x p e)
+  rest e p = unitsBetween x p e
 
   pub rest-end : (e p : ℕ) → e ≤ p → rest e p ≡ []
   unfolding keep
@@ -50,7 +49,7 @@ module _ (x : Sample) where
     pub walking-take : isAggregator x p ≡ false → Walking x e (next x p)
     walking-take t = rw (flat-other x p t) at (walking-next x e p w h)
 
-  -- the units that are left are no more, and have no more bytes, than what is left of the stretch
+  -- the units that are left are no more, and have no more bytes, than what is left up to e
   few : (k e p : ℕ) → e - p ≤ k → Walking x e p → (p + length (rest e p) ≤ e) × (p + sum (map (size x) (rest e p)) ≤ e)
   unfolding sum
   few zero e p l w = let i = w .inside in rw (rest-end e p (omega arith)) (omega arith, omega arith)
@@ -60,7 +59,7 @@ module _ (x : Sample) where
       (λ g. let f = few k e (includedStart x p) (omega arith) (walking-skip e p w h g) in rw (rest-skip e p h g) (omega arith, omega arith))
       (λ g. let f = few k e (next x p) (omega arith) (walking-take e p w h g) in rw (rest-take e p h g) (omega arith, omega arith)))
 
-  pub rest-few : (a e : ℕ) → Stretch x a e → (length (rest e a) ≤ e) × (sum (map (size x) (rest e a)) ≤ e)
+  pub rest-few : (a e : ℕ) → BetweenBorders x a e → (length (rest e a) ≤ e) × (sum (map (size x) (rest e a)) ≤ e)
   rest-few a e s = let f = few e e a (omega arith) (walking-start x a e s) in (omega arith, omega arith)
 
   -- count units with bytes in all from a up to p, no extractor among them
@@ -72,7 +71,7 @@ module _ (x : Sample) where
     pub few : count ≤ p
     pub small : bytes ≤ p
 
-  pub counted-start : (a e : ℕ) → Stretch x a e → Counted a e a 0 0
+  pub counted-start : (a e : ℕ) → BetweenBorders x a e → Counted a e a 0 0
   counted-start a e s = record { walking = walking-start x a e s; found = refl; number = omega arith; all = omega arith; few = omega arith; small = omega arith }
 
   module _ (a e p count bytes : ℕ) (c : Counted a e p count bytes) where
@@ -89,8 +88,8 @@ module _ (x : Sample) where
           small = omega (arith, c .small);
         }
 
-    pub counted-found : p < e → isAggregator x p ≡ false → isExtractor x p ≡ true → measured x (rest e a) ≡ refusal extractorCopied
-    unfolding measured some
+    pub counted-found : p < e → isAggregator x p ≡ false → isExtractor x p ≡ true → unchainedAmount x (rest e a) ≡ refusedAmount extractorCopied
+    unfolding unchainedAmount some
     counted-found h t g = rw (c .found, rest-take e p h t, g)
 
     pub counted-take : p < e → isAggregator x p ≡ false → isExtractor x p ≡ false → Counted a e (next x p) (count + 1) (bytes + size x p)
@@ -109,8 +108,8 @@ module _ (x : Sample) where
           small = omega (arith, c .small);
         }
 
-    pub counted-end : e ≤ p → record { fault = 0; count = count; bytes = bytes } ≡ measured x (rest e a)
-    unfolding measured some sum
+    pub counted-end : e ≤ p → record { fault = 0; count = count; bytes = bytes } ≡ unchainedAmount x (rest e a)
+    unfolding unchainedAmount some sum
     counted-end h =
         let r = rest-end e p h in
         let n = rw r at (c .number) in
@@ -125,7 +124,7 @@ module _ (x : Sample) where
     pub some : 0 < left
     pub same : nth (rest e a) i (end x) ≡ nth (rest e p) left (end x)
 
-  pub finding-start : (a e i : ℕ) → Stretch x a e → (i ≡ 0 → ⊥) → Finding a e i a i
+  pub finding-start : (a e i : ℕ) → BetweenBorders x a e → (i ≡ 0 → ⊥) → Finding a e i a i
   finding-start a e i s h = record { walking = walking-start x a e s; some = pos-of-ne-zero h; same = refl }
 
   module _ (a e i p left : ℕ) (c : Finding a e i p left) where

@@ -5,20 +5,19 @@
 --   extracted x p z k       the kth unit that the extractor at p of the sample x stands for; empty where there is no good extractor
 use Prim.Native.Nat.{ℕ, _+_}
 use mathlib.Core.List.{List, [], map}
-use Rattle.words.specs.Tests.{_≡?_, pick}
 use Rattle.words.specs.Lists.{nth}
 use Rattle.words.specs.Bytes.{part}
 use Rattle.units.specs.Units.{Sample, L, end, size}
 use Rattle.units.specs.Steps.{extractorAt}
 use Rattle.units.specs.declared.MaybeExtractor.{MaybeExtractor}
 use Rattle.units.specs.declared.MaybeExtractor.the-variants.{Extractor, Nothing}
-use Rattle.copies.specs.Copies.{copied, copyFault}
+use Rattle.copies.specs.Copies.{copyUnits}
 
 abbrev pub unitBytes : Sample → ℕ → List ℕ
 unitBytes z q = part (z .content) (q + L z) (size z q)
 
 unfoldable pub copiedUnit : Sample → ℕ → ℕ → ℕ → List ℕ
-copiedUnit z o n k = pick (copyFault z o n ≡? 0) (nth (map (unitBytes z) (copied z o n)) k []) []
+copiedUnit z o n k = nth (map (unitBytes z) (copyUnits z o n)) k []
 
 abbrev pub extractedBy : MaybeExtractor → Sample → ℕ → List ℕ
 extractedBy Nothing z k = []

@@ -1,9 +1,10 @@
 -- All units of a well-formed sample as one walk, front to back (01, 'Units in a sample'): after an aggregator's header and additional_bytes
 -- comes the first unit that it includes, after any other unit the next one; the last included unit ends where its aggregator ends.
 --
---   flatStep x p         the place after p in that walk
---   flatPlaces x a e     the places of units from a up to e, included ones too
---   Stretch x a e        the sample is well formed, and a and e are top-level borders of it
+--   flatStep x p           the place after p in that walk
+--   flatPlaces x a e       the places of units from a up to e, included ones too
+--   unitsBetween x a e     the same without aggregators
+--   BetweenBorders x a e   the sample is well formed, and a and e are top-level borders of it
 use Prim.Native.Nat.{ℕ, zero, suc, _-_, _≤_}
 use mathlib.Core.Path.{_≡_}
 use mathlib.Core.List.{List, [], _∷_}
@@ -13,6 +14,7 @@ use Rattle.words.specs.Refusals.{ok}
 use Rattle.units.specs.Units.{Sample, next, isAggregator, border}
 use Rattle.units.specs.Aggregators.{includedStart}
 use Rattle.samples.specs.Check.{check}
+use Rattle.copies.specs.Copies.{withoutAggregators}
 
 module _ (x : Sample) where
   unfoldable pub flatStep : ℕ → ℕ
@@ -26,7 +28,10 @@ module _ (x : Sample) where
   abbrev pub flatPlaces : ℕ → ℕ → List ℕ
   flatPlaces p e = flatFrom e (e - p) p
 
-  pub record Stretch (a e : ℕ) : Type 0 where
+  abbrev pub unitsBetween : ℕ → ℕ → List ℕ
+  unitsBetween a e = withoutAggregators x (flatPlaces a e)
+
+  pub record BetweenBorders (a e : ℕ) : Type 0 where
     pub formed : check x ≡ ok tt
     pub start : border x a ≡ true
     pub stop : border x e ≡ true

@@ -8,10 +8,10 @@ ghost use Rattle.words.specs.Lists.{nth};
 ghost use Rattle.words.specs.Buffers.{put};
 ghost use Rattle.units.specs.Units.{sample, next, border};
 ghost use Rattle.samples.specs.Check.{check};
-ghost use Rattle.copies.specs.Copies.{plain, copyStarts, copyEnd, copyEnds, borderFault, copyFault};
+ghost use Rattle.copies.specs.Copies.{copyStarts, copyEnd, copyEnds, borderFault, copyFault};
 ghost use Rattle.copies.specs.Extracted.{copiedUnit, extracted};
-ghost use Rattle.copies.specs.Flat.{flatPlaces, Stretch};
-ghost use Rattle.copies.specs.Written.{listed, refusal, measured, copyOf, copyBytes, copiedPlace, putCount};
+ghost use Rattle.copies.specs.Flat.{unitsBetween, BetweenBorders};
+ghost use Rattle.copies.specs.Written.{listed, refusedAmount, unchainedAmount, copyAmount, copyBytes, copiedPlace, putCount};
 use numbers::ByteOffset;
 use numbers::LengthSize;
 use numbers::refusals;
@@ -22,8 +22,8 @@ use units::Track;
 // The size of the length that stands before a unit in the output.
 pub const LENGTH_BEFORE: usize = 4;
 
-// A copy: its refusal number, 0 for none; the number of its units; the number of their bytes.
-pub struct Copy {
+// What is counted of a copy: its refusal number, 0 for none; the number of its units; the number of their bytes.
+pub struct CopyAmount {
     pub fault: u8,
     pub count: usize,
     pub bytes: usize,
@@ -53,7 +53,7 @@ fn is_border(k: Track, z: &[u8], from: usize, to: usize) -> bool
 // Whether data_offset is the start of a top-level unit.
 fn copy_starts(k: Track, z: &[u8], from: usize) -> bool
     requires { ⌜ check (sample k (now z)) ≡ ok tt ⌝ }
-    ensures { λ r. ⌜ r ≡ copyStarts (sample k (now (z .entry))) from 0 ⌝ }
+    ensures { λ r. ⌜ r ≡ copyStarts (sample k (now (z .entry))) from ⌝ }
 {
     if z.len() <= from {
         return false;
@@ -63,7 +63,7 @@ fn copy_starts(k: Track, z: &[u8], from: usize) -> bool
 
 // Whether a copy ends on a top-level border. What data_length 0 takes does so in any well-formed sample.
 fn copy_ends(k: Track, z: &[u8], from: usize, length: usize) -> bool
-    requires { ⌜ (check (sample k (now z)) ≡ ok tt) × (copyStarts (sample k (now z)) from length ≡ true) ⌝ }
+    requires { ⌜ (check (sample k (now z)) ≡ ok tt) × (copyStarts (sample k (now z)) from ≡ true) ⌝ }
     ensures { λ r. ⌜ r ≡ copyEnds (sample k (now (z .entry))) from length ⌝ }
 {
     if length == 0 {
@@ -106,10 +106,10 @@ fn copy_end(k: Track, z: &[u8], from: usize, length: usize) -> usize
 }
 
 // A copy that is refused.
-fn refused(fault: u8) -> Copy
-    ensures { λ r. ⌜ r ≡ refusal fault ⌝ }
+fn refused(fault: u8) -> CopyAmount
+    ensures { λ r. ⌜ r ≡ refusedAmount fault ⌝ }
 {
-    Copy {
+    CopyAmount {
         fault: fault,
         count: 0,
         bytes: 0,
@@ -117,9 +117,9 @@ fn refused(fault: u8) -> Copy
 }
 
 // The number of units from a border up to a border, and of their bytes, aggregators dropped; 28 where one of them is an extractor.
-fn measured(k: Track, z: &[u8], from: usize, to: usize) -> Copy
-    requires { ⌜ Stretch (sample k (now z)) from to ⌝ }
-    ensures { λ r. ⌜ r ≡ measured (sample k (now (z .entry))) (plain (sample k (now (z .entry))) (flatPlaces (sample k (now (z .entry))) from to)) ⌝ }
+fn amount_between(k: Track, z: &[u8], from: usize, to: usize) -> CopyAmount
+    requires { ⌜ BetweenBorders (sample k (now z)) from to ⌝ }
+    ensures { λ r. ⌜ r ≡ unchainedAmount (sample k (now (z .entry))) (unitsBetween (sample k (now (z .entry))) from to) ⌝ }
 {
     let l = k.length_size;
     let n = l.bytes();
@@ -140,7 +140,7 @@ fn measured(k: Track, z: &[u8], from: usize, to: usize) -> Copy
             p = p + n + size;
         }
     }
-    Copy {
+    CopyAmount {
         fault: 0,
         count: count,
         bytes: bytes,
@@ -148,21 +148,21 @@ fn measured(k: Track, z: &[u8], from: usize, to: usize) -> Copy
 }
 
 // A copy of a well-formed sample: 26, 27, 28, or its units counted.
-fn copy_formed(k: Track, z: &[u8], from: usize, length: usize) -> Copy
+fn copy_formed(k: Track, z: &[u8], from: usize, length: usize) -> CopyAmount
     requires { ⌜ check (sample k (now z)) ≡ ok tt ⌝ }
-    ensures { λ r. ⌜ r ≡ copyOf (sample k (now (z .entry))) from length ⌝ }
+    ensures { λ r. ⌜ r ≡ copyAmount (sample k (now (z .entry))) from length ⌝ }
 {
     let fault = border_fault(k, z, from, length);
     if fault != 0 {
         return refused(fault);
     }
-    measured(k, z, from, copy_end(k, z, from, length))
+    amount_between(k, z, from, copy_end(k, z, from, length))
 }
 
 // A copy of a sample by data_offset and data_length: 25 to 28, or its units counted.
 // The sample is checked once; then one walk goes over its top-level units up to the end of the copy, and one over the units copied.
-pub fn copy_of(k: Track, z: &[u8], offset: ByteOffset, length: usize) -> Copy
-    ensures { λ r. ⌜ r ≡ copyOf (sample k (now (z .entry))) (offset .0) length ⌝ }
+pub fn copy_amount(k: Track, z: &[u8], offset: ByteOffset, length: usize) -> CopyAmount
+    ensures { λ r. ⌜ r ≡ copyAmount (sample k (now (z .entry))) (offset .0) length ⌝ }
 {
     let checked = samples::check_sample(k, z);
     match checked {
@@ -175,14 +175,14 @@ pub fn copy_of(k: Track, z: &[u8], offset: ByteOffset, length: usize) -> Copy
 pub fn copy_fault(k: Track, z: &[u8], offset: ByteOffset, length: usize) -> u8
     ensures { λ r. ⌜ r ≡ copyFault (sample k (now (z .entry))) (offset .0) length ⌝ }
 {
-    let c = copy_of(k, z, offset, length);
+    let c = copy_amount(k, z, offset, length);
     c.fault
 }
 
 // Where the ith unit from 1 stands from a border up to a border, aggregators dropped; the end of the sample where there is none.
 fn place_among(k: Track, z: &[u8], from: usize, to: usize, i: usize) -> usize
-    requires { ⌜ Stretch (sample k (now z)) from to ⌝ }
-    ensures { λ r. ⌜ r ≡ nth (plain (sample k (now (z .entry))) (flatPlaces (sample k (now (z .entry))) from to)) i (length (now (z .entry))) ⌝ }
+    requires { ⌜ BetweenBorders (sample k (now z)) from to ⌝ }
+    ensures { λ r. ⌜ r ≡ nth (unitsBetween (sample k (now (z .entry))) from to) i (length (now (z .entry))) ⌝ }
 {
     if i == 0 {
         return z.len();
@@ -258,10 +258,10 @@ pub fn extracted<'a>(
 
 // The units from a border up to a border, aggregators dropped, each after its length in 4 bytes, over a buffer that has room for them.
 fn put_units(out: &mut [u8], at: usize, k: Track, z: &[u8], from: usize, to: usize)
-    requires { ⌜ Stretch (sample k (now z)) from to
-        × (at + length (listed (sample k (now z)) (plain (sample k (now z)) (flatPlaces (sample k (now z)) from to))) ≤ length (now out)) ⌝ }
+    requires { ⌜ BetweenBorders (sample k (now z)) from to
+        × (at + length (listed (sample k (now z)) (unitsBetween (sample k (now z)) from to)) ≤ length (now out)) ⌝ }
     ensures { λ _. ⌜ now (out .exit) ≡ put (now (out .entry)) at
-        (listed (sample k (now (z .entry))) (plain (sample k (now (z .entry))) (flatPlaces (sample k (now (z .entry))) from to))) ⌝ }
+        (listed (sample k (now (z .entry))) (unitsBetween (sample k (now (z .entry))) from to)) ⌝ }
 {
     let l = k.length_size;
     let n = l.bytes();
@@ -295,7 +295,7 @@ pub fn put_copy(
     ensures { λ r. ⌜ (r ≡ putCount (now (out .entry)) at (copyBytes (sample k (now (z .entry))) (offset .0) length))
         × (now (out .exit) ≡ put (now (out .entry)) at (copyBytes (sample k (now (z .entry))) (offset .0) length)) ⌝ }
 {
-    let c = copy_of(k, z, offset, length);
+    let c = copy_amount(k, z, offset, length);
     if c.fault != 0 {
         return 0;
     }

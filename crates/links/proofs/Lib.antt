@@ -1,10 +1,12 @@
 -- Laws of which sample is named.
 --
---   Links    what 23 and 24 say, the base, the sample named, in any layout
---   Order    the same where the samples of a track are neighbours
---   Naming   in the layout that any table says: the base found one sample after the other, the steps from there, the answer
+--   Links    what 23 and 24 say, the sample named, in any layout
+--   Order    where the samples of a track are neighbours and times rise: the base, signed steps from it
+--   Naming   what the code's answer says
 --   Words    laws that belong to words
+--   Search   the code case by case, in any table: for the proofs of this crate alone
 pub mod Words
 pub mod Links
 pub mod Order
 pub mod Naming
+mod Search

@@ -1,180 +1,42 @@
--- Which sample an extractor names, in the layout that any table says. Assumes nothing.
+-- What the code's answer says. Assumes nothing.
 --
---   range-most                                the samples of a track end within the limit
---   range-at, range-past                      the sample of a number within a track, and of one that none has
---   searched                                  the last of the first samples of a range at or before a time
---   searched-none, searched-here, searched-on    no sample yet; one more, at or before; one more, after
---   base-searched, base-most                  the base is the one among all of them; its number is at most how many they are
---   link-zero, link-past, link-none           23 or not
---   linked-by                                 the linked track, by the own one
---   named-no-track, named-no-base, named-at   the sample named, by the base
---   name-link, name-none, name-sample         the answer, by its parts
---   naming-refused, naming-sample             what an answer says
-use Prim.Native.Nat.{ℕ, zero, suc, _+_, _-_, _≤_, _<_}
-use mathlib.Core.Path.{_≡_, refl, ap, sym, _∙_}
-use mathlib.Core.List.{List, [], _∷_, map}
+--   naming-refused, naming-sample             23 or 24; else the sample named
+use Prim.Native.Nat.{ℕ, suc, _<_}
+use mathlib.Core.Path.{_≡_, _∙_}
 use native.Mathlib.Omega.{arith}
-use native.Mathlib.Nat.{pos-of-ne-zero}
-use native.Mathlib.Numerals.{add-one}
-use borrow.Author.Tests.{lt-ltb, le-ltb, le-leb, lt-leb, leb-true, eq-eqb, ne-eqb, eqb-false}
-use lib.Dec.{ltb, leb, eqb, eqb·suc-zero}
-use lib.ListN.{length, length-map}
-use Rattle.words.specs.Tests.{_≤?_, pick}
-use Rattle.words.specs.RefusalNumbers.{badTrackRefIndex, noSampleNamed}
-use Rattle.words.specs.Lists.{nth, upto, lastThat}
-use Rattle.words.proofs.Tests.{by-bool, by-number}
-use Rattle.words.proofs.Refusals.{if-none, orElse-none}
-use Rattle.words.proofs.Lists.{lastThat-snoc}
+use lib.Dec.{eqb·suc-zero}
+use Rattle.words.proofs.Tests.{by-number}
 use Rattle.numbers.specs.declared.SampleNumber.{SampleNumber}
-use Rattle.bundles.specs.Recordings.{Layout, noReference, trackOf, timeOf, referencesFrom, samplesIn}
-use Rattle.words.proofs.Entries.{map-append}
-use Rattle.tables.specs.Tables.{atMost, cell, countsRow, samplesColumn, sampleTotal, trackTotal, layoutIn, rangeIn}
-use Rattle.words.proofs.Rows.{upto-length, upto-more, nth-upto, nth-past}
-use Rattle.tables.proofs.Ranges.{after-most, range-samples}
+use Rattle.bundles.specs.Recordings.{Layout}
 use Rattle.links.specs.declared.Named.the-variants.{Refused, Sample}
-use Rattle.links.specs.Links.{linkFault, linkedTrack, base, stepped, sampleNamed, nameFault}
+use Rattle.links.specs.Links.{sampleNamed, nameFault}
 use Rattle.links.specs.Named.{naming}
+use Rattle.links.proofs.Links.{name-none}
 
--- the samples of a track
-total-below : (most n : ℕ) → atMost most n ≤ most
-total-below most n = by-bool (leb n most) (λ q. rw q (leb-true n most q)) (λ q. rw q (omega arith))
+module _ (y : Layout) (n index offset : ℕ) where
+  pub naming-refused : {f : ℕ} → naming y n index offset ≡ Refused f → (nameFault y n index offset ≡ f) × (0 < f)
+  unfolding naming
+  naming-refused {f} e =
+      by-number (nameFault y n index offset)
+      (λ z.
+      let s : Sample (record { 0 = sampleNamed y n index offset }) ≡ Refused f = rw z at e in
+      let w : _≡_ {A = ℕ} 0 1 = cc in
+      absurd (omega arith))
+      (λ g z.
+      let s : Refused (suc g) ≡ Refused f = rw (z, eqb·suc-zero g) at e in
+      let w : suc g ≡ f = cc in
+      (z ∙ w, omega arith))
 
-module _ (t : List ℕ) (k : ℕ) where
-  pub range-most : rangeIn t k .after ≤ 4096
-  unfolding rangeIn
-  range-most =
-      let a = after-most t k (trackTotal t) in
-      let b : sampleTotal t ≤ 4096 = total-below 4096 (cell t countsRow samplesColumn) in
-      by-bool (eqb k 0)
-      (λ q. rw q (omega arith))
-      (λ q. rw q (by-bool (ltb (trackTotal t) k) (λ r. rw r (omega arith)) (λ r. rw r (omega arith))))
-
-module _ (t : List ℕ) (k : ℕ) (some : 0 < k) where
-  pub range-at : (j : ℕ) → 0 < j → j ≤ rangeIn t k .after - rangeIn t k .before → nth (samplesIn (layoutIn t) k) j 0 ≡ rangeIn t k .before + j
-  range-at j h l = rw (range-samples t k some) (nth-upto (λ i. rangeIn t k .before + i) (rangeIn t k .after - rangeIn t k .before) j 0 h l)
-
-  pub range-past : (j : ℕ) → rangeIn t k .after - rangeIn t k .before < j → nth (samplesIn (layoutIn t) k) j 0 ≡ 0
-  range-past j h = rw (range-samples t k some) (nth-past (λ i. rangeIn t k .before + i) (rangeIn t k .after - rangeIn t k .before) j 0 h)
-
--- the last of the i samples after sample a that stands at or before a time
-module _ (y : Layout) (time a : ℕ) where
-  unfoldable pub searched : ℕ → ℕ
-  searched i = lastThat (λ m. timeOf y m ≤? time) (map (λ j. a + j) (upto i))
-
-  searched-zero : searched 0 ≡ 0
-  unfolding searched upto lastThat
-  searched-zero = refl
-
-  searched-more : (i : ℕ) → searched (i + 1) ≡ pick (timeOf y (a + (i + 1)) ≤? time) (i + 1) (searched i)
-  unfolding searched
-  searched-more i =
-      rw (upto-more i, map-append (λ j. a + j) (upto i) ((i + 1) ∷ []), lastThat-snoc (λ m. timeOf y m ≤? time) (map (λ j. a + j) (upto i)) (a + (i + 1)), length-map (upto i) (λ j. a + j), upto-length i, add-one i)
-
-  searched-most : (i : ℕ) → searched i ≤ i
-  searched-most zero = rw searched-zero (omega arith)
-  searched-most (suc i) =
-      let h = searched-most i in
-      rw (← add-one i, searched-more i) (by-bool (leb (timeOf y (a + (i + 1))) time) (λ q. rw q (omega arith)) (λ q. rw q (omega arith)))
-
-  pub searched-none : 0 ≡ searched (a - a)
-  searched-none = let e : a - a ≡ 0 = omega arith in rw e (sym searched-zero)
-
-  -- sample m + 1 comes next
-  module _ (m : ℕ) (from : a ≤ m) where
-    pub searched-here : timeOf y (m + 1) ≤ time → m + 1 - a ≡ searched (m + 1 - a)
-    searched-here h =
-        let e : m + 1 - a ≡ m - a + 1 = omega arith in
-        let x : a + (m - a + 1) ≡ m + 1 = omega arith in
-        rw (e, searched-more (m - a), x, le-leb (timeOf y (m + 1)) time h)
-
-    pub searched-on : {b : ℕ} → time < timeOf y (m + 1) → b ≡ searched (m - a) → b ≡ searched (m + 1 - a)
-    searched-on h f =
-        let e : m + 1 - a ≡ m - a + 1 = omega arith in
-        let x : a + (m - a + 1) ≡ m + 1 = omega arith in
-        rw (e, searched-more (m - a), x, lt-leb (timeOf y (m + 1)) time h) f
-
-module _ (t : List ℕ) (n k : ℕ) (some : 0 < k) where
-  pub base-searched : base (layoutIn t) n k ≡ searched (layoutIn t) (timeOf (layoutIn t) n) (rangeIn t k .before) (rangeIn t k .after - rangeIn t k .before)
-  unfolding base searched
-  base-searched = rw (range-samples t k some)
-
-  pub base-most : base (layoutIn t) n k ≤ rangeIn t k .after - rangeIn t k .before
-  base-most = rw base-searched (searched-most (layoutIn t) (timeOf (layoutIn t) n) (rangeIn t k .before) (rangeIn t k .after - rangeIn t k .before))
-
-module _ (y : Layout) (n index : ℕ) where
-  -- 23
-  pub link-zero : index ≡ 0 → linkFault y n index ≡ badTrackRefIndex
-  unfolding linkFault
-  link-zero e = rw (eq-eqb index 0 e)
-
-  pub link-past : (index ≡ 0 → ⊥) → length (referencesFrom y (trackOf y n)) < index → linkFault y n index ≡ badTrackRefIndex
-  unfolding linkFault
-  link-past h l = rw (ne-eqb index 0 h, lt-ltb (length (referencesFrom y (trackOf y n))) index l)
-
-  pub link-none : (index ≡ 0 → ⊥) → index ≤ length (referencesFrom y (trackOf y n)) → linkFault y n index ≡ 0
-  unfolding linkFault
-  link-none h l = rw (ne-eqb index 0 h, le-ltb (length (referencesFrom y (trackOf y n))) index l)
-
-  pub linked-by : {own k : ℕ} → own ≡ trackOf y n → k ≡ nth (referencesFrom y own) index noReference .to → k ≡ linkedTrack y n index
-  unfolding linkedTrack
-  linked-by e f = f ∙ ap (λ (o : ℕ). nth (referencesFrom y o) index noReference .to) e
-
-  module _ (offset : ℕ) where
-    -- the sample named, by the linked track k and the base b
-    module _ {k : ℕ} (linked : k ≡ linkedTrack y n index) where
-      pub named-no-track : k ≡ 0 → sampleNamed y n index offset ≡ 0
-      unfolding sampleNamed
-      named-no-track e = rw (← linked, eq-eqb k 0 e)
-
-      module _ {b : ℕ} (found : b ≡ base y n k) where
-        pub named-no-base : b ≡ 0 → sampleNamed y n index offset ≡ 0
-        unfolding sampleNamed
-        named-no-base e = rw (← linked, ← found, eq-eqb b 0 e) (by-bool (eqb k 0) (λ q. rw q) (λ q. rw q))
-
-        pub named-at : {j : ℕ} → (k ≡ 0 → ⊥) → (b ≡ 0 → ⊥) → j ≡ stepped b offset → sampleNamed y n index offset ≡ nth (samplesIn y k) j 0
-        unfolding sampleNamed
-        named-at {j} g h e = rw (← linked, ← found, ne-eqb k 0 g, ne-eqb b 0 h, ← e)
-
-    -- the answer
-    pub name-link : {f : ℕ} → f ≡ linkFault y n index → (f ≡ 0 → ⊥) → Refused f ≡ naming y n index offset
-    unfolding naming nameFault
-    name-link {f} e h = by-number f (λ z. absurd (h z)) (λ g z. rw (← e, z, eqb·suc-zero g))
-
-    pub name-none : linkFault y n index ≡ 0 → sampleNamed y n index offset ≡ 0 → Refused noSampleNamed ≡ naming y n index offset
-    unfolding naming nameFault
-    name-none e f = rw (e, eq-eqb (sampleNamed y n index offset) 0 f)
-
-    pub name-sample : linkFault y n index ≡ 0 → (m : SampleNumber) → m .0 ≡ sampleNamed y n index offset → (m .0 ≡ 0 → ⊥) → Sample m ≡ naming y n index offset
-    unfolding naming nameFault
-    name-sample e m f h = rw (e, ← f, ne-eqb (m .0) 0 h)
-
-    -- what an answer says
-    pub naming-refused : {f : ℕ} → naming y n index offset ≡ Refused f → (nameFault y n index offset ≡ f) × (0 < f)
-    unfolding naming
-    naming-refused {f} e =
-        by-number (nameFault y n index offset)
-        (λ z.
-        let s : Sample (record { 0 = sampleNamed y n index offset }) ≡ Refused f = rw z at e in
-        let w : _≡_ {A = ℕ} 0 1 = cc in
-        absurd (omega arith))
-        (λ g z.
-        let s : Refused (suc g) ≡ Refused f = rw (z, eqb·suc-zero g) at e in
-        let w : suc g ≡ f = cc in
-        (z ∙ w, omega arith))
-
-    named-found : nameFault y n index offset ≡ 0 → sampleNamed y n index offset ≡ 0 → ⊥
-    unfolding nameFault
-    named-found e = eqb-false (sampleNamed y n index offset) 0 (if-none 23 _ (orElse-none (linkFault y n index) _ e .1))
-
-    pub naming-sample : {m : SampleNumber} → naming y n index offset ≡ Sample m → (nameFault y n index offset ≡ 0) × (sampleNamed y n index offset ≡ m .0) × (0 < m .0)
-    unfolding naming
-    naming-sample {m} e =
-        by-number (nameFault y n index offset)
-        (λ z.
-        let s : Sample (record { 0 = sampleNamed y n index offset }) ≡ Sample m = rw z at e in
-        let w : sampleNamed y n index offset ≡ m .0 = cc in
-        (z, w, pos-of-ne-zero (λ o. named-found z (w ∙ o))))
-        (λ g z.
-        let s : Refused (suc g) ≡ Sample m = rw (z, eqb·suc-zero g) at e in
-        let w : _≡_ {A = ℕ} 0 1 = cc in
-        absurd (omega arith))
+  pub naming-sample : {m : SampleNumber} → naming y n index offset ≡ Sample m → (nameFault y n index offset ≡ 0) × (sampleNamed y n index offset ≡ m .0) × (0 < m .0)
+  unfolding naming
+  naming-sample {m} e =
+      by-number (nameFault y n index offset)
+      (λ z.
+      let s : Sample (record { 0 = sampleNamed y n index offset }) ≡ Sample m = rw z at e in
+      let w : sampleNamed y n index offset ≡ m .0 = cc in
+      let a = name-none y n index offset z in
+      (z, w, omega arith))
+      (λ g z.
+      let s : Refused (suc g) ≡ Sample m = rw (z, eqb·suc-zero g) at e in
+      let w : _≡_ {A = ℕ} 0 1 = cc in
+      absurd (omega arith))

@@ -4,38 +4,46 @@
 --   ordered-rise, bundle-rise    the samples of an accepted bundle are so
 --   before-test, upTo-test       which samples stand in tracks before k, and up to k
 --   samples-range                the samples of track k are those after `before`, up to `upTo`
+-- Where besides times rise, as in every accepted bundle:
+--   base-is                      the base is the last sample of the linked track at or before, by its number there
+--   base-none                    no base: no sample of the linked track is at or before
+--   base-last                    the base is at or before, and no later sample of the linked track is
+--   base-times, later-without    the same in times
+--   earlier-passes               at or before holds of the samples of a track up to one, and of none after it
 --   base-number                  the base by its number in the recording
---   base-times                   the base is the last sample of the linked track with a time at or before the own sample's
---   later-without                where there is no base, they are all later
+--   named-baseless               without a base no sample is named
 --   named-up, named-past         sample_offset 0 to 127: that many samples after the base, or none
 --   named-down, named-short      sample_offset 128 to 255, which is less by 256: that many samples before the base, or none
 --   named-steps                  the four together
---   earlier-passes               where times rise, at or before holds of the samples of a track up to one, and of none after it
 use Prim.Native.Nat.{ℕ, _+_, _-_, _≤_, _<_}
 use mathlib.Core.Path.{_≡_, sym, _∙_}
-use mathlib.Core.List.{List, List·Memᴰ}
-use mathlib.Core.Bool.{true, _&&_}
+use mathlib.Core.List.{List, [], map, List·Memᴰ}
+use mathlib.Core.Bool.{true, false, _&&_}
 use native.Mathlib.Omega.{arith}
 use borrow.Author.Tests.{le-leb, lt-leb, leb-true, leb-false, lt-ltb, le-ltb, ltb-true, ltb-false, eq-eqb, ne-eqb, eqb-true, eqb-false}
 use lib.Dec.{leb, ltb, eqb}
-use lib.ListN.{length}
+use lib.ListN.{length, length-map}
 use Rattle.words.specs.Tests.{_<?_, _≤?_, _≡?_}
 use Rattle.words.specs.Refusals.{ok}
-use Rattle.words.specs.Lists.{nth}
+use Rattle.words.specs.Lists.{nth, upto, lastThat}
 use Rattle.words.proofs.Tests.{by-bool, by-number}
+use Rattle.words.proofs.Lists.{keep-nothing, upto-from, nth-mem}
+use Rattle.words.proofs.Rows.{upto-length, nth-upto, nth-none, nth-beyond}
+use Rattle.words.proofs.Kept.{keep-same}
 use Rattle.bundles.specs.Recordings.{Layout, Recording, noEntry, sampleCount, trackOf, timeOf, samplesIn}
 use Rattle.bundles.specs.Bundles.{meaning}
 use Rattle.bundles.proofs.Order.{InOrder}
 use Rattle.bundles.proofs.Promises.{Ordered, samples-ordered}
-use Rattle.links.specs.Links.{stepped, linkedTrack, atOrBefore, base, sampleNamed}
-use Rattle.links.specs.Numbers.{numbersAfter}
-use Rattle.links.specs.Order.{TracksRise, TimesRise, before, upTo, baseSample, Steps}
-use Rattle.links.proofs.Words.{nth-zero, nth-over, last-count, last-down, after-length, after-nth, keep-after, rising-nth}
-use Rattle.links.proofs.Links.{base-most, in-track, base-none, base-last}
+use Rattle.tables.proofs.Ranges.{keep-range}
+use Rattle.links.specs.Links.{signed, stepped, linkedTrack, atOrBefore, base, sampleNamed}
+use Rattle.links.specs.Order.{TracksRise, TimesRise, before, upTo, baseSample, Base, Steps}
+use Rattle.links.proofs.Words.{mem-nth, rising-nth, last-most, last-passes, last-later, last-count, last-down}
+use Rattle.links.proofs.Links.{in-track, track-rise}
 
 pub ordered-rise : (y : Layout) → Ordered y → TimesRise y
 ordered-rise y o = record {
   tracks = λ i j h l k. rising-nth InOrder (y .entries) (o .rise) i j noEntry h l k .track;
+  numbered = λ i h l. let x = o .exist (nth-mem (y .entries) i noEntry h l) in omega arith;
   times = λ i j h l k e. rising-nth InOrder (y .entries) (o .rise) i j noEntry h l k .time e;
 }
 
@@ -89,75 +97,127 @@ module _ (y : Layout) (rise : TracksRise y) where
       leb-true (before y k) (upTo y k) (sym (upTo-test k (before y k) (omega arith) n) ∙ le-leb (trackOf y (before y k)) k (omega arith)))
 
   -- the samples of track k are those after `before`, up to `upTo`
-  pub samples-range : (k : ℕ) → samplesIn y k ≡ numbersAfter (before y k) (upTo y k - before y k)
+  pub samples-range : (k : ℕ) → samplesIn y k ≡ map (λ i. before y k + i) (upto (upTo y k - before y k))
   unfolding samplesIn
-  samples-range k = keep-after (λ m. trackOf y m ≡? k) (sampleCount y) (before y k) (upTo y k) (before-upTo k) (upTo-most k)
-      (λ m h l. between (trackOf y m) k m (before y k) (upTo y k) (before-test k m h l) (upTo-test k m h l))
+  samples-range k =
+      keep-same (λ m. trackOf y m ≡? k) (λ m. (before y k <? m) && (m ≤? upTo y k)) (upto (sampleCount y))
+      (λ m h.
+      let u = upto-from (sampleCount y) m h in
+      between (trackOf y m) k m (before y k) (upTo y k) (before-test k m (u .0) (u .1)) (upTo-test k m (u .0) (u .1)))
+      ∙ keep-range (before y k) (upTo y k) (sampleCount y) (upTo-most k)
 
-  range-length : (k : ℕ) → length (samplesIn y k) ≡ upTo y k - before y k
-  range-length k = rw (samples-range k) (after-length (before y k) (upTo y k - before y k))
+  pub range-length : (k : ℕ) → length (samplesIn y k) ≡ upTo y k - before y k
+  range-length k = rw (samples-range k) (length-map (upto (upTo y k - before y k)) (λ i. before y k + i) ∙ upto-length (upTo y k - before y k))
 
   -- the ith sample of track k, from 1
   pub sample-number : (k i : ℕ) → 0 < i → before y k + i ≤ upTo y k → nth (samplesIn y k) i 0 ≡ before y k + i
-  sample-number k i h l = rw (samples-range k) (after-nth (before y k) (upTo y k - before y k) i h (omega arith))
+  sample-number k i h l = rw (samples-range k) (nth-upto (λ j. before y k + j) (upTo y k - before y k) i 0 h (omega arith))
 
   pub sample-past : (k i : ℕ) → upTo y k < before y k + i → nth (samplesIn y k) i 0 ≡ 0
-  sample-past k i l = let a = range-length k in let b = before-upTo k in nth-over (samplesIn y k) i 0 (omega arith)
+  sample-past k i l = let a = range-length k in let b = before-upTo k in nth-beyond (samplesIn y k) i 0 (omega arith)
 
+-- where besides times rise: the base, and signed steps from it
+module _ (y : Layout) (rise : TimesRise y) where
+  -- there is no track 0
+  no-samples : samplesIn y 0 ≡ []
+  unfolding samplesIn
+  no-samples = keep-nothing (λ m. trackOf y m ≡? 0) (upto (sampleCount y)) (λ m h.
+      let u = upto-from (sampleCount y) m h in
+      let s = rise .numbered m (u .0) (u .1) in
+      ne-eqb (trackOf y m) 0 (λ z. absurd (omega arith)))
+
+  -- the base, by its number within the linked track
   module _ (n k : ℕ) where
+    pub base-is : base y n k ≡ lastThat (λ m. atOrBefore y m n) (samplesIn y k)
+    unfolding base lastThat
+    base-is = by-bool (k ≡? 0)
+        (λ q. let z : k ≡ 0 = eqb-true k 0 q in rw (z, no-samples))
+        (λ q. rw q)
+
+    base-most : base y n k ≤ length (samplesIn y k)
+    base-most = rw base-is (last-most (λ m. atOrBefore y m n) (samplesIn y k))
+
+    base-later : (i : ℕ) → base y n k < i → i ≤ length (samplesIn y k) → atOrBefore y (nth (samplesIn y k) i 0) n ≡ false
+    base-later i h l = last-later (λ m. atOrBefore y m n) (samplesIn y k) 0 i (rw base-is at h) l
+
+    pub base-none : base y n k ≡ 0 → (m : ℕ) → List·Memᴰ m (samplesIn y k) → atOrBefore y m n ≡ false
+    base-none e m h =
+        let w = mem-nth (samplesIn y k) m 0 h in
+        rw (w .2) at (base-later (w .0) (omega arith) (w .1 .1))
+
+    pub base-last : 0 < base y n k → Base y n k
+    base-last h = record {
+      there = nth-mem (samplesIn y k) (base y n k) 0 h base-most;
+      passes = rw base-is (last-passes (λ m. atOrBefore y m n) (samplesIn y k) 0 (rw base-is at h));
+      last = λ m j u.
+          let w = mem-nth (samplesIn y k) m 0 j in
+          by-bool (ltb (base y n k) (w .0))
+          (λ q. rw (w .2) at (base-later (w .0) (ltb-true _ _ q) (w .1 .1)))
+          (λ q.
+          let v : w .0 ≤ base y n k = ltb-false _ _ q in
+          let z = base-most in
+          let r : m ≤ baseSample y n k = by-bool (eqb (w .0) (base y n k))
+          (λ s. let c : w .0 ≡ base y n k = eqb-true _ _ s in let d : baseSample y n k ≡ m = rw c at (w .2) in omega arith)
+          (λ s. let c : (w .0 ≡ base y n k) → ⊥ = eqb-false _ _ s in let d : m < baseSample y n k = rw (w .2) at (rising-nth _<_ (samplesIn y k) (track-rise y n k) (w .0) (base y n k) 0 (w .1 .0) (omega arith) z) in omega arith) in
+          absurd (omega arith));
+    }
+
+    -- the same in times
+    pub base-times : 0 < base y n k → (timeOf y (baseSample y n k) ≤ timeOf y n) × ((m : ℕ) → List·Memᴰ m (samplesIn y k) → baseSample y n k < m → timeOf y n < timeOf y m)
+    base-times h = let w = base-last h in (leb-true _ _ (w .passes), λ m j l. leb-false _ _ (w .last m j l))
+
+    pub later-without : base y n k ≡ 0 → (m : ℕ) → List·Memᴰ m (samplesIn y k) → timeOf y n < timeOf y m
+    later-without e m j = leb-false _ _ (base-none e m j)
+
+    pub earlier-passes : (i j : ℕ) → List·Memᴰ i (samplesIn y k) → List·Memᴰ j (samplesIn y k) → i < j → atOrBefore y j n ≡ true → atOrBefore y i n ≡ true
+    earlier-passes i j a c l t =
+        let p = in-track y n k i a in
+        let q = in-track y n k j c in
+        let u = rise .times i j (p .0) l (q .1) (p .2 ∙ sym (q .2)) in
+        let v = leb-true (timeOf y j) (timeOf y n) t in
+        le-leb (timeOf y i) (timeOf y n) (omega arith)
+
+    -- by its number in the recording
     base-fits : before y k + base y n k ≤ upTo y k
-    base-fits = let a = base-most y n k in let b = range-length k in let c = before-upTo k in omega arith
+    base-fits = let a = base-most in let b = range-length y (rise .tracks) k in let c = before-upTo y (rise .tracks) k in omega arith
 
     pub base-number : 0 < base y n k → baseSample y n k ≡ before y k + base y n k
-    base-number h = sample-number k (base y n k) h base-fits
+    base-number h = sample-number y (rise .tracks) k (base y n k) h base-fits
+
+  pub named-baseless : (n index offset : ℕ) → base y n (linkedTrack y n index) ≡ 0 → sampleNamed y n index offset ≡ 0
+  unfolding sampleNamed
+  named-baseless n index offset e = rw e
 
   -- signed steps
-  module _ (n index offset : ℕ) (link : 0 < linkedTrack y n index) (found : 0 < base y n (linkedTrack y n index)) where
+  module _ (n index offset : ℕ) (found : 0 < base y n (linkedTrack y n index)) where
     abbrev k : ℕ
     k = linkedTrack y n index
 
     abbrev b : ℕ
     b = base y n k
 
-    steps : sampleNamed y n index offset ≡ nth (samplesIn y k) (stepped b offset) 0
+    steps : sampleNamed y n index offset ≡ nth (samplesIn y k) (stepped b (signed offset)) 0
     unfolding sampleNamed
-    steps = rw (ne-eqb k 0 (λ z. absurd (omega arith)), ne-eqb b 0 (λ z. absurd (omega arith)))
+    steps = rw (ne-eqb b 0 (λ z. absurd (omega arith)))
 
     pub named-up : offset < 128 → baseSample y n k + offset ≤ upTo y k → sampleNamed y n index offset ≡ baseSample y n k + offset
     named-up h l =
         let e = base-number n k found in
-        steps ∙ rw (lt-leb 128 offset h) (sample-number k (b + offset) (omega arith) (omega arith)) ∙ (let z : before y k + (b + offset) ≡ baseSample y n k + offset = omega arith in z)
+        steps ∙ rw (lt-ltb offset 128 h) (sample-number y (rise .tracks) k (b + offset) (omega arith) (omega arith)) ∙ (let z : before y k + (b + offset) ≡ baseSample y n k + offset = omega arith in z)
 
     pub named-past : offset < 128 → upTo y k < baseSample y n k + offset → sampleNamed y n index offset ≡ 0
-    named-past h l = let e = base-number n k found in steps ∙ rw (lt-leb 128 offset h) (sample-past k (b + offset) (omega arith))
+    named-past h l = let e = base-number n k found in steps ∙ rw (lt-ltb offset 128 h) (sample-past y (rise .tracks) k (b + offset) (omega arith))
 
     pub named-down : 128 ≤ offset → offset ≤ 256 → before y k + (256 - offset) < baseSample y n k → sampleNamed y n index offset ≡ baseSample y n k - (256 - offset)
     named-down h g l =
         let e = base-number n k found in
         let f = base-fits n k in
-        steps ∙ rw (le-leb 128 offset h) (sample-number k (b + offset - 256) (omega arith) (omega arith)) ∙ (let z : before y k + (b + offset - 256) ≡ baseSample y n k - (256 - offset) = omega arith in z)
+        steps ∙ rw (le-ltb offset 128 h, lt-ltb (256 - offset) b (omega arith)) (sample-number y (rise .tracks) k (b - (256 - offset)) (omega arith) (omega arith)) ∙ (let z : before y k + (b - (256 - offset)) ≡ baseSample y n k - (256 - offset) = omega arith in z)
 
     pub named-short : 128 ≤ offset → offset ≤ 256 → baseSample y n k ≤ before y k + (256 - offset) → sampleNamed y n index offset ≡ 0
     named-short h g l =
         let e = base-number n k found in
-        let z : b + offset - 256 ≡ 0 = omega arith in
-        steps ∙ rw (le-leb 128 offset h, z) (nth-zero (samplesIn y k) 0)
+        steps ∙ rw (le-ltb offset 128 h, le-ltb (256 - offset) b (omega arith)) (nth-none (samplesIn y k) 0)
 
     pub named-steps : Steps y n index offset
     named-steps = record { up = named-up; past = named-past; down = named-down; short = named-short }
-
--- at or before, in times
-module _ (y : Layout) (n k : ℕ) where
-  pub base-times : 0 < base y n k → (timeOf y (baseSample y n k) ≤ timeOf y n) × ((m : ℕ) → List·Memᴰ m (samplesIn y k) → baseSample y n k < m → timeOf y n < timeOf y m)
-  base-times h = let w = base-last y n k h in (leb-true _ _ (w .passes), λ m j l. leb-false _ _ (w .last m j l))
-
-  pub later-without : base y n k ≡ 0 → (m : ℕ) → List·Memᴰ m (samplesIn y k) → timeOf y n < timeOf y m
-  later-without e m j = leb-false _ _ (base-none y n k e m j)
-
-  pub earlier-passes : TimesRise y → (i j : ℕ) → List·Memᴰ i (samplesIn y k) → List·Memᴰ j (samplesIn y k) → i < j → atOrBefore y j n ≡ true → atOrBefore y i n ≡ true
-  earlier-passes rise i j a c l t =
-      let p = in-track y n k i a in
-      let q = in-track y n k j c in
-      let u = rise .times i j (p .0) l (q .1) (p .2 ∙ sym (q .2)) in
-      let v = leb-true (timeOf y j) (timeOf y n) t in
-      le-leb (timeOf y i) (timeOf y n) (omega arith)

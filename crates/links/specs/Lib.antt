@@ -3,8 +3,6 @@
 --   Links     the linked track, the base, the sample named; refusals 23 and 24
 --   Order     layouts in which the samples of a track are neighbours
 --   Named     what the code answers
---   Numbers   numbers that follow one another
 pub mod Links
 pub mod Order
-pub mod Numbers
 pub mod Named

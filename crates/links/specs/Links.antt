@@ -1,25 +1,36 @@
--- Which sample an extractor names (01, 'Resolving', first point; B.3.1). It goes by the layout y alone: no sample's bytes matter.
+-- Which sample an extractor names (01, 'Resolving', first point; B.3.3). It goes by the layout y alone: no sample's bytes matter.
 -- n is the number of the extractor's own sample. 0 is no track and no sample.
 --
+--   Signed, signed offset          sample_offset: a number of samples ahead or back
+--   stepped b s                    that many samples from the bth of a track; 0 is none
 --   linkFault n index              23
 --   linkedTrack n index            the linked track; 0 is none
 --   atOrBefore m n                 the clock: sample m stands at or before sample n
 --   base n track                   the base, by its number within the linked track; 0 is none
---   stepped b offset               signed steps from there
 --   sampleNamed n index offset     the sample named; 0 is none
 --   nameFault n index offset       23, 24
 use Prim.Native.Nat.{ℕ, _+_, _-_}
-use mathlib.Core.Bool.{Bool, _||_}
+use mathlib.Core.Bool.{Bool}
 use lib.ListN.{length}
-use Rattle.words.specs.Tests.{_<?_, _≤?_, _≡?_, _when_else_}
+use Rattle.words.specs.Tests.{_<?_, _≤?_, _≡?_, pick, _when_else_}
 use Rattle.words.specs.Refusals.{_if_, _orElse_}
 use Rattle.words.specs.RefusalNumbers.{badTrackRefIndex, noSampleNamed}
 use Rattle.words.specs.Lists.{nth, lastThat}
 use Rattle.bundles.specs.Recordings.{Layout, noReference, trackOf, timeOf, referencesFrom, samplesIn}
 
--- sample_offset is signed: a byte of 128 or more is 256 less. Steps from the bth sample of a track; before the first is 0, which none has.
-abbrev pub stepped : ℕ → ℕ → ℕ
-stepped b offset = b + offset - 256 when 128 ≤? offset else b + offset
+-- sample_offset is signed: so many samples ahead, or back.
+pub data Signed : Type 0 where
+  ahead : ℕ → Signed
+  back : ℕ → Signed
+
+-- It is a byte, of which 128 and more are 256 less.
+abbrev pub signed : ℕ → Signed
+signed offset = pick (offset <? 128) (ahead offset) (back (256 - offset))
+
+-- That many samples from the bth of a track. Before the first is 0, which none has.
+abbrev pub stepped : ℕ → Signed → ℕ
+stepped b (ahead k) = b + k
+stepped b (back k) = b - k when k <? b else 0
 
 module _ (y : Layout) where
   -- 23: track_ref_index 0 or past the last
@@ -36,16 +47,17 @@ module _ (y : Layout) where
   abbrev pub atOrBefore : ℕ → ℕ → Bool
   atOrBefore m n = timeOf y m ≤? timeOf y n
 
-  -- The base: the last sample of the linked track with decode time at or before the own sample's.
+  -- The base: the last sample of the linked track with decode time at or before the own sample's. Without a track there is none.
   unfoldable pub base : ℕ → ℕ → ℕ
-  base n track = lastThat (λ m. atOrBefore m n) (samplesIn y track)
+  base n track = 0 when track ≡? 0 else lastThat (λ m. atOrBefore m n) (samplesIn y track)
 
-  -- The sample named: sample_offset steps from the base in the linked track, in number order; with no base, or past either end, there is none.
+  -- The sample named: sample_offset steps from the base in the linked track, in number order; with no base, or past either end, there
+  -- is none.
   unfoldable pub sampleNamed : ℕ → ℕ → ℕ → ℕ
   sampleNamed n index offset =
       let track = linkedTrack n index in
       let b = base n track in
-      0 when (track ≡? 0) || (b ≡? 0) else nth (samplesIn y track) (stepped b offset) 0
+      0 when b ≡? 0 else nth (samplesIn y track) (stepped b (signed offset)) 0
 
   -- 23, then 24: no sample named
   unfoldable pub nameFault : ℕ → ℕ → ℕ → ℕ

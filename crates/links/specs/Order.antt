@@ -1,17 +1,20 @@
 -- What is needed of a layout so that the samples of a track are neighbours. Every accepted bundle's has it (6).
 --
 --   TracksRise y     track numbers never fall
---   TimesRise y      besides, within a track times strictly rise
+--   TimesRise y      besides, tracks are numbered from 1, and within a track times strictly rise
 --   before y k       the last sample of the tracks before track k; 0 is none
 --   upTo y k         the last sample of the tracks up to track k
 --   baseSample       the base, by its number in the recording; 0 is none
+--   Base n k         there is a base in track k: it is at or before, and no later sample of the track is
 --   Steps            the sample named, by signed steps from the base
 use Prim.Native.Nat.{ℕ, _+_, _-_, _≤_, _<_}
 use mathlib.Core.Path.{_≡_}
+use mathlib.Core.List.{List·Memᴰ}
+use mathlib.Core.Bool.{true, false}
 use Rattle.words.specs.Tests.{_<?_, _≤?_}
 use Rattle.words.specs.Lists.{nth, upto, lastThat}
 use Rattle.bundles.specs.Recordings.{Layout, sampleCount, trackOf, timeOf, samplesIn}
-use Rattle.links.specs.Links.{linkedTrack, base, sampleNamed}
+use Rattle.links.specs.Links.{linkedTrack, atOrBefore, base, sampleNamed}
 
 module _ (y : Layout) where
   abbrev pub TracksRise : Type 0
@@ -19,6 +22,7 @@ module _ (y : Layout) where
 
   pub record TimesRise : Type 0 where
     pub tracks : TracksRise
+    pub numbered : (i : ℕ) → 0 < i → i ≤ sampleCount y → 0 < trackOf y i
     pub times : (i j : ℕ) → 0 < i → i < j → j ≤ sampleCount y → trackOf y i ≡ trackOf y j → timeOf y i < timeOf y j
 
   unfoldable pub before : ℕ → ℕ
@@ -29,6 +33,11 @@ module _ (y : Layout) where
 
   abbrev pub baseSample : ℕ → ℕ → ℕ
   baseSample n k = nth (samplesIn y k) (base y n k) 0
+
+  pub record Base (n k : ℕ) : Type 0 where
+    pub there : List·Memᴰ (baseSample n k) (samplesIn y k)
+    pub passes : atOrBefore y (baseSample n k) n ≡ true
+    pub last : (m : ℕ) → List·Memᴰ m (samplesIn y k) → baseSample n k < m → atOrBefore y m n ≡ false
 
 -- The sample named from sample n by an index and a sample_offset, where there is a base: what a byte says is 256 less from 128 on.
 -- The linked track's samples are those after `before`, up to `upTo`.

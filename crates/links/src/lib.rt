@@ -1,8 +1,9 @@
 // Which sample an extractor names, by a table alone. Every public function takes any table and any numbers.
 ghost use mathlib.Core.Path.{_≡_};
-ghost use Prim.Native.Nat.{_≤_, _<_};
+ghost use Prim.Native.Nat.{_≤_};
+ghost use Rattle.bundles.specs.Limits.{sampleMost};
 ghost use Rattle.tables.specs.Tables.{layoutIn};
-ghost use Rattle.links.specs.Links.{linkFault, base, stepped, sampleNamed};
+ghost use Rattle.links.specs.Links.{linkFault, base, signed, stepped, sampleNamed};
 ghost use Rattle.links.specs.Named.{naming};
 use numbers::SampleNumber;
 use numbers::TrackNumber;
@@ -28,9 +29,8 @@ fn link_fault(t: &[u64], n: SampleNumber, index: u8) -> u8
     0
 }
 
-// The base: the last sample of a track at or before sample n, by its number within the track; 0 where there is none.
+// The base: the last sample of a track at or before sample n, by its number within the track; 0 where there is none, and for track 0.
 fn base_in(t: &[u64], n: SampleNumber, track: TrackNumber) -> usize
-    requires { ⌜ 0 < track .0 ⌝ }
     ensures { λ r. ⌜ r ≡ base (layoutIn (now (t .entry))) (n .0) (track .0) ⌝ }
 {
     let own = tables::sample_time(t, n);
@@ -48,8 +48,8 @@ fn base_in(t: &[u64], n: SampleNumber, track: TrackNumber) -> usize
 
 // sample_offset steps from the base. It is signed: a byte of 128 or more is 256 less. Before the first is 0.
 fn stepped(b: usize, offset: u8) -> usize
-    requires { ⌜ b ≤ 4096 ⌝ }
-    ensures { λ r. ⌜ r ≡ stepped b offset ⌝ }
+    requires { ⌜ b ≤ sampleMost ⌝ }
+    ensures { λ r. ⌜ r ≡ stepped b (signed offset) ⌝ }
 {
     let forward = b + offset as usize;
     if offset < 128 {
@@ -67,9 +67,6 @@ fn sample_named(t: &[u64], n: SampleNumber, index: u8, offset: u8) -> SampleNumb
 {
     let own = tables::sample_track(t, n);
     let track = tables::reference(t, own, index as usize);
-    if track.0 == 0 {
-        return SampleNumber(0);
-    }
     let b = base_in(t, n, track);
     if b == 0 {
         return SampleNumber(0);

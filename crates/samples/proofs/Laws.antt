@@ -15,13 +15,14 @@
 --   alone-refusals          outside a bundle it is 4 or 11 at 0 besides
 use Prim.Native.Nat.{ℕ, _≤_, _<_}
 use mathlib.Core.Path.{_≡_, sym, _∙_}
-use mathlib.Core.List.{List, [], List·Memᴰ}
+use mathlib.Core.List.{List, [], List·Memᴰ, List·Memᴰ·head, List·Memᴰ·tail}
 use mathlib.Core.Bool.{true, false}
 use mathlib.Core.Logic.{inl, inr}
 use native.Mathlib.Omega.{arith}
 use borrow.Author.Tests.{eqb-true, ltb-true, ltb-false}
 use Rattle.words.specs.Tests.{_<?_}
 use Rattle.words.specs.Refusals.{ok, refused, first}
+use Rattle.words.specs.RefusalNumbers.{unknownKind, badLengthSize}
 use Rattle.words.proofs.Tests.{by-bool, true-false}
 use Rattle.words.proofs.Refusals.{and-ok, at-ok, at-none, first-ok, by-verdict, first-all, first-from}
 use Rattle.words.proofs.Lists.{keep-from, Rising}
@@ -43,10 +44,10 @@ use Rattle.units.proofs.Walks.{in-places, in-top, units-from, places-tile, bord
 use Rattle.units.proofs.Walks as walks
 use Rattle.units.proofs.Covers.{cover-good, cover-border, cover-clear}
 use Rattle.units.proofs.Steps.{unit-there, aggregator-there, extractor-there}
-use Rattle.samples.specs.Check.{contentVerdict, topVerdict, contentsVerdict, check, wellFormed, checkOf, checkAlone}
+use Rattle.samples.specs.Check.{insideVerdict, coverVerdict, contentVerdict, topVerdict, contentsVerdict, check, wellFormed, checkOf, checkAlone}
 use Rattle.samples.specs.Rules.{Rules, SampleRefusal, AloneRefusal}
-use Rattle.samples.proofs.Refusals.{unit-range, ranged, content-refusal}
-use Rattle.samples.proofs.Walks.{topJudge, includedJudge, top-wholes, wholes-top, content-other}
+use Rattle.samples.proofs.Refusals.{unit-form, sample-refusal, content-refusal}
+use Rattle.samples.proofs.Walks.{topJudge, includedJudge, top-whole, whole-top, content-ok, content-other}
 
 module _ (x : Sample) where
   -- both walks passed
@@ -59,15 +60,12 @@ module _ (x : Sample) where
   content e p m = first-ok (contentVerdict x) (topUnits x) (both e .1) m
 
   inner : check x ≡ ok tt → (p : ℕ) → List·Memᴰ p (topUnits x) → isAggregator x p ≡ true → (first (includedJudge x (next x p)) (included x p) ≡ ok tt) × (coverFault x p ≡ 0)
-  unfolding contentVerdict
-  inner e p m t =
-      let v = rw t at (content e p m) in
-      let w = and-ok (first (includedJudge x (next x p)) (included x p)) _ v in
-      (w .0, at-ok _ p (w .1))
+  unfolding insideVerdict coverVerdict
+  inner e p m t = let w = rw t at (content-ok x p (content e p m)) in (w .0, at-ok _ p (w .1))
 
   pub rules : check x ≡ ok tt → Rules x
   rules e = record {
-    tops = top-wholes x (both e .0);
+    tops = top-whole x (both e .0);
     inside = λ p q m t k. included-rules x (next x p) q (at-ok _ q (first-ok (includedJudge x (next x p)) (included x p) (inner e p m t .0) k));
     borders = λ p m t. cover-border x p (inner e p m t .1);
     clear = λ p m t. cover-clear x p (inner e p m t .1);
@@ -77,10 +75,10 @@ module _ (x : Sample) where
   }
 
   pub rules-check : Rules x → check x ≡ ok tt
-  unfolding check contentVerdict
-  rules-check r = rw (wholes-top x (r .tops)) (first-all (contentVerdict x) (topUnits x) (λ p m. by-bool (isAggregator x p)
+  unfolding check contentVerdict insideVerdict coverVerdict
+  rules-check r = rw (whole-top x (r .tops)) (first-all (contentVerdict x) (topUnits x) (λ p m. by-bool (isAggregator x p)
       (λ t. rw (t, first-all (includedJudge x (next x p)) (included x p) (λ q k. at-none q (included-none x (next x p) q (r .inside p q m t k)))) (at-none p (cover-good x p (r .borders p m t) (r .clear p m t))))
-      (λ t. rw t (at-none p (extractor-none x p (r .extractors p m))))))
+      (λ t. rw (t, at-none p (extractor-none x p (r .extractors p m))))))
 
   pub formed : check x ≡ ok tt → wellFormed x ≡ true
   formed e = rw e
@@ -100,7 +98,7 @@ module _ (x : Sample) where
   -- where the first walk passed, already before the second
   pub top-tile : topVerdict x ≡ ok tt → Tiles x 0 (end x) (topUnits x)
   unfolding topUnits
-  top-tile e = places-tile x 0 (end x) (omega arith) (top-wholes x e)
+  top-tile e = places-tile x 0 (end x) (omega arith) (top-whole x e)
 
   pub check-top : check x ≡ ok tt → topVerdict x ≡ ok tt
   check-top e = both e .0
@@ -158,13 +156,13 @@ module _ (x : Sample) where
   unfolding check
   check-refusals n p e = by-verdict (topVerdict x)
       (λ a b v. let w = first-from (topJudge x) (topUnits x) (v ∙ (rw v at e)) in
-      ranged x (unitFault x (end x) (w .0)) (w .0) (unit-range x (end x) (w .0)) (in-top x (w .0) (w .1)) (w .2))
-      (λ v. let w = first-from (contentVerdict x) (topUnits x) (rw v at e) in content-refusal x (top-wholes x v) (w .0) n p (w .1) (w .2))
+      sample-refusal x (unitFault x (end x) (w .0)) (w .0) (unit-form x (end x) (w .0)) (in-top x (w .0) (w .1)) (w .2))
+      (λ v. let w = first-from (contentVerdict x) (topUnits x) (rw v at e) in content-refusal x (top-whole x v) (w .0) n p (w .1) (w .2))
 
 refusal-of : (k : MaybeKind) (l : MaybeLengthSize) (s : List ℕ) (n p : ℕ) → checkOf k l s ≡ refused n p → AloneRefusal s n p
-refusal-of kinds.Unknown l s n p e = inl (cc, cc)
-refusal-of (kinds.Known k) sizes.Unknown s n p e = inr (inl (cc, cc))
-refusal-of (kinds.Known k) (sizes.Known l) s n p e = inr (inr (check-refusals (record { kind = k; lengthSize = l; content = s }) n p e))
+refusal-of kinds.Unknown l s n p e = let m : n ≡ unknownKind = cc in inl (List·Memᴰ·head m, cc)
+refusal-of (kinds.Known k) sizes.Unknown s n p e = let m : n ≡ badLengthSize = cc in inl (List·Memᴰ·tail (List·Memᴰ·head m), cc)
+refusal-of (kinds.Known k) (sizes.Known l) s n p e = inr (check-refusals (record { kind = k; lengthSize = l; content = s }) n p e)
 
 pub alone-refusals : (k l : ℕ) (s : List ℕ) (n p : ℕ) → checkAlone k l s ≡ refused n p → AloneRefusal s n p
 alone-refusals k l s n p e = refusal-of (kindOf k) (lengthSizeOf l) s n p e

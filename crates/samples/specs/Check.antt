@@ -1,6 +1,8 @@
 -- The check of a sample (01, 'Units in a sample'): both walks, left at the first fault. 14 to 22, each at the unit's length field.
 --
---   contentVerdict p     what stands in the top-level unit at p
+--   insideVerdict p      the inside fault of the top-level unit at p: 14 to 20 and 22
+--   coverVerdict p       its 21
+--   contentVerdict p     the one, then the other
 --   topVerdict           the first walk: 14 to 18 of the top-level units
 --   contentsVerdict      the second walk: what stands in them
 --   check, wellFormed    both walks; a sample without a fault is well formed
@@ -22,12 +24,20 @@ use Rattle.samples.specs.declared.Checked.{Checked}
 use Rattle.samples.specs.declared.Checked.the-variants.{WellFormed, Refused}
 
 module _ (x : Sample) where
-  -- What stands in a top-level unit: an aggregator's included units front to back, then its 21; an extractor's 22.
-  unfoldable pub contentVerdict : ℕ → Verdict
-  contentVerdict p =
+  -- The inside fault of a top-level unit: an aggregator's included units front to back, each its 14 to 20 and 22; an extractor's 22.
+  unfoldable pub insideVerdict : ℕ → Verdict
+  insideVerdict p =
       pick (isAggregator x p)
-      (first (λ q. includedFault x (next x p) q atPlace q) (included x p) andThen coverFault x p atPlace p)
+      (first (λ q. includedFault x (next x p) q atPlace q) (included x p))
       (extractorFault x p atPlace p)
+
+  -- 21, which only an aggregator has
+  unfoldable pub coverVerdict : ℕ → Verdict
+  coverVerdict p = pick (isAggregator x p) (coverFault x p atPlace p) (ok tt)
+
+  -- What stands in a top-level unit.
+  unfoldable pub contentVerdict : ℕ → Verdict
+  contentVerdict p = insideVerdict p andThen coverVerdict p
 
   -- First all top-level units, then top-level units again.
   abbrev pub topVerdict : Verdict
@@ -45,7 +55,7 @@ module _ (x : Sample) where
 
 -- Outside a bundle the kind and the length size come as numbers: 4 first, then 11, both at 0.
 abbrev pub checkOf : MaybeKind → MaybeLengthSize → List ℕ → Verdict
-checkOf kind size s = onKind kind (λ k. onLengthSize size (λ l. check (record { kind = k; lengthSize = l; content = s })))
+checkOf kind lengthSize s = onKind kind (λ k. onLengthSize lengthSize (λ l. check (record { kind = k; lengthSize = l; content = s })))
 
 abbrev pub checkAlone : ℕ → ℕ → List ℕ → Verdict
 checkAlone kind l s = checkOf (kindOf kind) (lengthSizeOf l) s

@@ -19,7 +19,7 @@ use Rattle.words.proofs.Refusals.{if-none, orElse-none}
 use Rattle.words.proofs.Lists.{some-none, some-mem, keep-mem, keep-from}
 use Rattle.units.specs.Units.{Sample, end, next, isAggregator, topUnits, border, topBetween}
 use Rattle.units.specs.Aggregators.{includedStart, coverEnd, coverFault}
-use Rattle.units.specs.Rules.{Whole, Wholes, Clear}
+use Rattle.units.specs.Rules.{Whole, TopUnitsWhole, Clear}
 use Rattle.units.proofs.Units.{next-after, whole-end, whole-aggregator}
 use Rattle.units.proofs.Walks.{places-step, in-places, Reached, reached-next, reached-top, reached-mem, in-top, border-here, border-inside}
 
@@ -67,7 +67,7 @@ module _ (x : Sample) where
     pub head : includedStart x p ≤ next x p
     pub there : Reached x p
 
-  pub aggregator : (p : ℕ) → Wholes x → List·Memᴰ p (topUnits x) → isAggregator x p ≡ true → Aggregator p
+  pub aggregator : (p : ℕ) → TopUnitsWhole x → List·Memᴰ p (topUnits x) → isAggregator x p ≡ true → Aggregator p
   aggregator p g m t = let w = g p m in record {
     inside = in-top x p m;
     ends = whole-end x (end x) p w .1;
@@ -77,7 +77,7 @@ module _ (x : Sample) where
 
   -- The walk of 21 over what the aggregator at p covers, from its end a up to b, now at q.
   pub record Covering (p a b q : ℕ) : Type 0 where
-    pub wholes : Wholes x
+    pub wholes : TopUnitsWhole x
     pub start : a ≡ next x p
     pub stop : b ≡ coverEnd x p
     pub from : a ≤ q
@@ -87,7 +87,7 @@ module _ (x : Sample) where
     pub clear : Clear x a q
     pub past : b < q → border x b ≡ false
 
-  pub covering-start : (p b : ℕ) → Wholes x → Aggregator p → b ≡ coverEnd x p → b ≤ end x → Covering p (next x p) b (next x p)
+  pub covering-start : (p b : ℕ) → TopUnitsWhole x → Aggregator p → b ≡ coverEnd x p → b ≤ end x → Covering p (next x p) b (next x p)
   covering-start p b w g s f = record {
     wholes = w;
     start = refl;

@@ -6,7 +6,7 @@
 --   whole-aggregator, whole-end     the additional_bytes of a whole aggregator lie in it; a whole unit ends within what it stands in
 --   extractor-size, extractor-none  an extractor without 22, both ways
 --   included-rules, included-none   an included unit without a fault, both ways
-use Prim.Native.Nat.{ℕ, _+_, _-_, _≤_, _<_}
+use Prim.Native.Nat.{ℕ, _+_, _≤_, _<_}
 use mathlib.Core.Path.{_≡_}
 use mathlib.Core.Bool.{true, false, _&&_}
 use native.Mathlib.Omega.{arith}
@@ -37,8 +37,8 @@ module _ (x : Sample) where
   pub whole : (e p : ℕ) → unitFault x e p ≡ 0 → Whole x e p
   unfolding unitFault
   whole e p h =
-      let a = orElse-none (lengthFieldCut if e - p <? L x) _ h in
-      let b = orElse-none (unitTooLong if e - p - L x <? size x p) _ (a .1) in
+      let a = orElse-none (lengthFieldCut if e <? p + L x) _ h in
+      let b = orElse-none (unitTooLong if e <? next x p) _ (a .1) in
       let c = orElse-none (emptyUnit if size x p ≡? 0) _ (b .1) in
       let d = orElse-none (topBitSet if 128 ≤? firstByte x p) _ (c .1) in
       record {
@@ -52,20 +52,20 @@ module _ (x : Sample) where
   pub whole-none : (e p : ℕ) → Whole x e p → unitFault x e p ≡ 0
   unfolding unitFault
   whole-none e p w = rw (
-    le-ltb (e - p) (L x) (w .room),
-    le-ltb (e - p - L x) (size x p) (w .inside),
+    le-ltb e (p + L x) (w .room),
+    le-ltb e (next x p) (w .inside),
     ne-eqb (size x p) 0 (λ z. let h = w .some in omega arith),
     lt-leb 128 (firstByte x p) (w .top),
     le-ltb (size x p) (leastSize x (type x p)) (w .least),
   )
 
   pub whole-end : (e p : ℕ) → Whole x e p → (p < e) × (next x p ≤ e)
-  whole-end e p w = let l = L-some (x .lengthSize) in (omega (arith, w .room), omega (arith, w .room, w .inside))
+  whole-end e p w = let l = L-some (x .lengthSize) in (omega (arith, w .room), w .inside)
 
   pub whole-wider : (e g p : ℕ) → e ≤ g → Whole x e p → Whole x g p
   whole-wider e g p h w = record {
     room = omega (arith, w .room);
-    inside = omega (arith, w .room, w .inside);
+    inside = omega (arith, w .inside);
     some = w .some;
     top = w .top;
     least = w .least;

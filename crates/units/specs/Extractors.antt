@@ -1,4 +1,5 @@
--- Extractors (01, 'Units in a sample'; B.3): header, track_ref_index in 1 byte, signed sample_offset in 1, data_offset in L, data_length in L.
+-- Extractors (01, 'Units in a sample'; B.3): header, track_ref_index in 1 byte, signed sample_offset in 1, data_offset in L bytes,
+-- data_length in L.
 --
 --   trackRefIndex, sampleOffset, dataOffset, dataLength    the fields of the extractor at a place
 --   extractorFault                                         22

@@ -2,11 +2,11 @@
 -- Extractors and Aggregators.
 --
 --   Whole e p      none of 14 to 18 holds of the unit at p, in what ends at e
---   Wholes         of no top-level unit
+--   TopUnitsWhole  of no top-level unit
 --   Included e p   none of 14 to 20 and 22 holds of the unit at p, in an aggregator that ends at e
 --   Clear a b      no aggregator among the top-level units from a up to b
 --   Tiles a b ps   the units ps lie without gap or overlap from a to b
-use Prim.Native.Nat.{ℕ, _-_, _≤_, _<_}
+use Prim.Native.Nat.{ℕ, _+_, _≤_, _<_}
 use mathlib.Core.Path.{_≡_}
 use mathlib.Core.List.{List, [], _∷_, List·Memᴰ}
 use mathlib.Core.Bool.{true, false}
@@ -18,14 +18,14 @@ use Rattle.units.specs.Aggregators.{isSlice}
 module _ (x : Sample) where
   pub record Whole (e p : ℕ) : Type 0 where
     -- 14 to 18
-    pub room : L x ≤ e - p
-    pub inside : size x p ≤ e - p - L x
+    pub room : p + L x ≤ e
+    pub inside : next x p ≤ e
     pub some : 0 < size x p
     pub top : firstByte x p < 128
     pub least : leastSize x (type x p) ≤ size x p
 
-  abbrev pub Wholes : Type 0
-  Wholes = (p : ℕ) → List·Memᴰ p (topUnits x) → Whole (end x) p
+  abbrev pub TopUnitsWhole : Type 0
+  TopUnitsWhole = (p : ℕ) → List·Memᴰ p (topUnits x) → Whole (end x) p
 
   pub record Included (e p : ℕ) : Type 0 where
     -- 14 to 18, 19, 20, 22

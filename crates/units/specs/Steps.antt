@@ -1,9 +1,10 @@
--- What the total functions for walks give, at any place p of any bytes, in what ends at e. At the units of a well-formed sample `Nothing` does not come.
+-- What the total functions for walks give, at any place p of any bytes, in what ends at e. At the units of a well-formed sample
+-- `Nothing` does not come.
 --
 --   unitAt e p          the unit at p, if it has none of 14 to 18
 --   aggregatorAt e p    the parts of the aggregator at p, if it is one, has none of 14 to 18, and what it covers ends within e
 --   extractorAt e p     the fields of the extractor at p, if it is one and has none of 14 to 18 and 22
-use Prim.Native.Nat.{ℕ, _+_, _-_}
+use Prim.Native.Nat.{ℕ, _+_}
 use Rattle.words.specs.Tests.{_≡?_, _<?_, pick}
 use Rattle.numbers.specs.declared.ByteOffset.{ByteOffset}
 use Rattle.units.specs.Units.{Sample, L, size, type, next, isAggregator, isExtractor, unitFault}
@@ -49,7 +50,7 @@ module _ (x : Sample) where
   aggregatorAt e p =
       pick (unitFault x e p ≡? 0)
       (pick (isAggregator x p)
-      (pick (e - next x p <? additionalBytes x p) aggregator.Nothing (aggregator.Aggregator (aggregatorOf p)))
+      (pick (e <? coverEnd x p) aggregator.Nothing (aggregator.Aggregator (aggregatorOf p)))
       aggregator.Nothing)
       aggregator.Nothing
 

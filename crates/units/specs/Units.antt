@@ -4,6 +4,7 @@
 --   Sample, sample k s       a sample with what its track says of it
 --   L, end                   the length size in bytes; where the sample ends
 --   size, firstByte, type, next     the unit at a place, and where the next one starts
+--   prefixType, scalableSliceType, aggregatorType, extractorType    types of units
 --   leastSize t              the least size of a unit of a type
 --   unitFault e p            the first of 14 to 18 of the unit at p, in what ends at e
 --   places p e               where units start from p up to e
@@ -33,7 +34,13 @@ pub record Sample : Type 0 where
 abbrev pub sample : Track → List ℕ → Sample
 sample k s = record { kind = k .kind; lengthSize = k .«length_size»; content = s }
 
--- Types of units (Table A.1): prefix 14, slice in scalable extension 20, aggregator 30, extractor 31.
+-- Types of units (Table A.1).
+abbrev pub prefixType : ℕ
+prefixType = 14
+
+abbrev pub scalableSliceType : ℕ
+scalableSliceType = 20
+
 abbrev pub aggregatorType : ℕ
 aggregatorType = 30
 
@@ -71,14 +78,14 @@ module _ (x : Sample) where
   abbrev pub leastSize : ℕ → ℕ
   leastSize t =
       leastAggregator (x .lengthSize) when t ≡? aggregatorType else
-      headerSize when (t ≡? 14) || (t ≡? 20) || (t ≡? extractorType) else
+      headerSize when (t ≡? prefixType) || (t ≡? scalableSliceType) || (t ≡? extractorType) else
       1
 
   -- 14 to 18, in number order, for the unit at p in what ends at e: the sample, or the aggregator that includes it.
   unfoldable pub unitFault : ℕ → ℕ → ℕ
   unitFault e p =
-      lengthFieldCut if e - p <? L orElse
-      unitTooLong if e - p - L <? size p orElse
+      lengthFieldCut if e <? p + L orElse
+      unitTooLong if e <? next p orElse
       emptyUnit if size p ≡? 0 orElse
       topBitSet if 128 ≤? firstByte p orElse
       unitTooShort if size p <? leastSize (type p)

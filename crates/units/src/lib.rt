@@ -12,6 +12,10 @@ use numbers::LengthSize;
 use numbers::refusals;
 
 // The types of units that the check is about.
+pub const PREFIX: u8 = 14;
+
+pub const SCALABLE_SLICE: u8 = 20;
+
 pub const AGGREGATOR: u8 = 30;
 
 pub const EXTRACTOR: u8 = 31;
@@ -85,10 +89,10 @@ fn least_size(k: Track, t: u8) -> usize
     if t == AGGREGATOR {
         return l.least_aggregator();
     }
-    if t == 14 {
+    if t == PREFIX {
         return LengthSize::HEADER;
     }
-    if t == 20 {
+    if t == SCALABLE_SLICE {
         return LengthSize::HEADER;
     }
     if t == EXTRACTOR {

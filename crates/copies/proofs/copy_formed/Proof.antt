@@ -3,7 +3,7 @@ use borrow.Author.Needs.{needs}
 use mathlib.Core.Path.{sym, _∙_}
 use Rattle.copies.proofs.copy_formed.Statement.{statement}
 use Rattle.copies.proofs.Copies.{copy-cut}
-use Rattle.copies.proofs.Answers.{copy-border, refused-as, measured-copy}
+use Rattle.copies.proofs.Answers.{copy-border, refused-as, unchained-copy}
 use Rattle.copies.proofs.copy_formed.Tie as tie
 
 border-fault-requires : tie.Need-border-fault-requires
@@ -18,11 +18,11 @@ returns c = c .refused .ensures ∙ refused-as _ _ _ (copy-border _ _ _ (c .befo
 copy-end-requires : tie.Need-copy-end-requires
 copy-end-requires c κs = (c .before .before .before .pre, sym (c .before .border-fault .ensures) ∙ c .if1 .left)
 
-measured-requires : tie.Need-measured-requires
-measured-requires c κs = rw (c .copy-end .ensures) (copy-cut _ _ _ (sym (c .before .before .border-fault .ensures) ∙ c .before .if1 .left) (c .before .before .before .before .pre))
+amount-between-requires : tie.Need-amount-between-requires
+amount-between-requires c κs = rw (c .copy-end .ensures) (copy-cut _ _ _ (sym (c .before .before .border-fault .ensures) ∙ c .before .if1 .left) (c .before .before .before .before .pre))
 
 returns-2 : tie.Need-returns-2
-returns-2 c = c .measured .ensures ∙ rw (c .before .copy-end .ensures) (measured-copy _ _ _ (c .before .before .before .before .before .pre) (sym (c .before .before .before .border-fault .ensures) ∙ c .before .before .if1 .left))
+returns-2 c = c .amount-between .ensures ∙ rw (c .before .copy-end .ensures) (unchained-copy _ _ _ (c .before .before .before .before .before .pre) (sym (c .before .before .before .border-fault .ensures) ∙ c .before .before .if1 .left))
 
 pub copy-formed-spec : {M : Type 1} → statement M
 copy-formed-spec =
@@ -32,5 +32,5 @@ copy-formed-spec =
     refused-requires
     returns
     copy-end-requires
-    measured-requires
+    amount-between-requires
     returns-2)

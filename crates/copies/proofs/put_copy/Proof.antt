@@ -10,33 +10,33 @@ use Rattle.words.proofs.Buffers.{put-not}
 use Rattle.units.specs.Units.{Sample, sample}
 use Rattle.copies.specs.Copies.{copyFault}
 use Rattle.copies.specs.Written.{copyBytes}
-use Rattle.copies.specs.declared.Copy.{Copy}
+use Rattle.copies.specs.declared.CopyAmount.{CopyAmount}
 use Rattle.copies.proofs.Copies.{copy-cut}
 use Rattle.copies.proofs.Answers.{fault-of, good-formed, good-border, good-flat}
 use Rattle.copies.proofs.Putting.{bytes-refused, bytes-good, bytes-size, count-none, put-none, count-not, count-fits}
 use Rattle.copies.proofs.put_copy.Tie as tie
 
 -- the sample, and what is written of the copy
-abbrev X : tie.After-copy-of → Sample
+abbrev X : tie.After-copy-amount → Sample
 X c = let a = c .before .before .before .args in sample (a .k) (a .z .now)
 
-abbrev B : tie.After-copy-of → List ℕ
+abbrev B : tie.After-copy-amount → List ℕ
 B c = let a = c .before .before .before .args in copyBytes (X c) (a .offset .0) (a .length)
 
-fault : (c : tie.After-copy-of) → let a = c .before .before .before .args in c .copy-of .result .fault ≡ copyFault (X c) (a .offset .0) (a .length)
-fault c = ap (λ (r : Copy). r .fault) (c .copy-of .ensures) ∙ fault-of _ _ _
+fault : (c : tie.After-copy-amount) → let a = c .before .before .before .args in c .copy-amount .result .fault ≡ copyFault (X c) (a .offset .0) (a .length)
+fault c = ap (λ (r : CopyAmount). r .fault) (c .copy-amount .ensures) ∙ fault-of _ _ _
 
 good : (c : tie.Else1) → let a = c .before .before .before .before .before .args in copyFault (X (c .before .before)) (a .offset .0) (a .length) ≡ 0
 good c = sym (fault (c .before .before)) ∙ c .if1 .left
 
-all : (c : tie.Else1) → length (B (c .before .before)) ≡ 4 * c .before .before .copy-of .result .count + c .before .before .copy-of .result .bytes
-all c = bytes-size _ _ _ _ (c .before .before .copy-of .ensures) (good c)
+all : (c : tie.Else1) → length (B (c .before .before)) ≡ 4 * c .before .before .copy-amount .result .count + c .before .before .copy-amount .result .bytes
+all c = bytes-size _ _ _ _ (c .before .before .copy-amount .ensures) (good c)
 
 fits : (c : tie.Else4) → let a = c .before .before .before .before .before .before .before .before .before .before .before .args in a .at + length (B (c .before .before .before .before .before .before .before .before)) ≤ length (a .out .now)
 fits c = let s = all (c .before .before .before .before .before .before) in omega arith
 
-copy-of-requires : tie.Need-copy-of-requires
-copy-of-requires c κs = search needs
+copy-amount-requires : tie.Need-copy-amount-requires
+copy-amount-requires c κs = search needs
 
 returns : tie.Need-returns
 returns c = let a = c .before .before .before .before .before .args in rw (bytes-refused _ _ _ (λ e. c .if1 .taken (fault (c .before .before) ∙ e))) (sym (count-none (a .out .now) (a .at)), sym (put-none (a .out .now) (a .at)))
@@ -78,7 +78,7 @@ pub put-copy-spec : {M : Type 1} → statement M
 put-copy-spec =
     tie.close
     (tie.spec
-    copy-of-requires
+    copy-amount-requires
     returns
     returns-2
     sub-room

@@ -1,15 +1,18 @@
 -- The loop's invariant: b is the number of the last of the samples up to m that stands at or before the own time. Assumes nothing.
 use borrow.Author.Needs.{needs}
 use mathlib.Core.Path.{_≡_}
-use Prim.Native.Nat.{_-_, _≤_}
+use Prim.Native.Nat.{_+_, _-_, _≤_}
 use Rattle.links.proofs.base_in.Statement.{statement}
 use Rattle.tables.specs.Tables.{layoutIn}
-use Rattle.links.proofs.Naming.{searched, searched-none, searched-here, searched-on, base-searched}
+use Rattle.links.proofs.Search.{searched, searched-none, searched-here, searched-on, base-searched}
 use native.Mathlib.Omega.{arith}
+use borrow.Author.Tests.{le-leb, lt-leb}
+use Rattle.words.specs.Tests.{_≤?_}
+use Rattle.bundles.specs.Recordings.{timeOf}
 use Rattle.links.proofs.base_in.Tie as tie
 
 abbrev Inv-loop : tie.InvT-loop
-Inv-loop t own range b₀ m₀ b m = (range .before ≤ m) × (m - range .before ≤ range .after - range .before) × (b ≡ searched (layoutIn t) own (range .before) (m - range .before))
+Inv-loop t own range b₀ m₀ b m = (range .before ≤ m) × (m - range .before ≤ range .after - range .before) × (b ≡ searched (λ j. timeOf (layoutIn t) j ≤? own) (range .before) (m - range .before))
 
 abbrev μ-loop : tie.MeasureT-loop
 μ-loop t own range b₀ m₀ b m = range .after - m
@@ -21,7 +24,7 @@ sample-range-requires : tie.Need-sample-range-requires Inv-loop μ-loop
 sample-range-requires c κs = search needs
 
 loop-holds : tie.Need-loop-holds Inv-loop μ-loop
-loop-holds c = (omega arith, omega arith, searched-none (layoutIn (c .before .before .before .args .t .now)) (c .before .sample-time .result) (c .sample-range .result .before))
+loop-holds c = (omega arith, omega arith, searched-none _ (c .sample-range .result .before))
 
 add-m : tie.Need-add-m Inv-loop μ-loop
 add-m c = search needs
@@ -39,7 +42,7 @@ loop-again : tie.Need-loop-again Inv-loop μ-loop
 loop-again c =
     let y = layoutIn (c .before .before .before .before .before .before .before .before .before .args .t .now) in
     let h = c .before .if2 .taken in
-    (omega arith, omega arith, searched-here y (c .before .before .before .before .before .before .before .sample-time .result) (c .before .before .before .before .before .before .sample-range .result .before) (c .before .before .before .before .before .loop .m) (c .before .before .before .before .before .loop .inv .0) (rw (← c .before .before .sample-time2 .ensures) h))
+    (omega arith, omega arith, searched-here (λ j. timeOf y j ≤? c .before .before .before .before .before .before .before .sample-time .result) (c .before .before .before .before .before .before .sample-range .result .before) (c .before .before .before .before .before .loop .m) (c .before .before .before .before .before .loop .inv .0) (le-leb (timeOf y (c .before .before .before .before .before .loop .m + 1)) (c .before .before .before .before .before .before .before .sample-time .result) (rw (← c .before .before .sample-time2 .ensures) h)))
 
 loop-less-2 : tie.Need-loop-less-2 Inv-loop μ-loop
 loop-less-2 c = search needs
@@ -48,14 +51,14 @@ loop-again-2 : tie.Need-loop-again-2 Inv-loop μ-loop
 loop-again-2 c =
     let y = layoutIn (c .before .before .before .before .before .before .before .before .args .t .now) in
     let h = c .if2 .left in
-    (omega arith, omega arith, searched-on y (c .before .before .before .before .before .before .sample-time .result) (c .before .before .before .before .before .sample-range .result .before) (c .before .before .before .before .loop .m) (c .before .before .before .before .loop .inv .0) (rw (← c .before .sample-time2 .ensures) h) (c .before .before .before .before .loop .inv .2))
+    (omega arith, omega arith, searched-on (λ j. timeOf y j ≤? c .before .before .before .before .before .before .sample-time .result) (c .before .before .before .before .before .sample-range .result .before) (c .before .before .before .before .loop .m) (c .before .before .before .before .loop .inv .0) (lt-leb (timeOf y (c .before .before .before .before .loop .m + 1)) (c .before .before .before .before .before .before .sample-time .result) (rw (← c .before .sample-time2 .ensures) h)) (c .before .before .before .before .loop .inv .2))
 
 returns : tie.Need-returns Inv-loop μ-loop
 returns c =
     let a = c .before .before .before .before .before .before .args in
     let r = c .before .before .before .sample-range .result in
     let e : c .before .before .loop .m - r .before ≡ r .after - r .before = omega arith in
-    rw (base-searched (a .t .now) (a .n .0) (a .track .0) (c .before .before .before .before .before .before .pre), ← c .before .before .before .before .sample-time .ensures, ← c .before .before .before .sample-range .ensures, ← e) (c .before .before .loop .inv .2)
+    rw (base-searched (a .t .now) (a .n .0) (a .track .0), ← c .before .before .before .before .sample-time .ensures, ← c .before .before .before .sample-range .ensures, ← e) (c .before .before .loop .inv .2)
 
 pub base-in-spec : {M : Type 1} → statement M
 base-in-spec =

@@ -3,7 +3,9 @@ use borrow.Author.Needs.{needs}
 use mathlib.Core.Path.{sym}
 use Rattle.links.proofs.link_fault.Statement.{statement}
 use Rattle.tables.specs.Tables.{layoutIn}
-use Rattle.links.proofs.Naming.{link-zero, link-past, link-none}
+use Rattle.links.proofs.Links.{link-good}
+use Rattle.links.proofs.Search.{link-zero, link-past}
+use native.Mathlib.Nat.{pos-of-ne-zero}
 use Rattle.links.proofs.link_fault.Tie as tie
 
 returns : tie.Need-returns
@@ -25,7 +27,7 @@ returns-3 : tie.Need-returns-3
 returns-3 c =
     let a = c .before .before .before .before .before .args in
     let h = c .if2 .left in
-    sym (link-none (layoutIn (a .t .now)) (a .n .0) (a .index) (c .before .before .before .if1 .left) (rw (← c .before .before .sample-track .ensures, ← c .before .reference-count .ensures) h))
+    sym (link-good (layoutIn (a .t .now)) (a .n .0) (a .index) (pos-of-ne-zero (c .before .before .before .if1 .left)) (rw (← c .before .before .sample-track .ensures, ← c .before .reference-count .ensures) h))
 
 pub link-fault-spec : {M : Type 1} → statement M
 link-fault-spec =

@@ -3,7 +3,7 @@ use borrow.Author.Needs.{needs}
 use mathlib.Core.Path.{_≡_, sym, _∙_}
 use Rattle.links.proofs.name.Statement.{statement}
 use Rattle.tables.specs.Tables.{layoutIn}
-use Rattle.links.proofs.Naming.{name-link, name-none, name-sample}
+use Rattle.links.proofs.Search.{name-link, name-nothing, name-sample}
 use Rattle.links.specs.Links.{linkFault}
 use Rattle.links.proofs.name.Tie as tie
 
@@ -24,7 +24,7 @@ sample-named-requires c κs = search needs
 returns-2 : tie.Need-returns-2
 returns-2 c =
     let a = c .before .before .before .before .before .before .args in
-    name-none (layoutIn (a .t .now)) (a .n .0) (a .index) (a .offset) (sound (c .before .before .before)) (sym (c .before .before .sample-named .ensures) ∙ c .if2 .taken)
+    name-nothing (layoutIn (a .t .now)) (a .n .0) (a .index) (a .offset) (sound (c .before .before .before)) (sym (c .before .before .sample-named .ensures) ∙ c .if2 .taken)
 
 returns-3 : tie.Need-returns-3
 returns-3 c =

@@ -1,15 +1,15 @@
 -- The range of the linked track holds the base, so the steps from it neither wrap nor leave the table's limits. Assumes nothing.
 use borrow.Author.Needs.{needs}
 use native.Mathlib.Omega.{arith}
-use mathlib.Core.Path.{_≡_, sym}
-use Prim.Native.Nat.{_-_, _≤_}
+use mathlib.Core.Path.{_≡_, sym, _∙_}
+use Prim.Native.Nat.{_-_, _≤_, _<_}
 use Rattle.links.proofs.sample_named.Statement.{statement}
 use native.Mathlib.Nat.{pos-of-ne-zero}
 use Rattle.words.specs.Lists.{nth}
 use Rattle.bundles.specs.Recordings.{samplesIn}
 use Rattle.tables.specs.Tables.{layoutIn, rangeIn}
 use Rattle.links.specs.Links.{linkedTrack, sampleNamed}
-use Rattle.links.proofs.Naming.{range-most, base-most, named-no-track, named-no-base, named-at, linked-by, range-at, range-past}
+use Rattle.links.proofs.Search.{range-most, base-most, base-track, named-no-base, named-at, linked-by, range-at, range-past}
 use Rattle.words.proofs.Rows.{nth-none}
 use Rattle.links.proofs.sample_named.Tie as tie
 
@@ -19,12 +19,16 @@ linked c =
     linked-by (layoutIn (a .t .now)) (a .n .0) (a .index) (c .before .sample-track .ensures) (c .reference .ensures)
 
 -- the base is a sample of the range
-within : (c : tie.After-base-in) → let k = c .before .before .before .reference .result .0 in let r = rangeIn (c .before .before .before .before .before .before .args .t .now) k in c .base-in .result ≤ r .after - r .before
-within c = rw (c .base-in .ensures) (base-most (c .before .before .before .before .before .before .args .t .now) (c .before .before .before .before .before .before .args .n .0) (c .before .before .before .reference .result .0) (pos-of-ne-zero (c .before .if1 .left)))
+within : (c : tie.After-base-in) → let r = rangeIn (c .before .before .before .before .args .t .now) (c .before .reference .result .0) in c .base-in .result ≤ r .after - r .before
+within c = let a = c .before .before .before .before .args in rw (c .base-in .ensures) (base-most (a .t .now) (a .n .0) (c .before .reference .result .0))
+
+-- where there is one there is a track
+track : (c : tie.Else1) → 0 < c .before .before .reference .result .0
+track c = let a = c .before .before .before .before .before .args in base-track (a .t .now) (a .n .0) (c .before .before .reference .result .0) (λ z. c .if1 .left (c .before .base-in .ensures ∙ z))
 
 -- the steps lead to the sample that stands there
-at : (c : tie.After-stepped) → let a = c .before .before .before .before .before .before .before .before .args in sampleNamed (layoutIn (a .t .now)) (a .n .0) (a .index) (a .offset) ≡ nth (samplesIn (layoutIn (a .t .now)) (c .before .before .before .before .before .reference .result .0)) (c .stepped .result) 0
-at c = let a = c .before .before .before .before .before .before .before .before .args in named-at (layoutIn (a .t .now)) (a .n .0) (a .index) (a .offset) (linked (c .before .before .before .before .before)) (c .before .before .base-in .ensures) (c .before .before .before .if1 .left) (c .before .if2 .left) (c .stepped .ensures)
+at : (c : tie.After-stepped) → let a = c .before .before .before .before .before .before .args in sampleNamed (layoutIn (a .t .now)) (a .n .0) (a .index) (a .offset) ≡ nth (samplesIn (layoutIn (a .t .now)) (c .before .before .before .reference .result .0)) (c .stepped .result) 0
+at c = let a = c .before .before .before .before .before .before .args in named-at (layoutIn (a .t .now)) (a .n .0) (a .index) (a .offset) (linked (c .before .before .before)) (c .before .before .base-in .ensures) (c .before .if1 .left) (c .stepped .ensures)
 
 sample-track-requires : tie.Need-sample-track-requires
 sample-track-requires c κs = search needs
@@ -32,56 +36,51 @@ sample-track-requires c κs = search needs
 reference-requires : tie.Need-reference-requires
 reference-requires c κs = search needs
 
-returns : tie.Need-returns
-returns c =
-    let a = c .before .before .before .before .before .args in
-    sym (named-no-track (layoutIn (a .t .now)) (a .n .0) (a .index) (a .offset) (linked (c .before .before)) (c .if1 .taken))
-
 base-in-requires : tie.Need-base-in-requires
 base-in-requires c κs = search needs
 
-returns-2 : tie.Need-returns-2
-returns-2 c =
-    let a = c .before .before .before .before .before .before .before .args in
-    sym (named-no-base (layoutIn (a .t .now)) (a .n .0) (a .index) (a .offset) (linked (c .before .before .before .before)) (c .before .base-in .ensures) (c .if2 .taken))
+returns : tie.Need-returns
+returns c =
+    let a = c .before .before .before .before .before .args in
+    sym (named-no-base (layoutIn (a .t .now)) (a .n .0) (a .index) (a .offset) (linked (c .before .before)) (c .before .base-in .ensures) (c .if1 .taken))
 
 stepped-requires : tie.Need-stepped-requires
 stepped-requires c κs =
     let h = within (c .before) in
-    omega (arith, range-most (c .before .before .before .before .before .before .before .args .t .now) (c .before .before .before .before .reference .result .0))
+    omega (arith, range-most (c .before .before .before .before .before .args .t .now) (c .before .before .reference .result .0))
 
-returns-3 : tie.Need-returns-3
-returns-3 c =
-    let a = c .before .before .before .before .before .before .before .before .before .args in
-    rw (at (c .before), c .if3 .taken) (sym (nth-none (samplesIn (layoutIn (a .t .now)) (c .before .before .before .before .before .before .reference .result .0)) 0))
+returns-2 : tie.Need-returns-2
+returns-2 c =
+    let a = c .before .before .before .before .before .before .before .args in
+    rw (at (c .before), c .if2 .taken) (sym (nth-none (samplesIn (layoutIn (a .t .now)) (c .before .before .before .before .reference .result .0)) 0))
 
 sample-range-requires : tie.Need-sample-range-requires
 sample-range-requires c κs = search needs
 
-sub-if4 : tie.Need-sub-if4
-sub-if4 c =
+sub-if3 : tie.Need-sub-if3
+sub-if3 c =
     let h = rw (← c .before .sample-range .ensures) at (within (c .before .before .before .before .before)) in
-    omega (arith, pos-of-ne-zero (c .before .before .before .before .if2 .left))
+    omega (arith, pos-of-ne-zero (c .before .before .before .before .if1 .left))
 
-returns-4 : tie.Need-returns-4
-returns-4 c =
-    let t = c .before .before .before .before .before .before .before .before .before .before .before .before .args .t .now in
-    let k = c .before .before .before .before .before .before .before .before .before .reference .result .0 in
-    rw (at (c .before .before .before .before)) (sym (range-past t k (pos-of-ne-zero (c .before .before .before .before .before .before .before .if1 .left)) (c .before .before .before .before .stepped .result) (rw (← c .before .before .sample-range .ensures) (c .if4 .taken))))
+returns-3 : tie.Need-returns-3
+returns-3 c =
+    let t = c .before .before .before .before .before .before .before .before .before .before .args .t .now in
+    let k = c .before .before .before .before .before .before .before .reference .result .0 in
+    rw (at (c .before .before .before .before)) (sym (range-past t k (track (c .before .before .before .before .before)) (c .before .before .before .before .stepped .result) (rw (← c .before .before .sample-range .ensures) (c .if3 .taken))))
 
 add-t10 : tie.Need-add-t10
 add-t10 c =
-    let t = c .before .before .before .before .before .before .before .before .before .before .before .before .before .args .t .now in
-    let k = c .before .before .before .before .before .before .before .before .before .before .reference .result .0 in
+    let t = c .before .before .before .before .before .before .before .before .before .before .before .args .t .now in
+    let k = c .before .before .before .before .before .before .before .before .reference .result .0 in
     let m = rw (← c .before .before .before .sample-range .ensures) at (range-most t k) in
-    let h = c .before .if4 .left in
+    let h = c .before .if3 .left in
     omega arith
 
-returns-5 : tie.Need-returns-5
-returns-5 c =
-    let t = c .before .before .before .before .before .before .before .before .before .before .before .before .before .args .t .now in
-    let k = c .before .before .before .before .before .before .before .before .before .before .reference .result .0 in
-    rw (at (c .before .before .before .before .before), range-at t k (pos-of-ne-zero (c .before .before .before .before .before .before .before .before .if1 .left)) (c .before .before .before .before .before .stepped .result) (pos-of-ne-zero (c .before .before .before .before .if3 .left)) (rw (← c .before .before .before .sample-range .ensures) (c .before .if4 .left)), c .before .before .before .sample-range .ensures)
+returns-4 : tie.Need-returns-4
+returns-4 c =
+    let t = c .before .before .before .before .before .before .before .before .before .before .before .args .t .now in
+    let k = c .before .before .before .before .before .before .before .before .reference .result .0 in
+    rw (at (c .before .before .before .before .before), range-at t k (track (c .before .before .before .before .before .before)) (c .before .before .before .before .before .stepped .result) (pos-of-ne-zero (c .before .before .before .before .if2 .left)) (rw (← c .before .before .before .sample-range .ensures) (c .before .if3 .left)), c .before .before .before .sample-range .ensures)
 
 pub sample-named-spec : {M : Type 1} → statement M
 sample-named-spec =
@@ -89,13 +88,12 @@ sample-named-spec =
     (tie.spec
     sample-track-requires
     reference-requires
-    returns
     base-in-requires
-    returns-2
+    returns
     stepped-requires
-    returns-3
+    returns-2
     sample-range-requires
-    sub-if4
-    returns-4
+    sub-if3
+    returns-3
     add-t10
-    returns-5)
+    returns-4)

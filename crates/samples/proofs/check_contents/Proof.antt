@@ -17,7 +17,7 @@ use Rattle.units.specs.Rules.{Whole}
 use Rattle.units.proofs.Units.{whole-end, whole-aggregator, next-after, included-rules}
 use Rattle.units.proofs.Walks.{walk, walk-none, walk-here, walk-on, Reached, reached-start, reached-next, reached-mem}
 use Rattle.samples.specs.Check.{contentVerdict, contentsVerdict}
-use Rattle.samples.proofs.Walks.{includedJudge, next-is, top-wholes, top-has, content-included, content-cover, content-other}
+use Rattle.samples.proofs.Walks.{includedJudge, next-is, top-whole, top-has, content-included, content-cover, content-other}
 use Rattle.samples.proofs.check_contents.Tie as tie
 
 abbrev Inv-loop : tie.InvT-loop
@@ -44,7 +44,7 @@ P c = c .before .walk .at
 
 -- the unit is whole, and ends where the next one starts
 unit : (c : At) → Whole (X c) (length (c .before .before .before .before .args .s .now)) (P c)
-unit c = top-wholes _ (c .before .before .before .before .pre) _ (reached-mem _ _ (c .before .walk .inv .2) (c .walk-test .taken))
+unit c = top-whole _ (c .before .before .before .before .pre) _ (reached-mem _ _ (c .before .walk .inv .2) (c .walk-test .taken))
 
 ends : (c : tie.After-number Inv-loop μ-loop Inv-walk μ-walk) → P (c .before) + c .before .before .before .bytes .result + c .number .result ≡ next (X (c .before)) (P (c .before))
 ends c = let a = c .before .before .before .before .before .args in next-is (a .k) (a .s .now) _ _ _ (c .before .before .before .bytes .ensures .0) (c .number .ensures)

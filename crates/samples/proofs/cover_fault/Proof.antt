@@ -11,7 +11,7 @@ use Rattle.units.specs.Aggregators.{additionalBytes}
 use Rattle.units.specs.Rules.{Whole}
 use Rattle.units.proofs.Units.{whole-end, next-after}
 use Rattle.units.proofs.Covers.{Aggregator, aggregator, Covering, covering-whole, covering-start, covering-next, covering-found, covering-end, covering-past, cover-bad}
-use Rattle.samples.proofs.Walks.{top-wholes, next-is}
+use Rattle.samples.proofs.Walks.{top-whole, next-is}
 use borrow.Author.Tests.{eq-eqb, ne-eqb}
 use Rattle.units.proofs.Walks.{border-past}
 use Rattle.samples.proofs.cover_fault.Tie as tie
@@ -24,7 +24,7 @@ abbrev μ-loop : tie.MeasureT-loop
 
 -- the aggregator, and where it ends
 whole-one : (c : tie.After-bytes Inv-loop μ-loop) → let a = c .before .before .args in Aggregator (sample (a .k) (a .s .now)) (a .at)
-whole-one c = let a = c .before .before .args in let x = sample (a .k) (a .s .now) in aggregator x (a .at) (top-wholes x (c .before .before .pre .0)) (has-from _ _ (c .before .before .pre .1)) (c .before .before .pre .2)
+whole-one c = let a = c .before .before .args in let x = sample (a .k) (a .s .now) in aggregator x (a .at) (top-whole x (c .before .before .pre .0)) (has-from _ _ (c .before .before .pre .1)) (c .before .before .pre .2)
 
 ends : (c : tie.After-number Inv-loop μ-loop) → let a = c .before .before .before .args in a .at + c .before .bytes .result + c .number .result ≡ next (sample (a .k) (a .s .now)) (a .at)
 ends c = let a = c .before .before .before .args in next-is (a .k) (a .s .now) _ _ _ (c .before .bytes .ensures .0) (c .number .ensures)
@@ -74,7 +74,7 @@ add-stop c = let g = whole-one (c .before .before .before) in let e = ends (c .b
 loop-holds : tie.Need-loop-holds Inv-loop μ-loop
 loop-holds c =
     let g = whole-one (c .before .before .before) in let e = ends (c .before .before) in let m = covers (c .before) in let a = c .before .before .before .before .before .args in
-    rw e (covering-start (sample (a .k) (a .s .now)) (a .at) _ (top-wholes _ (c .before .before .before .before .before .pre .0)) g (omega arith) (omega arith))
+    rw e (covering-start (sample (a .k) (a .s .now)) (a .at) _ (top-whole _ (c .before .before .before .before .before .pre .0)) g (omega arith) (omega arith))
 
 type-at-requires : tie.Need-type-at-requires Inv-loop μ-loop
 type-at-requires c κs = search needs

@@ -11,7 +11,7 @@ use Rattle.units.specs.Aggregators.{includedStart}
 use Rattle.units.specs.Steps.{aggregatorAt}
 use Rattle.units.specs.Rules.{Whole}
 use Rattle.units.proofs.Units.{whole, whole-end, whole-aggregator}
-use Rattle.units.proofs.Steps.{aggregator-there}
+use Rattle.units.proofs.Steps.{aggregator-there, aggregator-past}
 use Rattle.unit_steps.proofs.aggregator_at.Tie as tie
 
 here : (c : tie.Else1) → Whole (sample (c .before .before .before .args .k) (c .before .before .before .args .s .now)) (c .before .before .before .args .end .0) (c .before .before .before .args .at .0)
@@ -61,10 +61,14 @@ unfolding size
 sub-if3 c = let f = fits (c .before .before .before .before) in omega arith
 
 returns-3 : tie.Need-returns-3
-unfolding aggregatorAt size
+unfolding size
 returns-3 c =
     let m = rw (c .before .before .before .before .bytes .ensures .0) at (c .before .before .number2 .ensures) in
-    rw (sym (c .before .before .before .before .before .before .before .before .unit-fault .ensures) ∙ c .before .before .before .before .before .before .before .if1 .left, sym (c .before .before .before .before .before .before .type-at .ensures) ∙ c .before .before .before .before .before .if2 .left, ← c .before .before .before .number .ensures, ← m, ← c .before .before .before .before .bytes .ensures .0) (search tests)
+    let a = c .before .before .before .before .before .before .before .before .before .before .args in
+    let l = c .before .before .before .before .bytes .ensures .0 in
+    let n = c .before .before .before .number .ensures in
+    let f = fits (c .before .before .before .before .before) in
+    sym (aggregator-past (sample (a .k) (a .s .now)) (a .end .0) (a .at .0) (here (c .before .before .before .before .before .before .before)) (eq-eqb _ _ (sym (c .before .before .before .before .before .before .type-at .ensures) ∙ c .before .before .before .before .before .if2 .left)) (omega arith))
 
 add-t13 : tie.Need-add-t13
 add-t13 c = let f = fits (c .before .before .before .before .before) in omega arith

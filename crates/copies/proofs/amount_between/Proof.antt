@@ -3,7 +3,7 @@ use borrow.Author.Needs.{needs}
 use native.Mathlib.Omega.{arith}
 use mathlib.Core.Path.{_≡_, sym, _∙_}
 use Prim.Native.Nat.{ℕ, _+_, _-_}
-use Rattle.copies.proofs.measured.Statement.{statement}
+use Rattle.copies.proofs.amount_between.Statement.{statement}
 use mathlib.Core.Bool.{true, false}
 use borrow.Author.Tests.{eq-eqb, ne-eqb}
 use Rattle.units.specs.Units.{Sample, sample, size, next, isAggregator}
@@ -12,7 +12,7 @@ use Rattle.units.proofs.Units.{next-after}
 use Rattle.samples.proofs.Walks.{next-is}
 use Rattle.copies.proofs.Flat.{Walking}
 use Rattle.copies.proofs.Rest.{walking-skip, walking-take, Counted, counted-start, counted-skip, counted-found, counted-take, counted-end}
-use Rattle.copies.proofs.measured.Tie as tie
+use Rattle.copies.proofs.amount_between.Tie as tie
 
 abbrev Inv-loop : tie.InvT-loop
 Inv-loop k z from to l n count₀ bytes₀ p₀ count bytes p = Counted (sample k z) from to p count bytes
@@ -104,8 +104,8 @@ loop-again-2 c =
 returns-2 : tie.Need-returns-2 Inv-loop μ-loop
 returns-2 c = counted-end _ _ _ _ _ _ (c .before .loop .inv) (c .loop-test .left)
 
-pub measured-spec : {M : Type 1} → statement M
-measured-spec =
+pub amount-between-spec : {M : Type 1} → statement M
+amount-between-spec =
     tie.close
     (tie.spec
     Inv-loop

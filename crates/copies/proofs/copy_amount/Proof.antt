@@ -2,10 +2,10 @@
 use borrow.Author.Needs.{needs}
 use native.Mathlib.Omega.{arith}
 use mathlib.Core.Path.{sym, ap, _∙_}
-use Rattle.copies.proofs.copy_of.Statement.{statement}
+use Rattle.copies.proofs.copy_amount.Statement.{statement}
 use Rattle.samples.specs.Check.{answerOf}
 use Rattle.copies.proofs.Answers.{copy-ill, refused-as}
-use Rattle.copies.proofs.copy_of.Tie as tie
+use Rattle.copies.proofs.copy_amount.Tie as tie
 
 check-sample-requires : tie.Need-check-sample-requires
 check-sample-requires c κs = search needs
@@ -28,8 +28,8 @@ returns c = search needs
 returns-2 : tie.Need-returns-2
 returns-2 c = c .refused .ensures ∙ refused-as _ _ _ (sym (copy-ill _ _ _ (sym (c .before .before .before .check-sample .ensures) ∙ ap answerOf (c .before .enum-told2 .given .1)))) (λ e. omega arith)
 
-pub copy-of-spec : {M : Type 1} → statement M
-copy-of-spec =
+pub copy-amount-spec : {M : Type 1} → statement M
+copy-amount-spec =
     tie.close
     (tie.spec
     check-sample-requires
