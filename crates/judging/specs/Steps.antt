@@ -1,7 +1,7 @@
 -- The steps of the code on a bundle and any table, as definitions over the recording that they give.
 --
 --   trackFor y n              what the track of sample n says of it, as the code has it
---   byName r n f none found   what is said of an extractor with the fields f in sample n: of its refusal, 23 or 24, else of the sample named
+--   byName r n f none found   what is said of an extractor with the fields f in sample n: of its refusal (23, 24), else of the sample named
 --   byUnit x p said none own  what is said of the unit at p of the sample x: by its fields if it is an extractor
 --   extracting r n f          what an extractor with the fields f in sample n delivers: its refusal, 23 to 28, or its units counted
 --   amountAt r n x p          the same for the unit at p of sample n, which is x, if it is no aggregator: any other unit is one unit
