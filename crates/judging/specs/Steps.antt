@@ -55,16 +55,16 @@ extracting r n f = byName r n f refusal (λ m. copyOf (sampleOf r m) (f .«data_
 
 -- a unit of the sample itself; units that are copied
 abbrev pub ownAmount : Sample → ℕ → UnitAmount
-ownAmount x p = record { fault = 0; count = 1; own = size x p; copied = 0 }
+ownAmount x p = record { fault = 0; count = 1; «own_bytes» = size x p; «copied_bytes» = 0 }
 
 abbrev pub copiedAmount : Copy → UnitAmount
-copiedAmount c = record { fault = c .fault; count = c .count; own = 0; copied = c .bytes }
+copiedAmount c = record { fault = c .fault; count = c .count; «own_bytes» = 0; «copied_bytes» = c .bytes }
 
 unfoldable pub amountAt : Recording → ℕ → Sample → ℕ → UnitAmount
 amountAt r n x p = byUnit x p (λ f. copiedAmount (extracting r n f)) (copiedAmount (refusal 0)) (ownAmount x p)
 
 unfoldable pub judgement : Recording → ℕ → Answer Amount
-judgement r n = judged r n andThen ok (record { count = length (delivered r n); own = ownBytes r n; copied = copiedBytes r n })
+judgement r n = judged r n andThen ok (record { count = length (delivered r n); «own_bytes» = ownBytes r n; «copied_bytes» = copiedBytes r n })
 
 unfoldable pub judgementIn : List ℕ → List ℕ → ℕ → Answer Amount
 judgementIn b t n = (bundleTooLong if bundleMost <? length b) atPlace 0 andThen judgement (recordingIn b t) n
