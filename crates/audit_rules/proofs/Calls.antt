@@ -25,7 +25,7 @@ use Rattle.bundles.proofs.Promises.{one-or-other, refusals-within}
 use Rattle.bundles.proofs.Refusals.{Within}
 use Rattle.tally.specs.declared.Tally.{Tally}
 use Rattle.audit_rules.specs.Auditing.{lineSize, lines, tally, auditCall, tallyCall}
-use Rattle.audit_rules.specs.Rules.{Refuses, Audits, Tallies}
+use Rattle.audit_rules.specs.Rules.{AuditRefuses, Audits, Tallies}
 use Rattle.audit_rules.proofs.Lines.{lines-length}
 
 module _ (b : List ℕ) (room : ℕ) where
@@ -41,14 +41,14 @@ module _ (b : List ℕ) (room : ℕ) where
   unfolding auditCall
   audit-means e = rw e
 
-  pub audit-refuses : {m p : ℕ} → Refuses b room m p → auditCall b room ≡ refused m p
-  audit-refuses (Refuses.bundle e) = audit-bundle e
-  audit-refuses (Refuses.tooLong r e h) = audit-means e ∙ within-not room (lines r) (rw (lines-length r) h)
+  pub audit-refuses : {m p : ℕ} → AuditRefuses b room m p → auditCall b room ≡ refused m p
+  audit-refuses (AuditRefuses.bundle e) = audit-bundle e
+  audit-refuses (AuditRefuses.tooLong r e h) = audit-means e ∙ within-not room (lines r) (rw (lines-length r) h)
 
-  pub tally-refuses : {m p : ℕ} → Refuses b room m p → tallyCall b room ≡ refused m p
+  pub tally-refuses : {m p : ℕ} → AuditRefuses b room m p → tallyCall b room ≡ refused m p
   unfolding tallyCall
-  tally-refuses (Refuses.bundle e) = tally-bundle e
-  tally-refuses (Refuses.tooLong r e h) = rw (e, lines-length r, lt-ltb room (lineSize * sampleCount (r .layout)) h)
+  tally-refuses (AuditRefuses.bundle e) = tally-bundle e
+  tally-refuses (AuditRefuses.tooLong r e h) = rw (e, lines-length r, lt-ltb room (lineSize * sampleCount (r .layout)) h)
 
   pub audits : {out : List ℕ} → Audits b room out → auditCall b room ≡ ok out
   audits w = audit-means (w .means) ∙ rw (w .writes) (within-room room (lines (w .recording)) (rw (lines-length (w .recording)) (w .fits)))
@@ -57,22 +57,22 @@ module _ (b : List ℕ) (room : ℕ) where
   unfolding tallyCall
   tallies w = rw (w .means, w .counts, lines-length (w .recording), le-ltb room (lineSize * sampleCount (w .recording .layout)) (w .fits))
 
-  pub answered : {G : Type 0} → ((m p : ℕ) → Refuses b room m p → G) → ((r : Recording) → meaning b ≡ ok r → lineSize * sampleCount (r .layout) ≤ room → G) → G
+  pub answered : {G : Type 0} → ((m p : ℕ) → AuditRefuses b room m p → G) → ((r : Recording) → meaning b ≡ ok r → lineSize * sampleCount (r .layout) ≤ room → G) → G
   answered f g = ⊎-elim
-      (λ w. f (w .0) (w .1) (Refuses.bundle (w .2)))
+      (λ w. f (w .0) (w .1) (AuditRefuses.bundle (w .2)))
       (λ w. by-bool (ltb room (lineSize * sampleCount (recordingOf b .layout)))
-      (λ t. f outputTooLong 0 (Refuses.tooLong (recordingOf b) (w .1) (ltb-true _ _ t)))
+      (λ t. f outputTooLong 0 (AuditRefuses.tooLong (recordingOf b) (w .1) (ltb-true _ _ t)))
       (λ t. g (recordingOf b) (w .1) (ltb-false _ _ t)))
       (one-or-other b)
 
-  pub audit-because : (m p : ℕ) → auditCall b room ≡ refused m p → Refuses b room m p
+  pub audit-because : (m p : ℕ) → auditCall b room ≡ refused m p → AuditRefuses b room m p
   audit-because m p e = answered
-      (λ a c w. refused-along (Refuses b room) (sym (audit-refuses w) ∙ e) w)
+      (λ a c w. refused-along (AuditRefuses b room) (sym (audit-refuses w) ∙ e) w)
       (λ r q h. ok-refused (sym e ∙ audits (record { recording = r; means = q; fits = h; writes = refl })))
 
-  pub tally-because : (m p : ℕ) → tallyCall b room ≡ refused m p → Refuses b room m p
+  pub tally-because : (m p : ℕ) → tallyCall b room ≡ refused m p → AuditRefuses b room m p
   tally-because m p e = answered
-      (λ a c w. refused-along (Refuses b room) (sym (tally-refuses w) ∙ e) w)
+      (λ a c w. refused-along (AuditRefuses b room) (sym (tally-refuses w) ∙ e) w)
       (λ r q h. ok-refused (sym e ∙ tallies (record { recording = r; means = q; fits = h; counts = refl })))
 
   pub audited-because : (out : List ℕ) → auditCall b room ≡ ok out → Audits b room out
@@ -90,6 +90,6 @@ module _ (b : List ℕ) (room : ℕ) where
       subst (Tallies b room) (ok-same (sym (tallies w) ∙ e)) w)
 
   -- 1 to 13 at a place in the bundle, 29 at 0
-  pub refused-with : {m p : ℕ} → Refuses b room m p → Within b m p ⊎ ((m ≡ outputTooLong) × (p ≡ 0))
-  refused-with {m} {p} (Refuses.bundle e) = inl (refusals-within b m p e)
-  refused-with (Refuses.tooLong r e h) = inr (refl, refl)
+  pub refused-with : {m p : ℕ} → AuditRefuses b room m p → Within b m p ⊎ ((m ≡ outputTooLong) × (p ≡ 0))
+  refused-with {m} {p} (AuditRefuses.bundle e) = inl (refusals-within b m p e)
+  refused-with (AuditRefuses.tooLong r e h) = inr (refl, refl)

@@ -35,10 +35,10 @@ use Rattle.resolution_rules.proofs.Promises.{sample-refusals}
 use Rattle.tally.specs.declared.Outcome.the-variants.{Passed, Empty, Refused}
 use Rattle.tally.specs.declared.Tally.{Tally}
 use Rattle.audit_rules.specs.Auditing.{lineSize, outcomeOf, lineOf, lines, tally, auditCall, tallyCall}
-use Rattle.audit_rules.specs.Rules.{said, lineAt, LineEach, Counts, Refuses, Audits, Tallies}
+use Rattle.audit_rules.specs.Rules.{outcomeByLine, lineAt, LinePerSample, Counts, AuditRefuses, Audits, Tallies}
 use Rattle.audit_rules.proofs.Outcomes as outcomes
 use Rattle.audit_rules.proofs.Lines.{lines-length, line-at}
-use Rattle.audit_rules.proofs.Reading.{line-each}
+use Rattle.audit_rules.proofs.Reading.{line-per-sample}
 use Rattle.audit_rules.proofs.Counts.{counts}
 use Rattle.audit_rules.proofs.Calls as calls
 
@@ -79,25 +79,25 @@ module _ (r : Recording) where
 
 -- demand 2, of an accepted bundle
 module _ (b : List ℕ) (r : Recording) (accepted : meaning b ≡ ok r) (room : ℕ) (fits : lineSize * sampleCount (r .layout) ≤ room) where
-  pub every-sample-one-line : (auditCall b room ≡ ok (lines r)) × LineEach r (lines r)
-  every-sample-one-line = (calls.audits b room (record { recording = r; means = accepted; fits = fits; writes = refl }), line-each b r accepted)
+  pub every-sample-one-line : (auditCall b room ≡ ok (lines r)) × LinePerSample r (lines r)
+  every-sample-one-line = (calls.audits b room (record { recording = r; means = accepted; fits = fits; writes = refl }), line-per-sample b r accepted)
 
   module _ (n : ℕ) (some : 0 < n) (there : n ≤ sampleCount (r .layout)) where
-    says : said (lineAt (lines r) n) (length (contentOf r n)) ≡ outcomeOf r n
-    says = line-each b r accepted .says n some there
+    by-line : outcomeByLine (lineAt (lines r) n) (length (contentOf r n)) ≡ outcomeOf r n
+    by-line = line-per-sample b r accepted .outcome n some there
 
-    pub line-empty-exactly : (said (lineAt (lines r) n) (length (contentOf r n)) ≡ Empty → length (contentOf r n) ≡ 0) × (length (contentOf r n) ≡ 0 → said (lineAt (lines r) n) (length (contentOf r n)) ≡ Empty)
-    line-empty-exactly = (λ e. outcomes.empty-because r n (sym says ∙ e), λ z. says ∙ outcomes.outcome-empty r n z)
+    pub line-empty-exactly : (outcomeByLine (lineAt (lines r) n) (length (contentOf r n)) ≡ Empty → length (contentOf r n) ≡ 0) × (length (contentOf r n) ≡ 0 → outcomeByLine (lineAt (lines r) n) (length (contentOf r n)) ≡ Empty)
+    line-empty-exactly = (λ e. outcomes.empty-because r n (sym by-line ∙ e), λ z. by-line ∙ outcomes.outcome-empty r n z)
 
     pub line-passed-exactly :
-        (said (lineAt (lines r) n) (length (contentOf r n)) ≡ Passed → (0 < length (contentOf r n)) × (judged r n ≡ ok tt))
-        × ((0 < length (contentOf r n)) × (judged r n ≡ ok tt) → said (lineAt (lines r) n) (length (contentOf r n)) ≡ Passed)
-    line-passed-exactly = (λ e. outcomes.passed-because r n (sym says ∙ e), λ w. says ∙ outcomes.outcome-passed r n (w .0) (w .1))
+        (outcomeByLine (lineAt (lines r) n) (length (contentOf r n)) ≡ Passed → (0 < length (contentOf r n)) × (judged r n ≡ ok tt))
+        × ((0 < length (contentOf r n)) × (judged r n ≡ ok tt) → outcomeByLine (lineAt (lines r) n) (length (contentOf r n)) ≡ Passed)
+    line-passed-exactly = (λ e. outcomes.passed-because r n (sym by-line ∙ e), λ w. by-line ∙ outcomes.outcome-passed r n (w .0) (w .1))
 
     pub line-refused-exactly :
-        (said (lineAt (lines r) n) (length (contentOf r n)) ≡ Refused → (m : ℕ) × (p : ℕ) × (judged r n ≡ refused m p))
-        × ((m p : ℕ) → judged r n ≡ refused m p → said (lineAt (lines r) n) (length (contentOf r n)) ≡ Refused)
-    line-refused-exactly = (λ e. outcomes.refused-because r n (sym says ∙ e), λ m p j. says ∙ outcomes.outcome-refused r n j)
+        (outcomeByLine (lineAt (lines r) n) (length (contentOf r n)) ≡ Refused → (m : ℕ) × (p : ℕ) × (judged r n ≡ refused m p))
+        × ((m p : ℕ) → judged r n ≡ refused m p → outcomeByLine (lineAt (lines r) n) (length (contentOf r n)) ≡ Refused)
+    line-refused-exactly = (λ e. outcomes.refused-because r n (sym by-line ∙ e), λ m p j. by-line ∙ outcomes.outcome-refused r n j)
 
 -- the call on a bundle
 module _ (b : List ℕ) (room : ℕ) where
@@ -107,10 +107,10 @@ module _ (b : List ℕ) (room : ℕ) where
   pub tallied-exactly : (t : Tally) → (tallyCall b room ≡ ok t → Tallies b room t) × (Tallies b room t → tallyCall b room ≡ ok t)
   tallied-exactly t = (calls.tallied-because b room t, calls.tallies b room)
 
-  pub audit-refused-exactly : (m p : ℕ) → (auditCall b room ≡ refused m p → Refuses b room m p) × (Refuses b room m p → auditCall b room ≡ refused m p)
+  pub audit-refused-exactly : (m p : ℕ) → (auditCall b room ≡ refused m p → AuditRefuses b room m p) × (AuditRefuses b room m p → auditCall b room ≡ refused m p)
   audit-refused-exactly m p = (calls.audit-because b room m p, calls.audit-refuses b room)
 
-  pub tally-refused-exactly : (m p : ℕ) → (tallyCall b room ≡ refused m p → Refuses b room m p) × (Refuses b room m p → tallyCall b room ≡ refused m p)
+  pub tally-refused-exactly : (m p : ℕ) → (tallyCall b room ≡ refused m p → AuditRefuses b room m p) × (AuditRefuses b room m p → tallyCall b room ≡ refused m p)
   tally-refused-exactly m p = (calls.tally-because b room m p, calls.tally-refuses b room)
 
   pub refused-alike : (m p : ℕ) → (auditCall b room ≡ refused m p → tallyCall b room ≡ refused m p) × (tallyCall b room ≡ refused m p → auditCall b room ≡ refused m p)

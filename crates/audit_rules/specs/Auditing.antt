@@ -9,14 +9,13 @@
 --   auditCall b room       the call on a bundle, with room for the lines: 1 to 13, 29, or the lines
 --   tallyCall b room       the same call's tally
 use Prim.Native.Nat.{ℕ, _+_}
-use mathlib.Core.List.{List, _++_, map}
+use mathlib.Core.List.{List, [], _∷_, _++_, map}
 use lib.ListN.{length}
-use Rattle.words.specs.Tests.{_<?_, _≡?_, pick}
-use Rattle.words.specs.RefusalNumbers.{outputTooLong}
-use Rattle.words.specs.Refusals.{_if_, Answer, refused, ok, Verdict, _atPlace_, _andThen_, numberOf, placeOf}
+use Rattle.words.specs.Tests.{_≡?_, pick}
+use Rattle.words.specs.Refusals.{Answer, refused, ok, Verdict, _andThen_, numberOf, placeOf}
 use Rattle.words.specs.Lists.{each, upto}
 use Rattle.words.specs.Bytes.{bytes}
-use Rattle.words.specs.Buffers.{within}
+use Rattle.words.specs.Buffers.{roomVerdict, within}
 use Rattle.bundles.specs.Recordings.{Recording, sampleCount, contentOf}
 use Rattle.bundles.specs.Bundles.{meaning}
 use Rattle.resolution_rules.specs.Resolving.{judged, delivered, good}
@@ -61,9 +60,9 @@ module _ (r : Recording) where
   unfoldable pub tally : Tally
   tally = tallied (map outcomeOf (upto (sampleCount (r .layout))))
 
--- 29 where the lines do not fit
+-- the tally, but 29 where the lines do not fit
 abbrev pub tallyWithin : Recording → ℕ → Answer Tally
-tallyWithin r room = (outputTooLong if room <? length (lines r)) atPlace 0 andThen ok (tally r)
+tallyWithin r room = roomVerdict (room ∷ []) (lines r ∷ []) andThen ok (tally r)
 
 module _ (b : List ℕ) (room : ℕ) where
   unfoldable pub auditCall : Answer (List ℕ)

@@ -27,7 +27,7 @@ use Rattle.bundles.specs.Recordings.{Recording, sampleCount, replaced}
 use Rattle.resolution_rules.specs.Calls.{resolve}
 use Rattle.resolution_rules.proofs.Calls.{number-good, number-bad, by-count}
 use Rattle.naming_list_rules.specs.Naming.{namingList, listBytes, names}
-use Rattle.naming_list_rules.specs.Rules.{DifferentTracks, Reader, namesBy, resolveBy, Lists, Refuses, SameAnswer}
+use Rattle.naming_list_rules.specs.Rules.{DifferentTracks, Reader, namesBy, resolveBy, Lists, NamesRefuses, SameAnswer}
 use Rattle.naming_list_rules.proofs.Replaced.{layout-kept}
 use Rattle.naming_list_rules.proofs.Listing.{list-size, list-kept}
 use Rattle.naming_list_rules.proofs.Entries.{big-before}
@@ -63,28 +63,28 @@ module _ (reader : Reader) (b : List ℕ) where
     lists {out} w =
         names-means s room (w .means) ∙ ap (within room) (names-there (w .recording) s (w .some) (w .there) ∙ ap ok (sym (w .lists))) ∙ within-room room out (w .fits)
 
-    pub refuses : {m p : ℕ} → Refuses reader b s room m p → namesBy reader b s room ≡ refused m p
-    refuses (Refuses.bundle e) = names-not s room e
-    refuses (Refuses.number r e h) = names-means s room e ∙ ap (within room) (names-number r s h)
-    refuses (Refuses.tooLong r e h l w) =
+    pub refuses : {m p : ℕ} → NamesRefuses reader b s room m p → namesBy reader b s room ≡ refused m p
+    refuses (NamesRefuses.bundle e) = names-not s room e
+    refuses (NamesRefuses.number r e h) = names-means s room e ∙ ap (within room) (names-number r s h)
+    refuses (NamesRefuses.tooLong r e h l w) =
         let z = list-size (namingList r s) in
         names-means s room e ∙ ap (within room) (names-there r s h l) ∙ within-not room (listBytes (namingList r s)) (omega arith)
 
     -- one of the two
-    answered : {G : Type 0} → ((m p : ℕ) → Refuses reader b s room m p → G) → ((out : List ℕ) → Lists reader b s room out → G) → G
+    answered : {G : Type 0} → ((m p : ℕ) → NamesRefuses reader b s room m p → G) → ((out : List ℕ) → Lists reader b s room out → G) → G
     answered f g = by-answer (reader .means b)
-        (λ m p e. f m p (Refuses.bundle e))
+        (λ m p e. f m p (NamesRefuses.bundle e))
         (λ r e. by-count (sampleCount (r .layout)) s
-        (λ h. f noSuchNumber 0 (Refuses.number r e h))
+        (λ h. f noSuchNumber 0 (NamesRefuses.number r e h))
         (λ h l.
         let z = list-size (namingList r s) in
         by-bool (ltb room (length (listBytes (namingList r s))))
-        (λ t. let k = ltb-true room (length (listBytes (namingList r s))) t in f outputTooLong 0 (Refuses.tooLong r e h l (omega arith)))
+        (λ t. let k = ltb-true room (length (listBytes (namingList r s))) t in f outputTooLong 0 (NamesRefuses.tooLong r e h l (omega arith)))
         (λ t. g (listBytes (namingList r s)) (record { recording = r; means = e; some = h; there = l; lists = refl; fits = ltb-false _ _ t }))))
 
-    pub refuses-because : (m p : ℕ) → namesBy reader b s room ≡ refused m p → Refuses reader b s room m p
+    pub refuses-because : (m p : ℕ) → namesBy reader b s room ≡ refused m p → NamesRefuses reader b s room m p
     refuses-because m p e = answered
-        (λ a c w. refused-along (Refuses reader b s room) (sym (refuses w) ∙ e) w)
+        (λ a c w. refused-along (NamesRefuses reader b s room) (sym (refuses w) ∙ e) w)
         (λ out w. ok-refused (sym e ∙ lists w))
 
     pub lists-because : (out : List ℕ) → namesBy reader b s room ≡ ok out → Lists reader b s room out
@@ -92,10 +92,10 @@ module _ (reader : Reader) (b : List ℕ) where
         (λ a c w. ok-refused (sym (refuses w) ∙ e))
         (λ o w. subst (Lists reader b s room) (ok-same (sym (lists w) ∙ e)) w)
 
-    pub refuses-with : (m p : ℕ) → Refuses reader b s room m p → (reader .means b ≡ refused m p) ⊎ (((m ≡ outputTooLong) ⊎ (m ≡ noSuchNumber)) × (p ≡ 0))
-    refuses-with m p (Refuses.bundle e) = inl e
-    refuses-with m p (Refuses.number r e h) = inr (inr refl, refl)
-    refuses-with m p (Refuses.tooLong r e h l w) = inr (inl refl, refl)
+    pub refuses-with : (m p : ℕ) → NamesRefuses reader b s room m p → (reader .means b ≡ refused m p) ⊎ (((m ≡ outputTooLong) ⊎ (m ≡ noSuchNumber)) × (p ≡ 0))
+    refuses-with m p (NamesRefuses.bundle e) = inl e
+    refuses-with m p (NamesRefuses.number r e h) = inr (inr refl, refl)
+    refuses-with m p (NamesRefuses.tooLong r e h l w) = inr (inl refl, refl)
 
 -- the same answer, by two calls with two buffers
 pub same-answer : {o o₁ o' o₁' : List ℕ} {a a' : Answer ℕ} (x : Answer (List ℕ)) → Wrote o o₁ a x → Wrote o' o₁' a' x → SameAnswer a a' o₁ o₁'

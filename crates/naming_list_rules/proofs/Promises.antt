@@ -49,7 +49,7 @@ use Rattle.bundles.proofs.Refusals.{Within}
 use Rattle.resolution_rules.specs.Calls.{resolveCall}
 use Rattle.resolution_rules.proofs.Sizes.{content-most}
 use Rattle.naming_list_rules.specs.Naming.{Namer, namer, namingList, sampleSize, placeSize, listBytes, names, namesCall, entrySize}
-use Rattle.naming_list_rules.specs.Rules.{Names, Before, timesListed, Unlisted, Kept, DifferentTracks, Reader, namesBy, resolveBy, Lists, Refuses, SameAnswer}
+use Rattle.naming_list_rules.specs.Rules.{Names, Before, timesListed, Unlisted, Kept, DifferentTracks, Reader, namesBy, resolveBy, Lists, NamesRefuses, SameAnswer}
 use Rattle.naming_list_rules.proofs.Listing as listing
 use Rattle.naming_list_rules.proofs.Others as others
 use Rattle.naming_list_rules.proofs.Entries as entries
@@ -129,7 +129,7 @@ module _ (reader : Reader) (b : List ℕ) (s room : ℕ) where
   pub names-listed-exactly : (out : List ℕ) → (namesBy reader b s room ≡ ok out) ↔ Lists reader b s room out
   names-listed-exactly out = (calls.lists-because reader b s room out, calls.lists reader b s room)
 
-  pub names-refused-exactly : (m p : ℕ) → (namesBy reader b s room ≡ refused m p) ↔ Refuses reader b s room m p
+  pub names-refused-exactly : (m p : ℕ) → (namesBy reader b s room ≡ refused m p) ↔ NamesRefuses reader b s room m p
   names-refused-exactly m p = (calls.refuses-because reader b s room m p, calls.refuses reader b s room)
 
 -- the layout of document 01
@@ -171,7 +171,7 @@ module _ (b : List ℕ) (n room : ℕ) where
   pub call-listed-exactly : (out : List ℕ) → (namesCall b n room ≡ ok out) ↔ Lists bundleReader b n room out
   call-listed-exactly out = rw (← names-by-layout) (names-listed-exactly bundleReader b n room out)
 
-  pub call-refused-exactly : (m p : ℕ) → (namesCall b n room ≡ refused m p) ↔ Refuses bundleReader b n room m p
+  pub call-refused-exactly : (m p : ℕ) → (namesCall b n room ≡ refused m p) ↔ NamesRefuses bundleReader b n room m p
   call-refused-exactly m p = rw (← names-by-layout) (names-refused-exactly bundleReader b n room m p)
 
   pub call-refused-with : (m p : ℕ) → namesCall b n room ≡ refused m p → Within b m p ⊎ (((m ≡ outputTooLong) ⊎ (m ≡ noSuchNumber)) × (p ≡ 0))

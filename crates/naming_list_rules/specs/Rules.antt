@@ -7,7 +7,7 @@
 --   Kept r after n           sample n is in one recording as in another
 --   Reader                   what is needed of a reader of bundles
 --   namesBy, resolveBy       the calls on a bundle by a reader
---   Lists, Refuses           when the naming call answers, and when it is refused
+--   Lists, NamesRefuses           when the naming call answers, and when it is refused
 --   SameAnswer               two calls that returned the same number, place and count, and wrote the same bytes up to that count
 use Prim.Native.Nat.{ℕ, _*_, _^_, _≤_, _<_}
 use mathlib.Core.Path.{_≡_}
@@ -97,10 +97,10 @@ module _ (reader : Reader) (b : List ℕ) where
       pub fits : length out ≤ room
 
     -- the bundle's own refusal, 30, 29: never 14 to 28
-    pub data Refuses : ℕ → ℕ → Type 0 where
-      bundle : {m p : ℕ} → reader .means b ≡ refused m p → Refuses m p
-      number : (r : Recording) → reader .means b ≡ ok r → (s ≡ 0) ⊎ (sampleCount (r .layout) < s) → Refuses noSuchNumber 0
-      tooLong : (r : Recording) → reader .means b ≡ ok r → 0 < s → s ≤ sampleCount (r .layout) → room < length (namingList r s) * entrySize → Refuses outputTooLong 0
+    pub data NamesRefuses : ℕ → ℕ → Type 0 where
+      bundle : {m p : ℕ} → reader .means b ≡ refused m p → NamesRefuses m p
+      number : (r : Recording) → reader .means b ≡ ok r → (s ≡ 0) ⊎ (sampleCount (r .layout) < s) → NamesRefuses noSuchNumber 0
+      tooLong : (r : Recording) → reader .means b ≡ ok r → 0 < s → s ≤ sampleCount (r .layout) → room < length (namingList r s) * entrySize → NamesRefuses outputTooLong 0
 
 -- what two calls returned, and what they left in the buffers lent to them
 pub record SameAnswer (a a' : Answer ℕ) (out out' : List ℕ) : Type 0 where

@@ -47,7 +47,7 @@ use Rattle.naming_list_rules.specs.Rules.{Names, Before, timesListed, Unlisted,
 use Rattle.naming_list_rules.proofs.Promises as naming
 use Rattle.tally.specs.declared.Outcome.the-variants.{Passed, Empty}
 use Rattle.audit_rules.specs.Auditing.{lineSize, lines, tally, auditCall, tallyCall}
-use Rattle.audit_rules.specs.Rules.{lineAt, said, LineEach, Counts}
+use Rattle.audit_rules.specs.Rules.{lineAt, outcomeByLine, LinePerSample, Counts}
 use Rattle.audit_rules.proofs.Promises as auditing
 use Rattle.promises.specs.Refused.{InSample}
 use Rattle.promises.specs.Refused as refusals
@@ -133,16 +133,16 @@ misfits-exactly = records.misfits-exactly
 -- the audit of a bundle b that is accepted and means r, with room for the lines (crates/audit_rules/proofs/Promises)
 module _ (b : List ℕ) (r : Recording) (accepted : meaning b ≡ ok r) (room : ℕ) (fits : lineSize * sampleCount (r .layout) ≤ room) where
   -- every sample, after a blank or bad one too, gets exactly one line, in order
-  pub one-line-each : (auditCall b room ≡ ok (lines r)) × LineEach r (lines r)
+  pub one-line-each : (auditCall b room ≡ ok (lines r)) × LinePerSample r (lines r)
   one-line-each = auditing.every-sample-one-line b r accepted room fits
 
   -- a sample is empty, by its line and its length, exactly if its length is zero
   module _ (n : ℕ) (some : 0 < n) (there : n ≤ sampleCount (r .layout)) where
-    pub empty-exactly : (said (lineAt (lines r) n) (length (contentOf r n)) ≡ Empty) ↔ (length (contentOf r n) ≡ 0)
+    pub empty-exactly : (outcomeByLine (lineAt (lines r) n) (length (contentOf r n)) ≡ Empty) ↔ (length (contentOf r n) ≡ 0)
     empty-exactly = auditing.line-empty-exactly b r accepted room fits n some there
 
     -- passed exactly if it has bytes and its whole length is good
-    pub passed-exactly : (said (lineAt (lines r) n) (length (contentOf r n)) ≡ Passed) ↔ ((0 < length (contentOf r n)) × (judged r n ≡ ok tt))
+    pub passed-exactly : (outcomeByLine (lineAt (lines r) n) (length (contentOf r n)) ≡ Passed) ↔ ((0 < length (contentOf r n)) × (judged r n ≡ ok tt))
     passed-exactly = auditing.line-passed-exactly b r accepted room fits n some there
 
 -- the tally counts the samples, and adds to the sample count (crates/audit_rules/proofs/Promises)
