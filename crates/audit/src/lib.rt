@@ -10,12 +10,14 @@ ghost use Rattle.bundles.specs.Limits.{bundleMost};
 ghost use Rattle.bundles.specs.Recordings.{sampleCount};
 ghost use Rattle.tables.specs.Tables.{recordingIn};
 ghost use Rattle.tally.specs.Tallies.{raisedBy};
-ghost use Rattle.audit_rules.specs.Auditing.{refusalSize, placeSize, unitsSize, lineSize, lineBytes, outcomeOf, lineOf, lines, tally, tallyWithin, auditCall, tallyCall};
+ghost use Rattle.numbers.specs.Places.{placeSize};
+ghost use Rattle.audit_rules.specs.Auditing.{refusalSize, unitsSize, lineSize, lineBytes, outcomeOf, lineOf, lines, tally, tallyWithin, auditCall, tallyCall};
 ghost use Rattle.audit.specs.Steps.{verdictOf, unitsIn, outcomeIn};
 ghost use Rattle.audit.specs.Answers.{linesAnswer, tallyAnswer, lineThere, lineSays};
 use filling::Filled;
 use judging::Judged;
 use numbers::ByteOffset;
+use numbers::PLACE_SIZE;
 use numbers::Refusal;
 use numbers::SampleNumber;
 use numbers::refusals;
@@ -25,11 +27,9 @@ use tally::Tally;
 // A line: the refusal, its place, and how many units are delivered.
 const REFUSAL_SIZE: usize = 1;
 
-const PLACE_SIZE: usize = 4;
-
 const UNITS_SIZE: usize = 8;
 
-const LINE_SIZE: usize = 13;
+const LINE_SIZE: usize = REFUSAL_SIZE + PLACE_SIZE + UNITS_SIZE;
 
 // How many bytes of lines are written, and the tally.
 pub struct Report {

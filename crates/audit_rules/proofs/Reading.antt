@@ -25,7 +25,8 @@ use Rattle.resolution_rules.specs.Resolving.{judged, delivered}
 use Rattle.resolution_rules.proofs.Good.{good-rules, judged-refused}
 use Rattle.resolution_rules.proofs.Sizes.{delivered-count, content-most}
 use Rattle.tally.specs.declared.Outcome.{Outcome}
-use Rattle.audit_rules.specs.Auditing.{refusalSize, placeSize, unitsSize, outcomeOf, lineOf, lines}
+use Rattle.numbers.specs.Places.{placeSize}
+use Rattle.audit_rules.specs.Auditing.{refusalSize, unitsSize, outcomeOf, lineOf, lines}
 use Rattle.audit_rules.specs.Rules.{Reads, outcomeByLine, SampleLine, LinePerSample}
 use Rattle.audit_rules.proofs.Refusals.{number-some, number-fits, place-inside}
 use Rattle.audit_rules.proofs.Outcomes.{empty-good, empty-nothing, outcome-empty, outcome-passed, outcome-refused, by-outcome}

@@ -16,6 +16,7 @@ use Rattle.words.specs.Refusals.{Answer, refused, ok, Verdict, _andThen_, numbe
 use Rattle.words.specs.Lists.{each, upto}
 use Rattle.words.specs.Bytes.{bytes}
 use Rattle.words.specs.Buffers.{roomVerdict, within}
+use Rattle.numbers.specs.Places.{placeSize}
 use Rattle.bundles.specs.Recordings.{Recording, sampleCount, contentOf}
 use Rattle.bundles.specs.Bundles.{meaning}
 use Rattle.resolution_rules.specs.Resolving.{judged, delivered, good}
@@ -28,9 +29,6 @@ use Rattle.tally.specs.declared.Tally.{Tally}
 -- refusal, place, units delivered
 abbrev pub refusalSize : ℕ
 refusalSize = 1
-
-abbrev pub placeSize : ℕ
-placeSize = 4
 
 abbrev pub unitsSize : ℕ
 unitsSize = 8

@@ -25,7 +25,8 @@ use Rattle.tally.specs.Tallies.{isPassed, isEmpty, isRefused}
 use Rattle.tally.specs.declared.Outcome.{Outcome}
 use Rattle.tally.specs.declared.Outcome.the-variants.{Passed, Empty, Refused}
 use Rattle.tally.specs.declared.Tally.{Tally}
-use Rattle.audit_rules.specs.Auditing.{refusalSize, placeSize, unitsSize, lineSize, outcomeOf, lines, tally}
+use Rattle.numbers.specs.Places.{placeSize}
+use Rattle.audit_rules.specs.Auditing.{refusalSize, unitsSize, lineSize, outcomeOf, lines, tally}
 
 pub record Reads (s : List ℕ) (m p count : ℕ) : Type 0 where
   pub size : length s ≡ lineSize

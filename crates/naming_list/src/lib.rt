@@ -17,6 +17,7 @@ use filling::Filled;
 use links::Named;
 use numbers::ByteOffset;
 use numbers::LengthSize;
+use numbers::PLACE_SIZE;
 use numbers::Refusal;
 use numbers::SampleNumber;
 use numbers::refusals;
@@ -28,9 +29,7 @@ use units::Track;
 // An entry of the list: the number of the extractor's own sample in 2 bytes, its place there in 4.
 const SAMPLE_SIZE: usize = 2;
 
-const PLACE_SIZE: usize = 4;
-
-const ENTRY_SIZE: usize = 6;
+const ENTRY_SIZE: usize = SAMPLE_SIZE + PLACE_SIZE;
 
 // The naming list of a sample: how many bytes of the output are written, or a refusal.
 pub enum Listed {

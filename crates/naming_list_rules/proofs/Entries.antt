@@ -20,7 +20,8 @@ use Rattle.words.proofs.Bytes.{bytes-length, big-bytes, big-inside}
 use Rattle.bundles.specs.Recordings.{Recording}
 use Rattle.links.proofs.Words.{mem-nth}
 use Rattle.resolution_rules.proofs.Good.{extractor-inside}
-use Rattle.naming_list_rules.specs.Naming.{Namer, namer, namingList, sampleSize, placeSize, entryBytes, listBytes}
+use Rattle.numbers.specs.Places.{placeSize}
+use Rattle.naming_list_rules.specs.Naming.{Namer, namer, namingList, sampleSize, entryBytes, listBytes}
 use Rattle.naming_list_rules.specs.Rules.{Unlisted, Fits}
 use Rattle.naming_list_rules.proofs.Listing.{list-only, entry-size, list-size}
 

@@ -48,7 +48,8 @@ use Rattle.bundles.proofs.Promises.{limits-kept, references-join, bytes-replace
 use Rattle.bundles.proofs.Refusals.{Within}
 use Rattle.resolution_rules.specs.Calls.{resolveCall}
 use Rattle.resolution_rules.proofs.Sizes.{content-most}
-use Rattle.naming_list_rules.specs.Naming.{Namer, namer, namingList, sampleSize, placeSize, listBytes, names, namesCall, entrySize}
+use Rattle.numbers.specs.Places.{placeSize}
+use Rattle.naming_list_rules.specs.Naming.{Namer, namer, namingList, sampleSize, listBytes, names, namesCall, entrySize}
 use Rattle.naming_list_rules.specs.Rules.{Names, Before, timesListed, Unlisted, Kept, DifferentTracks, Reader, namesBy, resolveBy, Lists, NamesRefuses, SameAnswer}
 use Rattle.naming_list_rules.proofs.Listing as listing
 use Rattle.naming_list_rules.proofs.Others as others

@@ -15,6 +15,7 @@ use Rattle.words.specs.Refusals.{Answer, ok, _andThen_, _atPlace_}
 use Rattle.words.specs.Lists.{keep, each, upto}
 use Rattle.words.specs.Bytes.{bytes}
 use Rattle.words.specs.Buffers.{within}
+use Rattle.numbers.specs.Places.{placeSize}
 use Rattle.units.specs.Aggregators.{extractors}
 use Rattle.samples.specs.Check.{wellFormed}
 use Rattle.bundles.specs.Recordings.{Recording, sampleCount}
@@ -45,9 +46,6 @@ module _ (r : Recording) (s : ℕ) where
 -- 6 bytes an extractor: sample number, place
 abbrev pub sampleSize : ℕ
 sampleSize = 2
-
-abbrev pub placeSize : ℕ
-placeSize = 4
 
 abbrev pub entrySize : ℕ
 entrySize = sampleSize + placeSize

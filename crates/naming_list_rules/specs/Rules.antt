@@ -26,7 +26,8 @@ use Rattle.samples.specs.Check.{check}
 use Rattle.bundles.specs.Recordings.{Layout, Reference, Recording, sampleCount, contentOf, replaced}
 use Rattle.resolution_rules.specs.Resolving.{sampleOf, named, nameFaultAt, delivered, judged}
 use Rattle.resolution_rules.specs.Calls.{output, onBundle, resolve}
-use Rattle.naming_list_rules.specs.Naming.{Namer, namer, namingList, sampleSize, placeSize, entrySize, listBytes, names}
+use Rattle.numbers.specs.Places.{placeSize}
+use Rattle.naming_list_rules.specs.Naming.{Namer, namer, namingList, sampleSize, entrySize, listBytes, names}
 
 -- Whatever 25 to 28 say, and whatever the other extractors of its sample are.
 pub record Names (r : Recording) (s n p : ℕ) : Type 0 where

@@ -42,7 +42,8 @@ use Rattle.resolution_rules.specs.Resolving.{Span, own, delivered, judged}
 use Rattle.resolution_rules.specs.Calls.{resolveCall, unitCall, placeCall}
 use Rattle.resolution_rules.specs.Rules.{Good, Delivers}
 use Rattle.resolution_rules.proofs.Promises as resolving
-use Rattle.naming_list_rules.specs.Naming.{Namer, namer, namingList, sampleSize, placeSize, entrySize, listBytes, namesCall}
+use Rattle.numbers.specs.Places.{placeSize}
+use Rattle.naming_list_rules.specs.Naming.{Namer, namer, namingList, sampleSize, entrySize, listBytes, namesCall}
 use Rattle.naming_list_rules.specs.Rules.{Names, Before, timesListed, Unlisted, SameAnswer}
 use Rattle.naming_list_rules.proofs.Promises as naming
 use Rattle.tally.specs.declared.Outcome.the-variants.{Passed, Empty}

@@ -144,5 +144,13 @@ unfolding bundle slice extractor bench bytes
 bench-bytes = refl
 
 marked : map (λ row. row .answer) table ≡ map (λ row. row .expected) table
-unfolding table gives passes refuses fails recordVerdict bundle slice extractor including covering resolved second first firstOf keep some nth lastThat each upto sum entries skip big bytes cuts setFault byteFault trailerFault headFault sequencesEnd picturesEnd recordFault readAs readRecord size type unitFault placesFrom topUnits border topBetween coverFault includedFault withIncluded units extractors contentVerdict check countFault referencesFrom samplesIn sizeAt trackFault tracksVerdict tracks referencesAt noSuchTrack referenceFault referencesVerdict references samplesAt orderFault entryFault samplesVerdict sampleEntries lengths bytesAt endFault bytesVerdict bundleVerdict layoutOf recordingOf meaning linkFault linkedTrack base sampleNamed nameFault among copyEnd copied borderFault copyFault sampleOf named nameFaultAt copyFaultAt extractFault copiedAt deliveredAt delivered judged written output numberFault resolve resolveCall namersIn namingList listBytes names namesCall lineBytes lineOf lines auditCall
+unfolding table gives passes refuses fails recordVerdict bundle slice extractor including covering resolved second first firstOf
+    keep some nth lastThat each upto sum entries skip big bytes cuts setFault byteFault trailerFault headFault sequencesEnd
+    picturesEnd recordFault readAs readRecord size type unitFault placesFrom topUnits border topBetween coverFault
+    includedFault withIncluded units extractors contentVerdict check countFault referencesFrom samplesIn sizeAt trackFault
+    tracksVerdict tracks referencesAt noSuchTrack referenceFault referencesVerdict references samplesAt orderFault
+    entryFault samplesVerdict sampleEntries lengths bytesAt endFault bytesVerdict bundleVerdict layoutOf recordingOf meaning
+    linkFault linkedTrack base sampleNamed nameFault among copyEnd copied borderFault copyFault sampleOf named nameFaultAt
+    copyFaultAt extractFault copiedAt deliveredAt delivered judged written output numberFault resolve resolveCall namersIn
+    namingList listBytes names namesCall lineBytes lineOf lines auditCall
 marked = refl
