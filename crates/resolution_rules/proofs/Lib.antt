@@ -8,6 +8,8 @@
 --   Calls      what the calls answer
 --   Sizes      how much a good sample delivers, at most
 --   Extracted  what the function on two samples gives
+--   Readers    the reader of the first layout is sound
+--   Bridges    refusal numbers of the crates below by set
 pub mod Promises
 pub mod Delivered
 pub mod Good
@@ -16,3 +18,5 @@ pub mod Once
 pub mod Calls
 pub mod Sizes
 pub mod Extracted
+pub mod Readers
+pub mod Bridges

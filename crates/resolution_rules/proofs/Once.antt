@@ -5,17 +5,16 @@
 --   unit-once          a unit that is neither an aggregator nor an extractor is delivered once
 --   covered-once       also one that an aggregator covers by reference
 --   included-once      also one that an aggregator includes
---   bundle-apart       in an accepted bundle no extractor names its own sample
+--   different-apart    where references join different tracks no extractor of a good sample names its own sample
 use Prim.Native.Nat.{ℕ, _+_, _<_}
 use mathlib.Core.Path.{_≡_, refl, ap, sym, _∙_}
-use mathlib.Core.List.{List, [], _∷_, _++_, map, List·Memᴰ, Memᴰ·of-map}
+use mathlib.Core.List.{[], _∷_, _++_, map, List·Memᴰ, Memᴰ·of-map}
 use mathlib.Core.Bool.{Bool, true, false, not, _&&_}
 use native.Mathlib.Omega.{arith}
 use borrow.Author.Tests.{eq-eqb, ne-eqb, eqb-true, eqb-false, leb-true, ltb-true}
 use lib.Dec.{eqb}
 use lib.ListN.{length}
 use Rattle.words.specs.Tests.{pick, _<?_, _≡?_}
-use Rattle.words.specs.Refusals.{ok}
 use Rattle.words.specs.Lists.{keep, each}
 use Rattle.words.proofs.Tests.{by-bool, and-both}
 use Rattle.words.proofs.Lists.{each-append, each-cong, keep-mem, keep-from, keep-nothing, keep-cong, rising-keep}
@@ -25,12 +24,11 @@ use Rattle.units.specs.Aggregators.{coverEnd, included, units}
 use Rattle.units.proofs.Walks.{units-rise, units-top, units-included}
 use Rattle.samples.proofs.Laws.{covered-clear, included-inside}
 use Rattle.bundles.specs.Recordings.{Recording, trackOf}
-use Rattle.bundles.specs.Bundles.{meaning}
-use Rattle.bundles.proofs.Promises.{references-join}
 use Rattle.links.proofs.Links.{in-track, link-good, linked-reference}
 use Rattle.copies.specs.Copies.{copied}
 use Rattle.words.proofs.Kept.{keep-each, each-keep, keep-yes}
 use Rattle.resolution_rules.specs.Resolving.{Span, spanOf, spansOf, own, named, linked, copiedAt, deliveredAt, delivered}
+use Rattle.resolution_rules.specs.Readers.{DifferentTracks}
 use Rattle.resolution_rules.specs.Rules.{Good, Apart, timesDelivered}
 use Rattle.words.proofs.Joined.{keep-and, each-single, map-keep, keep-one, rising-cut}
 use Rattle.resolution_rules.proofs.Delivered.{delivered-unit, delivered-aggregator, delivered-extractor}
@@ -99,10 +97,10 @@ module _ (r : Recording) (n : ℕ) where
     pub included-once : (q : ℕ) → List·Memᴰ q (included (own r n) p) → isExtractor (own r n) q ≡ false → timesDelivered r n q ≡ 1
     included-once q k e = unit-once h q (units-included (own r n) p q m t k) (included-inside (own r n) (g .formed) p m t q k .2) e
 
-pub bundle-apart : (b : List ℕ) (r : Recording) → meaning b ≡ ok r → (n : ℕ) → Good r n → Apart r n
-bundle-apart b r e n g p m z =
+pub different-apart : (r : Recording) → DifferentTracks (r .layout) → (n : ℕ) → Good r n → Apart r n
+different-apart r different n g p m z =
     let x = g .extracts p m in
     let i = x .index in
     let k = linked-reference (r .layout) n (trackRefIndex (own r n) p) (link-good (r .layout) n (trackRefIndex (own r n) p) (i .0) (i .1)) in
     let t = in-track (r .layout) n _ _ (x .there) in
-    references-join b r e (k .there) .apart (k .from ∙ ap (trackOf (r .layout)) (sym z) ∙ t .2 ∙ sym (k .to))
+    different (k .reference) (k .there) (k .from ∙ ap (trackOf (r .layout)) (sym z) ∙ t .2 ∙ sym (k .to))

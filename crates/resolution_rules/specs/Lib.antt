@@ -3,6 +3,8 @@
 --   Resolving   what a sample of a recording delivers, refusals 14 to 28
 --   Calls       what the calls on a bundle answer, refusals 1 to 30
 --   Rules       the same in plain facts, in which the promises are stated
+--   Readers     what is proved of a reader of bundles
 pub mod Resolving
 pub mod Calls
 pub mod Rules
+pub mod Readers
