@@ -1,8 +1,9 @@
--- What is read back from the lines of an accepted bundle: no number is cut by its width. Assumes nothing.
+-- What is read back from the lines: no number is cut by its width, where samples are no longer than the longest bundle, as in every bundle
+-- that a sound reader accepts. Assumes nothing.
 --
 --   read-at                     a number that was written is read back where it stands
 --   line-reads                  the three numbers of a line
---   content-few, units-few      bytes and delivered units of a sample of an accepted bundle, at most
+--   units-few                   delivered units of a sample, at most
 --   sample-line                 what stands in the line of a sample
 --   outcome-by-line             so the line and the sample's length give the outcome
 --   line-per-sample             for all lines
@@ -19,11 +20,9 @@ use Rattle.words.specs.Bytes.{big, bytes}
 use Rattle.words.proofs.Bytes.{bytes-length, big-bytes, big-inside}
 use Rattle.bundles.specs.Limits.{bundleMost}
 use Rattle.bundles.specs.Recordings.{Recording, contentOf}
-use Rattle.bundles.specs.Bundles.{meaning}
-use Rattle.bundles.proofs.Promises.{limits-kept}
 use Rattle.resolution_rules.specs.Resolving.{judged, delivered}
 use Rattle.resolution_rules.proofs.Good.{good-rules, judged-refused}
-use Rattle.resolution_rules.proofs.Sizes.{delivered-count, content-most}
+use Rattle.resolution_rules.proofs.Sizes.{delivered-count}
 use Rattle.tally.specs.declared.Outcome.{Outcome}
 use Rattle.numbers.specs.Places.{placeSize}
 use Rattle.audit_rules.specs.Auditing.{refusalSize, unitsSize, outcomeOf, lineOf, lines}
@@ -56,10 +55,8 @@ line-reads m p units h k l =
       units = read-at _ (refusalSize + placeSize) unitsSize units [] (drop-at (a ++ b) c (refusalSize + placeSize) front ∙ sym (append-nil c)) l;
     }
 
-module _ (b : List ℕ) (r : Recording) (accepted : meaning b ≡ ok r) where
-  pub content-few : (n : ℕ) → length (contentOf r n) ≤ bundleMost
-  content-few n = let c = content-most b r accepted n in let l = limits-kept b r accepted .bytes in omega arith
-
+-- samples of at most so many bytes as a sound reader lets them have
+module _ (r : Recording) (content-few : (n : ℕ) → length (contentOf r n) ≤ bundleMost) where
   pub units-few : (n : ℕ) → judged r n ≡ ok tt → length (delivered r n) ≤ bundleMost * bundleMost
   units-few n j = delivered-count r n (good-rules r n j) bundleMost content-few
 

@@ -18,7 +18,7 @@ use Rattle.words.specs.RefusalNumbers.{outputTooLong}
 use Rattle.words.specs.Lists.{keep, upto}
 use Rattle.words.specs.Bytes.{big, part}
 use Rattle.bundles.specs.Recordings.{Recording, sampleCount, contentOf}
-use Rattle.bundles.specs.Bundles.{bundleVerdict, meaning}
+use Rattle.bundles.specs.Readers.{Reader}
 use Rattle.resolution_rules.specs.Resolving.{delivered, judged}
 use Rattle.resolution_rules.specs.Rules.{JudgedRefusal}
 use Rattle.tally.specs.Tallies.{isPassed, isEmpty, isRefused}
@@ -63,19 +63,19 @@ module _ (r : Recording) where
     pub all : t .passed + t .empty + t .refused ≡ sampleCount (r .layout)
 
 -- the call on the bundle b with room for the lines: 1 to 13, then 29
-module _ (b : List ℕ) (room : ℕ) where
+module _ (reader : Reader) (b : List ℕ) (room : ℕ) where
   pub data AuditRefuses : ℕ → ℕ → Type 0 where
-    bundle : {m p : ℕ} → bundleVerdict b ≡ refused m p → AuditRefuses m p
-    tooLong : (r : Recording) → meaning b ≡ ok r → room < lineSize * sampleCount (r .layout) → AuditRefuses outputTooLong 0
+    bundle : {m p : ℕ} → reader .means b ≡ refused m p → AuditRefuses m p
+    tooLong : (r : Recording) → reader .means b ≡ ok r → room < lineSize * sampleCount (r .layout) → AuditRefuses outputTooLong 0
 
   pub record Audits (out : List ℕ) : Type 0 where
     pub recording : Recording
-    pub means : meaning b ≡ ok recording
+    pub means : reader .means b ≡ ok recording
     pub fits : lineSize * sampleCount (recording .layout) ≤ room
     pub writes : out ≡ lines recording
 
   pub record Tallies (t : Tally) : Type 0 where
     pub recording : Recording
-    pub means : meaning b ≡ ok recording
+    pub means : reader .means b ≡ ok recording
     pub fits : lineSize * sampleCount (recording .layout) ≤ room
     pub counts : t ≡ tally recording
