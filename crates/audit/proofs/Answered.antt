@@ -14,14 +14,14 @@ use Rattle.words.specs.Refusals.{refused, ok}
 use Rattle.words.specs.Buffers.{within}
 use Rattle.words.proofs.Buffers.{within-room, within-not}
 use Rattle.bundles.specs.Recordings.{Recording, sampleCount}
-use Rattle.bundles.specs.Bundles.{meaning}
+use Rattle.bundles.specs.Readers.{firstLayout}
 use Rattle.tables.specs.Tables.{layoutIn, recordingIn}
 use Rattle.filling.specs.Filling.{filling, tableAfter}
 use Rattle.filling.specs.declared.Filled.the-variants.{Done}
 use Rattle.filling.proofs.Promises.{table-accepted, table-means}
 use Rattle.audit_rules.specs.Auditing.{lineSize, lines, tally, auditCall, tallyCall, tallyWithin}
 use Rattle.audit_rules.proofs.Lines.{lines-length}
-use Rattle.audit_rules.proofs.Calls.{audit-means}
+use Rattle.audit_rules.proofs.Calls.{audit-means, tally-means}
 
 pub count-in-table : (b t : List ℕ) {count : ℕ} → count ≡ sampleCount (layoutIn t) → count ≡ sampleCount (recordingIn b t .layout)
 unfolding recordingIn
@@ -40,14 +40,10 @@ module _ (r : Recording) (room : ℕ) where
   pub tally-fits : lineSize * sampleCount (r .layout) ≤ room → tallyWithin r room ≡ ok (tally r)
   tally-fits h = rw (lines-length r, le-ltb room (lineSize * sampleCount (r .layout)) h)
 
-tally-means : (b : List ℕ) (room : ℕ) {r : Recording} → meaning b ≡ ok r → tallyCall b room ≡ tallyWithin r room
-unfolding tallyCall
-tally-means b room e = rw e
-
 -- a table that was filled: whatever is said by the table that is left
 module _ (b t : List ℕ) (done : filling b (length t) ≡ Done) {s : List ℕ} (f : s ≡ tableAfter b t) (room : ℕ) where
-  pub lines-filled : within room (ok (lines (recordingIn b s))) ≡ auditCall b room
-  lines-filled = rw (f, table-means b t done) (sym (audit-means b room (table-accepted b t done)))
+  pub lines-filled : within room (ok (lines (recordingIn b s))) ≡ auditCall firstLayout b room
+  lines-filled = rw (f, table-means b t done) (sym (audit-means firstLayout b room (table-accepted b t done)))
 
-  pub tally-filled : tallyWithin (recordingIn b s) room ≡ tallyCall b room
-  tally-filled = rw (f, table-means b t done) (sym (tally-means b room (table-accepted b t done)))
+  pub tally-filled : tallyWithin (recordingIn b s) room ≡ tallyCall firstLayout b room
+  tally-filled = rw (f, table-means b t done) (sym (tally-means firstLayout b room (table-accepted b t done)))

@@ -1,5 +1,5 @@
--- What is promised of the lines that an audit left, as `line_of` reads them. `out` starts with the lines of the recording r that an accepted bundle b
--- means: it is the buffer after the call, or any part of it with all lines. `lineRead out r n` is what `line_of` answers for sample n with its length.
+-- What is promised of the lines that an audit left, as `line_of` reads them. `out` starts with the lines of the recording r that a bundle b means, which
+-- a sound reader accepts: it is the buffer after the call, or any part of it with all lines. `lineRead out r n` is what `line_of` answers for sample n with its length.
 -- Assumes nothing.
 --
 --   line-holds               what line n says of sample n holds of it
@@ -23,8 +23,9 @@ use Rattle.words.proofs.Tests.{by-number}
 use Rattle.words.proofs.Refusals.{ok-refused, ok-same}
 use Rattle.numbers.specs.declared.Refusal.{Refusal}
 use Rattle.bundles.specs.Recordings.{Recording, sampleCount, contentOf}
-use Rattle.bundles.specs.Bundles.{meaning}
+use Rattle.bundles.specs.Readers.{Reader}
 use Rattle.resolution_rules.specs.Resolving.{delivered, judged}
+use Rattle.resolution_rules.specs.Readers.{Sound}
 use Rattle.tally.specs.declared.Outcome.{Outcome}
 use Rattle.audit_rules.specs.Auditing.{lineSize, lines, auditCall}
 use Rattle.audit_rules.specs.Rules.{lineAt, SampleLine}
@@ -115,48 +116,51 @@ module _ (r : Recording) (n : ℕ) where
   refused-from l (LineHolds.bad g j) f e = j ∙ ap (λ (x : Refusal). refused (x .number) (x .place .0)) (refused-same e)
 
 -- a sample of an accepted bundle, and what starts with the lines of all
-module _ (b : List ℕ) (r : Recording) (accepted : meaning b ≡ ok r) (out : List ℕ) (starts : take (length (lines r)) out ≡ lines r) (n : ℕ) (some : 0 < n) (there : n ≤ sampleCount (r .layout)) where
-  line-there : lineThere out n ≡ lineAt (lines r) n
-  line-there =
-      let l = lines-length r in
-      let m : length (take (length (lines r)) out) ≡ length (lines r) = ap length starts in
-      let k = length-take (length (lines r)) out in
-      let s : out ≡ lines r ++ drop (length (lines r)) out = sym (take-append-drop (length (lines r)) out) ∙ ap (λ (x : List ℕ). x ++ drop (length (lines r)) out) starts in
-      there-is out n (λ z. absurd (omega arith)) (omega arith)
-      ∙ ap (λ (x : List ℕ). lineAt x n) s
-      ∙ part-front (lines r) (drop (length (lines r)) out) (lineSize * (n - 1)) lineSize (omega arith)
+module _
+    (reader : Reader) (sound : Sound reader) (b : List ℕ) (r : Recording) (accepted : reader .means b ≡ ok r) (out : List ℕ)
+    (starts : take (length (lines r)) out ≡ lines r) (n : ℕ) (some : 0 < n) (there : n ≤ sampleCount (r .layout))
+  where
+    line-there : lineThere out n ≡ lineAt (lines r) n
+    line-there =
+        let l = lines-length r in
+        let m : length (take (length (lines r)) out) ≡ length (lines r) = ap length starts in
+        let k = length-take (length (lines r)) out in
+        let s : out ≡ lines r ++ drop (length (lines r)) out = sym (take-append-drop (length (lines r)) out) ∙ ap (λ (x : List ℕ). x ++ drop (length (lines r)) out) starts in
+        there-is out n (λ z. absurd (omega arith)) (omega arith)
+        ∙ ap (λ (x : List ℕ). lineAt x n) s
+        ∙ part-front (lines r) (drop (length (lines r)) out) (lineSize * (n - 1)) lineSize (omega arith)
 
-  pub line-holds : LineHolds r n (lineRead out r n)
-  line-holds = rw line-there (says r n (lineAt (lines r) n) (every-sample-one-line b r accepted (lineSize * sampleCount (r .layout)) (omega arith) .1 .line n some there))
+    pub line-holds : LineHolds r n (lineRead out r n)
+    line-holds = rw line-there (says r n (lineAt (lines r) n) (every-sample-one-line reader sound b r accepted (lineSize * sampleCount (r .layout)) (omega arith) .1 .line n some there))
 
-  pub line-passed-exactly :
-      ((k : ℕ) → lineRead out r n ≡ Passed k → (0 < length (contentOf r n)) × (judged r n ≡ ok tt) × (k ≡ length (delivered r n)))
-      × ((0 < length (contentOf r n)) × (judged r n ≡ ok tt) → lineRead out r n ≡ Passed (length (delivered r n)))
-  line-passed-exactly = (λ k e. passed-from r n (lineRead out r n) line-holds e, λ w. reads-passed r n (lineRead out r n) line-holds (w .0) (w .1))
+    pub line-passed-exactly :
+        ((k : ℕ) → lineRead out r n ≡ Passed k → (0 < length (contentOf r n)) × (judged r n ≡ ok tt) × (k ≡ length (delivered r n)))
+        × ((0 < length (contentOf r n)) × (judged r n ≡ ok tt) → lineRead out r n ≡ Passed (length (delivered r n)))
+    line-passed-exactly = (λ k e. passed-from r n (lineRead out r n) line-holds e, λ w. reads-passed r n (lineRead out r n) line-holds (w .0) (w .1))
 
-  pub line-empty-exactly : (lineRead out r n ≡ Empty → length (contentOf r n) ≡ 0) × (length (contentOf r n) ≡ 0 → lineRead out r n ≡ Empty)
-  line-empty-exactly = (empty-from r n (lineRead out r n) line-holds, reads-empty r n (lineRead out r n) line-holds)
+    pub line-empty-exactly : (lineRead out r n ≡ Empty → length (contentOf r n) ≡ 0) × (length (contentOf r n) ≡ 0 → lineRead out r n ≡ Empty)
+    line-empty-exactly = (empty-from r n (lineRead out r n) line-holds, reads-empty r n (lineRead out r n) line-holds)
 
-  pub line-refused-exactly : (f : Refusal)
-      → (lineRead out r n ≡ Refused f → judged r n ≡ refused (f .number) (f .place .0))
-      × (judged r n ≡ refused (f .number) (f .place .0) → lineRead out r n ≡ Refused f)
-  line-refused-exactly f = (refused-from r n (lineRead out r n) line-holds f, reads-refused r n (lineRead out r n) line-holds f)
+    pub line-refused-exactly : (f : Refusal)
+        → (lineRead out r n ≡ Refused f → judged r n ≡ refused (f .number) (f .place .0))
+        × (judged r n ≡ refused (f .number) (f .place .0) → lineRead out r n ≡ Refused f)
+    line-refused-exactly f = (refused-from r n (lineRead out r n) line-holds f, reads-refused r n (lineRead out r n) line-holds f)
 
 -- the buffer after a call that answered
 overwrite-front : (o o' out s : List ℕ) → o' ≡ overwrite o out → out ≡ s → take (length s) o' ≡ s
 unfolding overwrite
 overwrite-front o o' out s e f = rw (e, f) (take-at s (drop (length s) o) (length s) refl)
 
-module _ (b o o' : List ℕ) (count : ℕ) where
-  left-by : (a : Answer (List ℕ)) → auditCall b (length o) ≡ a → Wrote o o' (ok count) a → (r : Recording) × (meaning b ≡ ok r) × (count ≡ length (lines r)) × (take (length (lines r)) o' ≡ lines r)
+module _ (reader : Reader) (b o o' : List ℕ) (count : ℕ) where
+  left-by : (a : Answer (List ℕ)) → auditCall reader b (length o) ≡ a → Wrote o o' (ok count) a → (r : Recording) × (reader .means b ≡ ok r) × (count ≡ length (lines r)) × (take (length (lines r)) o' ≡ lines r)
   left-by (refused m p) e w = ok-refused (sym (w .answer))
   left-by (ok out) e w =
-      let x = audited-exactly b (length o) out .0 e in
+      let x = audited-exactly reader b (length o) out .0 e in
       let s : out ≡ lines (x .recording) = x .writes in
       (x .recording, x .means, ok-same (w .answer) ∙ ap length s, overwrite-front o o' out (lines (x .recording)) (w .buffer) s)
 
-  pub audit-left : Wrote o o' (ok count) (auditCall b (length o)) → (r : Recording) × (meaning b ≡ ok r) × (count ≡ length (lines r)) × (take (length (lines r)) o' ≡ lines r)
-  audit-left = left-by (auditCall b (length o)) refl
+  pub audit-left : Wrote o o' (ok count) (auditCall reader b (length o)) → (r : Recording) × (reader .means b ≡ ok r) × (count ≡ length (lines r)) × (take (length (lines r)) o' ≡ lines r)
+  audit-left = left-by (auditCall reader b (length o)) refl
 
 -- a line that is not there
 pub no-line : (out : List ℕ) (n size : ℕ) → (n ≡ 0) ⊎ (length out < lineSize * n) → lineSays (lineThere out n) size ≡ Refused (record { number = noSuchNumber; place = record { 0 = 0 } })

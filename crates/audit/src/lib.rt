@@ -8,6 +8,7 @@ ghost use Rattle.words.specs.Bytes.{bytes};
 ghost use Rattle.words.specs.Buffers.{put, overwrite, within, Wrote};
 ghost use Rattle.bundles.specs.Limits.{bundleMost};
 ghost use Rattle.bundles.specs.Recordings.{sampleCount};
+ghost use Rattle.bundles.specs.Readers.{firstLayout};
 ghost use Rattle.tables.specs.Tables.{recordingIn};
 ghost use Rattle.tally.specs.Tallies.{raisedBy};
 ghost use Rattle.numbers.specs.Places.{placeSize};
@@ -148,8 +149,8 @@ fn audit_accepted(b: &[u8], t: &[u64], out: &mut [u8]) -> Audited
 // A bundle audited: 1 to 13, 29; or a line a sample over the start of the buffer, how many bytes that is, and the tally. After a refusal
 // the buffer is as it was.
 pub fn audit(b: &[u8], lines: &mut [u8]) -> Audited
-    ensures { λ r. ⌜ Wrote (now (lines .entry)) (now (lines .exit)) (linesAnswer r) (auditCall (now (b .entry)) (length (now (lines .entry))))
-        × (tallyAnswer r ≡ tallyCall (now (b .entry)) (length (now (lines .entry)))) ⌝ }
+    ensures { λ r. ⌜ Wrote (now (lines .entry)) (now (lines .exit)) (linesAnswer r) (auditCall firstLayout (now (b .entry)) (length (now (lines .entry))))
+        × (tallyAnswer r ≡ tallyCall firstLayout (now (b .entry)) (length (now (lines .entry)))) ⌝ }
 {
     let mut t = [0u64; tables::TABLE_SIZE];
     let filled = filling::fill_table(b, &mut t);

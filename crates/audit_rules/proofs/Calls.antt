@@ -1,7 +1,7 @@
 -- What the call on a bundle answers, by any reader: the lines and the tally, refused alike. Assumes nothing.
 --
 --   audit-bundle, tally-bundle          1 to 13
---   audit-means                         else by the recording, with 29
+--   audit-means, tally-means            else by the recording, with 29
 --   audit-refuses, tally-refuses        refused
 --   audits, tallies                     answered
 --   answered                            one of the two holds
@@ -22,7 +22,7 @@ use Rattle.words.proofs.Buffers.{within-room, within-not}
 use Rattle.bundles.specs.Recordings.{Recording, sampleCount}
 use Rattle.bundles.specs.Readers.{Reader}
 use Rattle.tally.specs.declared.Tally.{Tally}
-use Rattle.audit_rules.specs.Auditing.{lineSize, lines, tally, auditCall, tallyCall}
+use Rattle.audit_rules.specs.Auditing.{lineSize, lines, tally, tallyWithin, auditCall, tallyCall}
 use Rattle.audit_rules.specs.Rules.{AuditRefuses, Audits, Tallies}
 use Rattle.audit_rules.proofs.Lines.{lines-length}
 
@@ -38,6 +38,10 @@ module _ (reader : Reader) (b : List ℕ) (room : ℕ) where
   pub audit-means : {r : Recording} → reader .means b ≡ ok r → auditCall reader b room ≡ within room (ok (lines r))
   unfolding auditCall
   audit-means e = rw e
+
+  pub tally-means : {r : Recording} → reader .means b ≡ ok r → tallyCall reader b room ≡ tallyWithin r room
+  unfolding tallyCall
+  tally-means e = rw e
 
   pub audit-refuses : {m p : ℕ} → AuditRefuses reader b room m p → auditCall reader b room ≡ refused m p
   audit-refuses (AuditRefuses.bundle e) = audit-bundle e

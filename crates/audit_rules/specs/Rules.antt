@@ -54,7 +54,9 @@ module _ (r : Recording) where
   pub record LinePerSample (out : List ℕ) : Type 0 where
     pub size : length out ≡ lineSize * sampleCount (r .layout)
     pub line : (n : ℕ) → 0 < n → n ≤ sampleCount (r .layout) → SampleLine n (lineAt out n) (outcomeOf r n)
-    pub outcome : (n : ℕ) → 0 < n → n ≤ sampleCount (r .layout) → outcomeByLine (lineAt out n) (length (contentOf r n)) ≡ outcomeOf r n
+    pub outcome :
+        (n : ℕ) → 0 < n → n ≤ sampleCount (r .layout) →
+        outcomeByLine (lineAt out n) (length (contentOf r n)) ≡ outcomeOf r n
 
   pub record Counts (t : Tally) : Type 0 where
     pub passed : t .passed ≡ length (keep (λ n. isPassed (outcomeOf r n)) (upto (sampleCount (r .layout))))

@@ -2,7 +2,7 @@
 --
 --   names-number, names-there      the call on a recording
 --   names-kept                     the bytes of the sample asked for do not matter
---   names-means                    the call on an accepted bundle
+--   names-means, names-bundle      the call on an accepted bundle, and on one that is refused
 --   lists, lists-because, refuses, refuses-because     the naming call answers, or is refused, exactly if ..
 --   refuses-with                   30 or 29, at 0, or the bundle's own refusal
 --   same-answer                    calls with the same answer
@@ -51,9 +51,9 @@ module _ (reader : Reader) (b : List ℕ) where
   unfolding namesCall
   names-means s room e = rw e
 
-  names-not : {m p : ℕ} (s room : ℕ) → reader .means b ≡ refused m p → namesCall reader b s room ≡ refused m p
+  pub names-bundle : {m p : ℕ} (s room : ℕ) → reader .means b ≡ refused m p → namesCall reader b s room ≡ refused m p
   unfolding namesCall
-  names-not s room e = rw e
+  names-bundle s room e = rw e
 
   module _ (s room : ℕ) where
     pub lists : {out : List ℕ} → NamesAnswers reader b s room out → namesCall reader b s room ≡ ok out
@@ -61,7 +61,7 @@ module _ (reader : Reader) (b : List ℕ) where
         names-means s room (w .means) ∙ ap (within room) (names-there (w .recording) s (w .some) (w .there) ∙ ap ok (sym (w .lists))) ∙ within-room room out (w .fits)
 
     pub refuses : {m p : ℕ} → NamesRefuses reader b s room m p → namesCall reader b s room ≡ refused m p
-    refuses (NamesRefuses.bundle e) = names-not s room e
+    refuses (NamesRefuses.bundle e) = names-bundle s room e
     refuses (NamesRefuses.number r e h) = names-means s room e ∙ ap (within room) (names-number r s h)
     refuses (NamesRefuses.tooLong r e h l w) =
         let z = list-size (namingList r s) in

@@ -46,7 +46,7 @@ loop-again : tie.Need-loop-again Inv-loop μ-loop
 loop-again c = rw (c .before .before .set-flag .ensures) (counting-more _ _ _ _ _ _ (c .before .before .before .before .before .before .before .loop .inv) (next (c .before .before .before .before .before .before) .0) (c .before .before .before .before .before .before .before .before .before .before .before .before .pre .0) (c .before .before .before .before .count-in .ensures) (c .before .before .before .before .before .before .before .before .before .before .before .before .pre .1))
 
 same-length : tie.Need-same-length Inv-loop μ-loop
-same-length c = c .before .loop .inv .long
+same-length c = c .before .loop .inv .equal-length
 
 returns : tie.Need-returns Inv-loop μ-loop
 returns c = counting-end _ _ _ _ _ _ (c .before .loop .inv) (rw (c .before .before .sample-count .ensures) at (c .loop-test .left))
