@@ -16,14 +16,13 @@ use native.Mathlib.Omega.{arith}
 use borrow.Author.Tests.{ne-eqb}
 use lib.Dec.{leb, eqb·suc-zero}
 use lib.ListN.{length, length-map, length-take, length-drop}
-use Rattle.words.specs.Tests.{_≤?_}
 use Rattle.words.specs.Refusals.{ok, _atPlace_}
 use Rattle.words.specs.Lists.{nth, sum, upto}
 use Rattle.words.proofs.Tests.{by-bool, by-number}
 use Rattle.words.proofs.Refusals.{orElse-none}
 use Rattle.words.proofs.Lists.{nth-mem}
 use Rattle.numbers.proofs.Laws.{L-some}
-use Rattle.units.specs.Units.{Sample, sample, end, size, isAggregator, isExtractor}
+use Rattle.units.specs.Units.{Sample, sample, size, isAggregator, isExtractor}
 use Rattle.units.specs.Extractors.{trackRefIndex, sampleOffset, dataOffset, dataLength}
 use Rattle.units.specs.Aggregators.{units}
 use Rattle.units.specs.Steps.{extractorOf}
@@ -35,11 +34,11 @@ use Rattle.bundles.specs.Recordings.{Recording, contentOf}
 use Rattle.tables.specs.Tables.{inside, contentIn, sampleTotal, layoutIn, recordingIn}
 use Rattle.links.specs.Links.{sampleNamed, nameFault}
 use Rattle.links.proofs.Words.{nth-zero, nth-over}
-use Rattle.copies.specs.Copies.{copied, copyFault}
+use Rattle.copies.specs.Copies.{copied}
 use Rattle.copies.specs.Written.{refusal, taken, copyOf}
 use Rattle.copies.specs.declared.Copy.{Copy}
 use Rattle.copies.proofs.Answers.{fault-of}
-use Rattle.resolution_rules.specs.Resolving.{sampleOf, Span, spanOf, spansOf, own, named, linked, nameFaultAt, copyFaultAt, extractFault, copiedAt, deliveredAt}
+use Rattle.resolution_rules.specs.Resolving.{sampleOf, spanOf, spansOf, own, named, linked, nameFaultAt, copyFaultAt, extractFault, copiedAt, deliveredAt}
 use Rattle.judging.specs.Steps.{trackFor, extracting, amountAt}
 use Rattle.resolution_rules.proofs.Delivered.{delivered-unit, delivered-extractor, unitJudge, unit-judge, unit-passes, outputSize, size-one}
 use Rattle.resolution_rules.proofs.Good.{own-length, extract-rules}

@@ -1,6 +1,6 @@
 -- A walk over all units of sample n, which is x: what is delivered for them, and their refusals. Assumes nothing.
 --
---   left, left-end, left-skip, left-take        what is delivered from p on
+--   remaining, remaining-end, remaining-skip, remaining-take    what is delivered from p on
 --   Passing, passing-start, -skip, -take, -amounts    a walk that has come to p
 --   judgement-form                             a sample that is not well formed
 --   Judging, judging-start, -skip, -fits, -few, -refused, -take, -end    a loop that judges and counts
@@ -10,18 +10,17 @@ use mathlib.Core.List.{List, [], _∷_, _++_, List·Memᴰ, List·Memᴰ·head, 
 use mathlib.Core.Bool.{true, false}
 use native.Mathlib.Omega.{arith}
 use lib.ListN.{length, length-append}
-use Rattle.words.specs.Refusals.{refused, ok, Verdict, _andThen_, first}
+use Rattle.words.specs.Refusals.{refused, ok, first}
 use Rattle.words.specs.Lists.{each}
 use Rattle.words.proofs.Refusals.{at-none, at-refused}
 use Rattle.numbers.proofs.Laws.{L-some}
 use Rattle.units.specs.Units.{Sample, end, next, isAggregator}
 use Rattle.units.specs.Aggregators.{includedStart, units}
-use Rattle.units.specs.Rules.{Whole}
 use Rattle.samples.specs.Check.{check}
 use Rattle.bundles.specs.Recordings.{Recording, contentOf}
-use Rattle.copies.specs.Flat.{flatStep, flatPlaces}
+use Rattle.copies.specs.Flat.{flatPlaces}
 use Rattle.copies.specs.declared.Copy.{Copy}
-use Rattle.copies.proofs.Flat.{flat-aggregator, flat-other, flat-end, flat-step, whole-stretch, flat-units, Walking, walking-start, walking-whole}
+use Rattle.copies.proofs.Flat.{flat-aggregator, flat-other, flat-end, flat-step, whole-stretch, flat-units, Walking, walking-start}
 use Rattle.copies.proofs.Rest.{walking-skip, walking-take}
 use Rattle.bundles.specs.Limits.{bundleMost}
 use Rattle.resolution_rules.specs.Resolving.{Span, own, deliveredAt, delivered, judged}
@@ -37,8 +36,8 @@ module _ (r : Recording) (n : ℕ) (x : Sample) where
   abbrev pub ahead : ℕ → List ℕ
   ahead p = flatPlaces x p (end x)
 
-  abbrev pub left : ℕ → List Span
-  left p = each (deliveredAt r n) (ahead p)
+  abbrev pub remaining : ℕ → List Span
+  remaining p = each (deliveredAt r n) (ahead p)
 
   pub ahead-skip : (p : ℕ) → p < end x → isAggregator x p ≡ true → ahead p ≡ p ∷ ahead (includedStart x p)
   ahead-skip p h t = rw (flat-step x p (end x) h, flat-aggregator x p t)
@@ -46,13 +45,13 @@ module _ (r : Recording) (n : ℕ) (x : Sample) where
   pub ahead-take : (p : ℕ) → p < end x → isAggregator x p ≡ false → ahead p ≡ p ∷ ahead (next x p)
   ahead-take p h t = rw (flat-step x p (end x) h, flat-other x p t)
 
-  pub left-end : (p : ℕ) → end x ≤ p → left p ≡ []
+  pub remaining-end : (p : ℕ) → end x ≤ p → remaining p ≡ []
   unfolding each
-  left-end p h = rw (flat-end x p (end x) h)
+  remaining-end p h = rw (flat-end x p (end x) h)
 
-  pub left-take : (p : ℕ) → p < end x → isAggregator x p ≡ false → left p ≡ deliveredAt r n p ++ left (next x p)
+  pub remaining-take : (p : ℕ) → p < end x → isAggregator x p ≡ false → remaining p ≡ deliveredAt r n p ++ remaining (next x p)
   unfolding each
-  left-take p h t = rw (ahead-take p h t)
+  remaining-take p h t = rw (ahead-take p h t)
 
   -- a walk over all units that has come to p
   pub record Passing (p : ℕ) : Type 0 where
@@ -64,14 +63,14 @@ module _ (r : Recording) (n : ℕ) (x : Sample) where
   pub passing-start : x ≡ own r n → check x ≡ ok tt → Passing 0
   passing-start e f = record { same = e; formed = f; walking = walking-start x 0 (end x) (whole-stretch x f); mem = λ q m. rw (flat-units x f) m }
 
-  pub left-start : x ≡ own r n → check x ≡ ok tt → left 0 ≡ delivered r n
+  pub remaining-start : x ≡ own r n → check x ≡ ok tt → remaining 0 ≡ delivered r n
   unfolding delivered
-  left-start e f = ap (each (deliveredAt r n)) (sym (flat-units x f)) ∙ rw e
+  remaining-start e f = ap (each (deliveredAt r n)) (sym (flat-units x f)) ∙ rw e
 
   module _ (p : ℕ) (w : Passing p) (h : p < end x) where
-    pub left-skip : isAggregator x p ≡ true → left p ≡ left (includedStart x p)
+    pub remaining-skip : isAggregator x p ≡ true → remaining p ≡ remaining (includedStart x p)
     unfolding each
-    left-skip t = rw (ahead-skip p h t, delivered-aggregator r n p (rw (w .same) at t))
+    remaining-skip t = rw (ahead-skip p h t, delivered-aggregator r n p (rw (w .same) at t))
 
     pub passing-skip : isAggregator x p ≡ true → Passing (includedStart x p)
     passing-skip t = record { same = w .same; formed = w .formed; walking = walking-skip x (end x) p (w .walking) h t; mem = λ q m. w .mem q (rw (ahead-skip p h t) (List·Memᴰ·tail m)) }
@@ -95,14 +94,14 @@ module _ (r : Recording) (n : ℕ) (x : Sample) where
     pub passing : Passing p
     pub bounded : (m : ℕ) → length (contentOf r m) ≤ bundleMost
     pub found : judged r n ≡ first (unitJudge r n) (ahead p)
-    pub number : count + length (left p) ≡ length (delivered r n)
-    pub all : size + outputSize (left p) ≡ outputSize (delivered r n)
+    pub number : count + length (remaining p) ≡ length (delivered r n)
+    pub all : size + outputSize (remaining p) ≡ outputSize (delivered r n)
     pub few : count ≤ p * bundleMost
     pub small : size ≤ p * 67108864
 
   pub judging-start : x ≡ own r n → check x ≡ ok tt → ((m : ℕ) → length (contentOf r m) ≤ bundleMost) → Judging 0 0 0
   judging-start e f l =
-      let s = left-start e f in
+      let s = remaining-start e f in
       record {
         passing = passing-start e f;
         bounded = l;
@@ -117,7 +116,7 @@ module _ (r : Recording) (n : ℕ) (x : Sample) where
     pub judging-skip : p < end x → isAggregator x p ≡ true → Judging (includedStart x p) count size
     unfolding first
     judging-skip h t =
-        let s = left-skip p (c .passing) h t in
+        let s = remaining-skip p (c .passing) h t in
         let a = aggregator-only (own r n) p (rw (c .passing .same) at t) in
         record {
           passing = passing-skip p (c .passing) h t;
@@ -154,12 +153,12 @@ module _ (r : Recording) (n : ℕ) (x : Sample) where
       pub judging-take : a .fault ≡ 0 → Judging (next x p) (count + a .count) (size + 4 * a .count + a .bytes)
       unfolding first
       judging-take z =
-          let s = left-take p h t in
+          let s = remaining-take p h t in
           let l = L-some (x .lengthSize) in
           let i = amounts .number z in
           let j = amounts .all z in
-          let u = length-append (deliveredAt r n p) (left (next x p)) in
-          let v = size-append (deliveredAt r n p) (left (next x p)) in
+          let u = length-append (deliveredAt r n p) (remaining (next x p)) in
+          let v = size-append (deliveredAt r n p) (remaining (next x p)) in
           let f = judging-few z in
           let number = rw s at (c .number) in
           let all = rw s at (c .all) in
@@ -181,7 +180,7 @@ module _ (r : Recording) (n : ℕ) (x : Sample) where
     unfolding judgement
     judging-end h =
         let g = judging-good h in
-        let s = left-end p h in
+        let s = remaining-end p h in
         let o = output-length r (delivered r n) (λ u m. delivered-plain r n (good-rules r n g) u m .inside) in
         let number = rw s at (c .number) in
         let all = rw (s, size-none) at (c .all) in

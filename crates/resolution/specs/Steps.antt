@@ -3,9 +3,9 @@
 --   spanFor u             a delivered unit as the code has it
 --   copiedSpan r n f i    the ith unit that an extractor with the fields f in sample n stands for; no unit where there is none
 --   spanAt r n x p i      the ith unit that is delivered for the unit at p of sample n, which is x, if that is no aggregator
---   partOf r a            the bytes of a unit that was found; empty if refused
+--   foundBytes r a            the bytes of a unit that was found; empty if refused
 --   extractBytes r n f    what is written for an extractor with the fields f in sample n: nothing where it is refused
---   bytesAt r n x p       what is written for the unit at p of sample n, which is x, if it is no aggregator
+--   outputAt r n x p       what is written for the unit at p of sample n, which is x, if it is no aggregator
 use Prim.Native.Nat.{ℕ}
 use mathlib.Core.List.{List, []}
 use Rattle.words.specs.Tests.{_≡?_, _<?_, pick}
@@ -40,9 +40,9 @@ copiedSpanBy r n Nothing i = noSpan
 unfoldable pub spanAt : Recording → ℕ → Sample → ℕ → ℕ → Span
 spanAt r n x p i = pick (isExtractor x p) (copiedSpanBy r n (extractorAt x (end x) p) i) (spanOf n x p)
 
-abbrev pub partOf : Recording → Answer Span → List ℕ
-partOf r (refused n p) = []
-partOf r (ok u) = spanBytes r u
+abbrev pub foundBytes : Recording → Answer Span → List ℕ
+foundBytes r (refused n p) = []
+foundBytes r (ok u) = spanBytes r u
 
 unfoldable pub extractBytes : Recording → ℕ → fields.Extractor → List ℕ
 extractBytes r n f =
@@ -54,5 +54,5 @@ abbrev pub extractBytesBy : Recording → ℕ → MaybeExtractor → List ℕ
 extractBytesBy r n (Extractor f) = extractBytes r n f
 extractBytesBy r n Nothing = []
 
-unfoldable pub bytesAt : Recording → ℕ → Sample → ℕ → List ℕ
-bytesAt r n x p = pick (isExtractor x p) (extractBytesBy r n (extractorAt x (end x) p)) (withLength x p)
+unfoldable pub outputAt : Recording → ℕ → Sample → ℕ → List ℕ
+outputAt r n x p = pick (isExtractor x p) (extractBytesBy r n (extractorAt x (end x) p)) (withLength x p)

@@ -10,7 +10,7 @@ ghost use Rattle.tables.specs.Tables.{recordingIn};
 ghost use Rattle.copies.specs.Written.{withLength, putCount};
 ghost use Rattle.resolution_rules.specs.Resolving.{sampleOf, delivered, judged};
 ghost use Rattle.resolution_rules.specs.Calls.{output, resolve};
-ghost use Rattle.resolution.specs.Steps.{extractBytes, bytesAt};
+ghost use Rattle.resolution.specs.Steps.{extractBytes, outputAt};
 ghost use Rattle.resolution.specs.Answers.{answerOf};
 use crate::Resolved;
 use judging::Judged;
@@ -77,9 +77,9 @@ fn put_at(
     x: &[u8],
     p: usize,
 ) -> usize
-    requires { ⌜ (next (sample k (now x)) p ≤ length (now x)) × (at + length (bytesAt (recordingIn (now b) (now t)) (n .0) (sample k (now x)) p) ≤ length (now out)) ⌝ }
-    ensures { λ r. ⌜ (r ≡ length (bytesAt (recordingIn (now (b .entry)) (now (t .entry))) (n .0) (sample k (now (x .entry))) p))
-        × (now (out .exit) ≡ put (now (out .entry)) at (bytesAt (recordingIn (now (b .entry)) (now (t .entry))) (n .0) (sample k (now (x .entry))) p)) ⌝ }
+    requires { ⌜ (next (sample k (now x)) p ≤ length (now x)) × (at + length (outputAt (recordingIn (now b) (now t)) (n .0) (sample k (now x)) p) ≤ length (now out)) ⌝ }
+    ensures { λ r. ⌜ (r ≡ length (outputAt (recordingIn (now (b .entry)) (now (t .entry))) (n .0) (sample k (now (x .entry))) p))
+        × (now (out .exit) ≡ put (now (out .entry)) at (outputAt (recordingIn (now (b .entry)) (now (t .entry))) (n .0) (sample k (now (x .entry))) p)) ⌝ }
 {
     if units::type_at(k, x, ByteOffset(p)) != units::EXTRACTOR {
         return put_own(out, at, k, x, p);

@@ -3,7 +3,6 @@ use borrow.Author.Needs.{needs}
 use mathlib.Core.Path.{_≡_, sym, ap, _∙_}
 use lib.ListN.{length}
 use Rattle.resolution.proofs.finding.find_unit.Statement.{statement}
-use Rattle.units.specs.Units.{sample}
 use Rattle.tables.specs.Tables.{recordingIn}
 use Rattle.words.specs.Refusals.{ok}
 use Rattle.bundles.specs.Recordings.{Recording, sampleCount}
