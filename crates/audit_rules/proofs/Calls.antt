@@ -1,13 +1,15 @@
 -- What the call on a bundle answers, by any reader: the lines and the tally, refused alike. Assumes nothing.
 --
---   audit-bundle, tally-bundle          1 to 13
+--   lines-not, tally-not                a recording without room for its lines
+--   lines-fit, tally-fits               one with room
+--   audit-bundle, tally-bundle          the bundle's own refusal
 --   audit-means, tally-means            else by the recording, with 29
 --   audit-refuses, tally-refuses        refused
 --   audits, tallies                     answered
 --   answered                            one of the two holds
 --   audit-because, tally-because, audited-because, tallied-because    from the answer, what holds
 --   refused-with                        which numbers, and where
-use Prim.Native.Nat.{ℕ, _*_, _≤_}
+use Prim.Native.Nat.{ℕ, _*_, _≤_, _<_}
 use mathlib.Core.Path.{_≡_, refl, sym, _∙_, subst}
 use mathlib.Core.List.{List}
 use mathlib.Core.Logic.{_⊎_, inl, inr}
@@ -26,6 +28,21 @@ use Rattle.audit_rules.specs.Auditing.{lineSize, lines, tally, tallyWith
 use Rattle.audit_rules.specs.Rules.{AuditRefuses, Audits, Tallies}
 use Rattle.audit_rules.proofs.Lines.{lines-length}
 
+-- the lines and the tally of a recording, with room and without
+module _ (r : Recording) (room : ℕ) where
+  pub lines-not : room < lineSize * sampleCount (r .layout) → within room (ok (lines r)) ≡ refused outputTooLong 0
+  lines-not h = within-not room (lines r) (rw (lines-length r) h)
+
+  pub tally-not : room < lineSize * sampleCount (r .layout) → tallyWithin r room ≡ refused outputTooLong 0
+  tally-not h = rw (lines-length r, lt-ltb room (lineSize * sampleCount (r .layout)) h)
+
+  pub lines-fit : lineSize * sampleCount (r .layout) ≤ room → within room (ok (lines r)) ≡ ok (lines r)
+  lines-fit h = within-room room (lines r) (rw (lines-length r) h)
+
+  pub tally-fits : lineSize * sampleCount (r .layout) ≤ room → tallyWithin r room ≡ ok (tally r)
+  tally-fits h = rw (lines-length r, le-ltb room (lineSize * sampleCount (r .layout)) h)
+
+-- the calls
 module _ (reader : Reader) (b : List ℕ) (room : ℕ) where
   pub audit-bundle : {m p : ℕ} → reader .means b ≡ refused m p → auditCall reader b room ≡ refused m p
   unfolding auditCall
@@ -45,19 +62,17 @@ module _ (reader : Reader) (b : List ℕ) (room : ℕ) where
 
   pub audit-refuses : {m p : ℕ} → AuditRefuses reader b room m p → auditCall reader b room ≡ refused m p
   audit-refuses (AuditRefuses.bundle e) = audit-bundle e
-  audit-refuses (AuditRefuses.tooLong r e h) = audit-means e ∙ within-not room (lines r) (rw (lines-length r) h)
+  audit-refuses (AuditRefuses.tooLong r e h) = audit-means e ∙ lines-not r room h
 
   pub tally-refuses : {m p : ℕ} → AuditRefuses reader b room m p → tallyCall reader b room ≡ refused m p
-  unfolding tallyCall
   tally-refuses (AuditRefuses.bundle e) = tally-bundle e
-  tally-refuses (AuditRefuses.tooLong r e h) = rw (e, lines-length r, lt-ltb room (lineSize * sampleCount (r .layout)) h)
+  tally-refuses (AuditRefuses.tooLong r e h) = tally-means e ∙ tally-not r room h
 
   pub audits : {out : List ℕ} → Audits reader b room out → auditCall reader b room ≡ ok out
-  audits w = audit-means (w .means) ∙ rw (w .writes) (within-room room (lines (w .recording)) (rw (lines-length (w .recording)) (w .fits)))
+  audits w = audit-means (w .means) ∙ rw (w .writes) (lines-fit (w .recording) room (w .fits))
 
   pub tallies : {t : Tally} → Tallies reader b room t → tallyCall reader b room ≡ ok t
-  unfolding tallyCall
-  tallies w = rw (w .means, w .counts, lines-length (w .recording), le-ltb room (lineSize * sampleCount (w .recording .layout)) (w .fits))
+  tallies w = tally-means (w .means) ∙ rw (w .counts) (tally-fits (w .recording) room (w .fits))
 
   pub answered : {G : Type 0} → ((m p : ℕ) → AuditRefuses reader b room m p → G) → ((r : Recording) → reader .means b ≡ ok r → lineSize * sampleCount (r .layout) ≤ room → G) → G
   answered f g = by-answer (reader .means b)

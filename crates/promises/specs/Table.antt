@@ -23,7 +23,8 @@ use Rattle.bundles.specs.Bundles.{endFault, bytesVerdict, bundleVerdict, layout
 use Rattle.bundles.specs.Readers.{firstLayout}
 use Rattle.links.specs.Links.{linkFault, linkedTrack, base, sampleNamed, nameFault}
 use Rattle.copies.specs.Copies.{among, copyEnd, copied, borderFault, copyFault}
-use Rattle.resolution_rules.specs.Resolving.{sampleOf, named, nameFaultAt, copyFaultAt, extractFault, copiedAt, deliveredAt, delivered, judged}
+use Rattle.resolution_rules.specs.Resolving.{sampleOf, named, nameFaultAt, copyFaultAt, extractFault, judged}
+use Rattle.resolution_rules.specs.Resolving.{copiedAt, deliveredAt, delivered}
 use Rattle.resolution_rules.specs.Calls.{written, output, numberFault, resolve, resolveCall}
 use Rattle.audit_rules.specs.Auditing.{lineBytes, lineOf, lines, auditCall}
 use Rattle.naming_list_rules.specs.Naming.{namersIn, namingList, listBytes, names, namesCall}
