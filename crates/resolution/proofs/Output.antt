@@ -9,7 +9,6 @@ use mathlib.Core.Path.{_≡_, refl, ap, sym, _∙_}
 use mathlib.Core.List.{List, [], _++_, append-assoc, append-nil, List·Memᴰ}
 use mathlib.Core.Bool.{true, false}
 use native.Mathlib.Omega.{arith}
-use borrow.Author.Tests.{ne-eqb}
 use lib.ListN.{length, length-append}
 use Rattle.words.specs.Refusals.{ok}
 use Rattle.words.specs.Bytes.{bytes}
@@ -41,17 +40,18 @@ use Rattle.resolution.specs.Steps.{extractBytes, outputAt}
 use Rattle.resolution_rules.proofs.Delivered.{delivered-unit, delivered-extractor, unitJudge, unit-judge, extractors-units, judged-extractors, output-none, output-one, output-append}
 use Rattle.resolution_rules.proofs.Good.{good-rules}
 use Rattle.resolution_rules.proofs.Exactly.{extractor-mem}
+use Rattle.judging.proofs.Amounts.{by-name-refused, by-name-sample}
 use Rattle.judging.proofs.Counting.{remaining, remaining-end, remaining-skip, remaining-take, remaining-start, Passing, passing-start, passing-skip, passing-take, passing-mem}
 
 -- an extractor by what it names
 module _ (r : Recording) (n : ℕ) (f : Extractor) where
   pub extract-refused : {g : ℕ} → nameFault (r .layout) n (f .«track_ref_index») (f .«sample_offset») ≡ g → 0 < g → extractBytes r n f ≡ []
   unfolding extractBytes
-  extract-refused {g} e h = rw (e, ne-eqb g 0 (λ z. omega arith))
+  extract-refused e h = by-name-refused r n f _ _ e h
 
   pub extract-named : {m : ℕ} → nameFault (r .layout) n (f .«track_ref_index») (f .«sample_offset») ≡ 0 → sampleNamed (r .layout) n (f .«track_ref_index») (f .«sample_offset») ≡ m → {z : Sample} → z ≡ sampleOf r m → extractBytes r n f ≡ copyBytes z (f .«data_offset» .0) (f .«data_length»)
   unfolding extractBytes
-  extract-named e g h = rw (e, g, h)
+  extract-named e g h = rw h (by-name-sample r n f _ _ e g)
 
 -- the size of a unit as it is written
 pub with-size : (x : Sample) (p : ℕ) → units.next x p ≤ end x → length (withLength x p) ≡ 4 + units.size x p

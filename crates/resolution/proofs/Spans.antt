@@ -9,7 +9,7 @@ use mathlib.Core.Path.{_≡_, refl, ap, sym, _∙_}
 use mathlib.Core.List.{List·Memᴰ}
 use mathlib.Core.Bool.{true, false}
 use native.Mathlib.Omega.{arith}
-use borrow.Author.Tests.{ne-eqb, lt-ltb, le-ltb}
+use borrow.Author.Tests.{lt-ltb, le-ltb}
 use lib.ListN.{length, length-map}
 use Rattle.words.specs.Refusals.{ok}
 use Rattle.words.specs.Lists.{nth}
@@ -28,36 +28,36 @@ use Rattle.bundles.specs.Recordings.{Recording, contentOf}
 use Rattle.links.specs.Links.{sampleNamed, nameFault}
 use Rattle.copies.specs.Copies.{copied}
 use Rattle.copies.specs.Written.{copiedPlace}
-use Rattle.copies.specs.declared.Copy.{Copy}
 use Rattle.copies.proofs.Answers.{good-whole, place-good}
 use Rattle.words.proofs.Numbered.{nth-none}
 use Rattle.bundles.specs.Limits.{bundleMost}
 use Rattle.resolution_rules.specs.Resolving.{sampleOf, spanOf, own, named, linked, nameFaultAt, copyFaultAt, extractFault, copiedAt, deliveredAt, delivered, judged}
 use Rattle.resolution_rules.specs.Calls.{noSpan}
 use Rattle.judging.specs.Steps.{amountAt}
+use Rattle.judging.specs.declared.UnitAmount.{UnitAmount}
 use Rattle.resolution.specs.Steps.{copiedSpan, spanAt}
 use Rattle.words.proofs.Joined.{nth-map, nth-front, nth-back}
 use Rattle.resolution_rules.proofs.Delivered.{delivered-unit, delivered-extractor, unitJudge, unit-judge, extractors-units, judged-extractors}
 use Rattle.resolution_rules.proofs.Good.{good-rules}
 use Rattle.resolution_rules.proofs.Exactly.{extractor-mem}
-use Rattle.judging.proofs.Amounts.{Amounts}
+use Rattle.judging.proofs.Amounts.{Amounts, by-name-refused, by-name-sample}
 use Rattle.judging.proofs.Counting.{remaining, remaining-end, remaining-skip, remaining-take, remaining-start, Passing, passing-start, passing-skip, passing-take, passing-mem, passing-amounts}
 
 -- what an extractor with the fields f stands for, by what it names
 module _ (r : Recording) (n : ℕ) (f : Extractor) (i : ℕ) where
   pub span-refused : {g : ℕ} → nameFault (r .layout) n (f .«track_ref_index») (f .«sample_offset») ≡ g → 0 < g → copiedSpan r n f i ≡ noSpan
   unfolding copiedSpan
-  span-refused {g} e h = rw (e, ne-eqb g 0 (λ z. omega arith))
+  span-refused e h = by-name-refused r n f _ _ e h
 
   module _ {m : ℕ} (g : nameFault (r .layout) n (f .«track_ref_index») (f .«sample_offset») ≡ 0) (j : sampleNamed (r .layout) n (f .«track_ref_index») (f .«sample_offset») ≡ m)
       {z : Sample} (e : z ≡ sampleOf r m) {q : ℕ} (k : q ≡ copiedPlace z (f .«data_offset» .0) (f .«data_length») i) where
     pub span-past : end z ≤ q → copiedSpan r n f i ≡ noSpan
     unfolding copiedSpan
-    span-past h = rw (g, j, ← e, ← k, le-ltb q (end z) h)
+    span-past h = by-name-sample r n f _ _ g j ∙ rw (← e, ← k, le-ltb q (end z) h)
 
     pub span-here : q < end z → copiedSpan r n f i ≡ spanOf m z q
     unfolding copiedSpan
-    span-here h = rw (g, j, ← e, ← k, lt-ltb q (end z) h)
+    span-here h = by-name-sample r n f _ _ g j ∙ rw (← e, ← k, lt-ltb q (end z) h)
 
 module _ (r : Recording) (n : ℕ) where
   copied-here : (p i : ℕ) → extractFault r n p ≡ 0 → 0 < i → i ≤ length (copiedAt r n p) → copiedSpan r n (extractorOf (own r n) p) i ≡ nth (copiedAt r n p) i noSpan
@@ -104,7 +104,7 @@ module _ (r : Recording) (n : ℕ) (x : Sample) where
     pub seeking-skip : p < end x → isAggregator x p ≡ true → Seeking i (includedStart x p) rest
     seeking-skip h t = record { passing = passing-skip r n x p (c .passing) h t; good = c .good; bounded = c .bounded; some = c .some; same = c .same ∙ rw (remaining-skip r n x p (c .passing) h t) }
 
-    module _ (h : p < end x) (t : isAggregator x p ≡ false) {a : Copy} (e : a ≡ amountAt r n x p) where
+    module _ (h : p < end x) (t : isAggregator x p ≡ false) {a : UnitAmount} (e : a ≡ amountAt r n x p) where
       amounts : Amounts r n bundleMost p a
       amounts = rw e (passing-amounts r n x p (c .passing) h t (c .bounded))
 

@@ -136,13 +136,14 @@ pub(crate) fn resolve_sample(b: &[u8], t: &[u64], n: SampleNumber, out: &mut [u8
     match judged {
         Judged::Refused(f) => Resolved::Refused(f),
         Judged::Good(a) => {
-            if out.len() < a.size {
+            let size = a.own + a.copied + copies::LENGTH_BEFORE * a.count;
+            if out.len() < size {
                 return refused(refusals::OUTPUT_TOO_LONG);
             }
             let k = judging::track_of(t, n);
             let x = tables::sample_bytes(b, t, n);
             write_units(out, b, t, n, k, x);
-            Resolved::Count(a.size)
+            Resolved::Count(size)
         }
     }
 }

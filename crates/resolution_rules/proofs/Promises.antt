@@ -10,6 +10,7 @@
 --   plain-units            every delivered unit lies in its sample, starts right after the length field of a unit there, has that unit's size, and is
 --                          neither an aggregator nor an extractor
 --   no-aggregator-or-extractor    the same by the type in its first byte
+--   counted-bytes          the output of a good sample is as long as its own bytes delivered, those copied, and 4 for each delivered unit
 --   sample-refusals        a sample is refused with a number of its set, at a place in the sample
 --   first-refused          by its own check, else by its first extractor that is refused
 --   resolved-exactly       resolving answers exactly if the number is there, the sample good and the output fits: with that output
@@ -25,7 +26,7 @@
 --   named-from-base        the sample named, in an accepted bundle: signed steps from the base, in sample numbers, within the linked track
 --   none-without-base      no base: every sample of the linked track is later, and no sample is named
 --   base-is-last           the base: the last sample of the linked track at or before the own sample's time
-use Prim.Native.Nat.{ℕ, _%_, _≤_, _<_}
+use Prim.Native.Nat.{ℕ, _+_, _*_, _%_, _≤_, _<_}
 use mathlib.Core.Path.{_≡_, ap, sym, _∙_}
 use mathlib.Core.List.{List, [], _++_, List·Memᴰ}
 use mathlib.Core.Bool.{true, false}
@@ -50,10 +51,12 @@ use Rattle.links.proofs.Order.{named-steps, base-times, later-without}
 use Rattle.copies.specs.Extracted.{extracted}
 use Rattle.copies.specs.Written.{lengthBefore}
 use Rattle.resolution_rules.specs.Resolving.{Span, own, linked, copiedAt, deliveredAt, delivered, judged}
+use Rattle.resolution_rules.specs.Amounts.{ownBytes, copiedBytes}
 use Rattle.resolution_rules.specs.Calls.{spanBytes, output, noSpan, resolve, resolveUnit, resolveCall, unitCall, unitPart}
 use Rattle.resolution_rules.specs.Readers.{Sound}
 use Rattle.resolution_rules.specs.Rules.{Good, Delivers, Plain, Apart, timesDelivered, JudgedRefusal, FirstRefused, Resolves, ResolveRefuses, UnitRefuses, CallResolves, CallRefuses, UnitCallRefuses}
 use Rattle.resolution_rules.proofs.Delivered.{judged-form}
+use Rattle.resolution_rules.proofs.Amounts.{output-bytes}
 use Rattle.resolution_rules.proofs.Good.{good-rules, rules-good, judged-refused, judged-first, first-judged}
 use Rattle.resolution_rules.proofs.Exactly.{delivers, delivers-only, delivered-plain}
 use Rattle.resolution_rules.proofs.Once as once
@@ -84,6 +87,9 @@ module _ (r : Recording) (n : ℕ) where
 
     pub no-aggregator-or-extractor : (u : Span) → List·Memᴰ u (delivered r n) → (byteAt (spanBytes r u) 0 % 32 ≡ aggregatorType → ⊥) × (byteAt (spanBytes r u) 0 % 32 ≡ extractorType → ⊥)
     no-aggregator-or-extractor u m = plain-units u m .type
+
+    pub counted-bytes : length (output r (delivered r n)) ≡ ownBytes r n + copiedBytes r n + lengthBefore * length (delivered r n)
+    counted-bytes = output-bytes r n good
 
     -- where no extractor of the sample names the sample itself: so in every accepted bundle
     module _ (apart : Apart r n) (p : ℕ) (top : List·Memᴰ p (topUnits (own r n))) (aggregator : isAggregator (own r n) p ≡ true) where
