@@ -10,29 +10,26 @@
 --   call-filled                           the call by a table that was filled
 use Prim.Native.Nat.{ℕ, zero, suc, _+_, _-_, _*_, _≤_, _<_}
 use mathlib.Core.Path.{_≡_, refl, ap, sym, _∙_}
-use mathlib.Core.List.{List, [], _∷_, _++_, map, append-assoc, append-nil}
-use mathlib.Core.Bool.{Bool, true, false}
+use mathlib.Core.List.{List, [], _∷_, _++_, map, append-nil}
 use native.Mathlib.Omega.{arith}
 use native.Mathlib.Nat.{suc-mul}
 use borrow.Author.Tests.{eqb-true, eqb-false, leb-true, leb-false}
 use lib.Dec.{eqb, leb}
 use lib.ListN.{length, length-append, length-map, length-set}
-use Rattle.words.specs.Tests.{pick}
 use Rattle.words.specs.RefusalNumbers.{outputTooLong}
-use Rattle.words.specs.Refusals.{Answer, refused, ok}
-use Rattle.words.specs.Lists.{keep, each, upto}
+use Rattle.words.specs.Refusals.{refused, ok}
+use Rattle.words.specs.Lists.{each, upto}
 use Rattle.words.specs.Buffers.{writeAt, overwrite, within}
 use Rattle.words.proofs.Tests.{by-bool}
 use Rattle.words.proofs.Refusals.{by-verdict, at-refused}
 use Rattle.words.proofs.Lists.{each-append}
 use Rattle.words.proofs.Kept.{keep-few}
 use Rattle.words.proofs.Rows.{upto-more}
-use Rattle.words.proofs.Numbered.{put-after}
 use Rattle.words.proofs.Buffers.{write-none, write-first, write-length, write-write, within-room, within-not}
 use Rattle.units.specs.Units.{Sample, isExtractor}
 use Rattle.units.specs.Aggregators.{units, extractors}
-use Rattle.samples.specs.Check.{check, wellFormed}
-use Rattle.bundles.specs.Limits.{bundleMost}
+use Rattle.samples.specs.Check.{check}
+use Rattle.bundles.specs.Limits.{bundleMost, sampleMost}
 use Rattle.bundles.specs.Recordings.{Recording, sampleCount, contentOf}
 use Rattle.bundles.specs.Readers.{firstLayout}
 use Rattle.tables.specs.Tables.{sampleTotal, layoutIn, recordingIn, tableMost, flagIn, flagged}
@@ -41,7 +38,7 @@ use Rattle.tables.proofs.Flags.{flagged-recording, flagged-layout, flagged-case
 use Rattle.filling.specs.Filling.{filling, tableAfter}
 use Rattle.filling.specs.declared.Filled.the-variants.{Done}
 use Rattle.filling.proofs.Promises.{table-accepted, table-means}
-use Rattle.resolution_rules.specs.Resolving.{sampleOf, own}
+use Rattle.resolution_rules.specs.Resolving.{own}
 use Rattle.resolution_rules.specs.Calls.{numberFault}
 use Rattle.resolution_rules.proofs.Sizes.{units-count}
 use Rattle.judging.proofs.Amounts.{contents-most}
@@ -254,7 +251,7 @@ module _ (r : Recording) (s : ℕ) (o : List ℕ) where
         c .is ∙ ap (λ (k : ℕ). writeAt o 0 (listBytes (sofar r s k))) e ∙ rw (sofar-all r s) (write-first o (listBytes (namingList r s)))
 
 -- the entries of a table's recording are few
-pub list-few : (b t : List ℕ) (s : ℕ) → length b ≤ bundleMost → length (namingList (recordingIn b t) s) ≤ 4096 * bundleMost
+pub list-few : (b t : List ℕ) (s : ℕ) → length b ≤ bundleMost → length (namingList (recordingIn b t) s) ≤ sampleMost * bundleMost
 unfolding recordingIn
 list-few b t s h =
     let r = recordingIn b t in
