@@ -12,7 +12,8 @@ use borrow.Author.Tests.{eq-eqb, ne-eqb, lt-ltb, le-ltb}
 use lib.ListN.{length}
 use Rattle.words.specs.RefusalNumbers.{noSuchNumber}
 use Rattle.words.specs.Bytes.{byteAt, big}
-use Rattle.audit_rules.specs.Auditing.{refusalSize, placeSize, unitsSize, lineSize}
+use Rattle.numbers.specs.Places.{placeSize}
+use Rattle.audit_rules.specs.Auditing.{refusalSize, unitsSize, lineSize}
 use Rattle.audit_rules.specs.Rules.{lineAt}
 use Rattle.audit.specs.Answers.{lineThere, lineSays}
 use Rattle.audit.specs.declared.Line.the-variants.{Passed, Empty, Refused}

@@ -25,7 +25,8 @@ use Rattle.judging.specs.declared.Judged.the-variants as judged
 use Rattle.judging.proofs.Judgements.{judged-refused, judged-good}
 use Rattle.tally.specs.Tallies.{tallied, raisedBy}
 use Rattle.tally.specs.declared.Tally.{Tally}
-use Rattle.audit_rules.specs.Auditing.{refusalSize, placeSize, unitsSize, lineSize, lineBytes, outcomeOf, lineOf, lines, tally}
+use Rattle.numbers.specs.Places.{placeSize}
+use Rattle.audit_rules.specs.Auditing.{refusalSize, unitsSize, lineSize, lineBytes, outcomeOf, lineOf, lines, tally}
 use Rattle.audit_rules.proofs.Outcomes.{outcome-empty, outcome-passed, outcome-refused}
 use Rattle.audit_rules.proofs.Lines.{line-length, joined-length}
 use Rattle.audit_rules.proofs.Steps.{firstLines, firstTally, lines-start, lines-put, lines-end, tally-start, tally-more, tally-end}

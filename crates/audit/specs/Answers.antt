@@ -12,7 +12,8 @@ use Rattle.words.specs.Refusals.{Answer, refused, ok}
 use Rattle.words.specs.RefusalNumbers.{noSuchNumber}
 use Rattle.words.specs.Bytes.{big}
 use Rattle.tally.specs.declared.Tally.{Tally}
-use Rattle.audit_rules.specs.Auditing.{refusalSize, placeSize, unitsSize, lineSize}
+use Rattle.numbers.specs.Places.{placeSize}
+use Rattle.audit_rules.specs.Auditing.{refusalSize, unitsSize, lineSize}
 use Rattle.audit_rules.specs.Rules.{lineAt}
 use Rattle.audit.specs.declared.Audited.{Audited}
 use Rattle.audit.specs.declared.Audited.the-variants as audited

@@ -20,7 +20,8 @@ use Rattle.words.proofs.Rows.{upto-split}
 use Rattle.words.proofs.Bytes.{bytes-length}
 use Rattle.bundles.specs.Recordings.{Recording, sampleCount}
 use Rattle.resolution_rules.specs.Resolving.{judged, delivered}
-use Rattle.audit_rules.specs.Auditing.{refusalSize, placeSize, unitsSize, lineSize, lineBytes, lineOf, lines}
+use Rattle.numbers.specs.Places.{placeSize}
+use Rattle.audit_rules.specs.Auditing.{refusalSize, unitsSize, lineSize, lineBytes, lineOf, lines}
 
 pub size-thirteen : lineSize ≡ 13
 size-thirteen = refl

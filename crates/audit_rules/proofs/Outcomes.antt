@@ -21,6 +21,7 @@ use Rattle.resolution_rules.proofs.Good.{good-rules, judged-refused}
 use Rattle.resolution_rules.proofs.Sizes.{units-count}
 use Rattle.tally.specs.declared.Outcome.the-variants.{Passed, Empty, Refused}
 use Rattle.audit_rules.specs.Auditing.{outcomeOf}
+use Rattle.audit_rules.proofs.Refusals.{place-inside}
 
 nothing-in : {A : Type 0} (xs : List A) → length xs ≤ 0 → xs ≡ []
 nothing-in [] h = refl
@@ -43,7 +44,7 @@ module _ (r : Recording) (n : ℕ) where
 
   pub empty-good : length (contentOf r n) ≡ 0 → judged r n ≡ ok tt
   empty-good e = by-verdict (judged r n)
-      (λ m p j. let w = judged-refused r n m p j in let k = w .2 in absurd (omega arith))
+      (λ m p j. let k = place-inside r n (judged-refused r n m p j) in absurd (omega arith))
       (λ j. j)
 
   pub empty-nothing : length (contentOf r n) ≡ 0 → delivered r n ≡ []
@@ -62,7 +63,7 @@ module _ (r : Recording) (n : ℕ) where
 
   pub outcome-refused : {m p : ℕ} → judged r n ≡ refused m p → outcomeOf r n ≡ Refused
   unfolding outcomeOf
-  outcome-refused {m} {p} j = let w = judged-refused r n m p j in let k = w .2 in rw (ne-eqb size 0 (λ z. absurd (omega arith)), j)
+  outcome-refused {m} {p} j = let k = place-inside r n (judged-refused r n m p j) in rw (ne-eqb size 0 (λ z. absurd (omega arith)), j)
 
   pub by-outcome : {G : Type 0} → (length (contentOf r n) ≡ 0 → G) → (0 < length (contentOf r n) → judged r n ≡ ok tt → G) → ((m p : ℕ) → judged r n ≡ refused m p → G) → G
   by-outcome f g h = by-verdict (judged r n) h

@@ -1,10 +1,11 @@
--- What the audit promises. `meaning b ≡ ok r` says that the bundle b is accepted and means the recording r, `judged r n ≡ ok tt` that sample n of
--- r is good. For any L. Assumes nothing but what each theorem states.
+-- What the audit promises. `reader .means b ≡ ok r` says that the bundle b is accepted by the reader and means the recording r, `judged r n ≡ ok tt`
+-- that sample n of r is good. `Sound reader` is proved of the first layout in crates/resolution_rules/proofs/Readers. For any L. Assumes nothing but
+-- what each theorem states.
 --
 --   empty-exactly            a sample is found empty exactly if its length is zero
 --   passed-exactly           passed exactly if it has bytes and its whole length is good
 --   refused-exactly          refused exactly if it has a refusal
---   refused-with             which is 14 to 28, at a place in the sample
+--   refused-with             with a number of sampleRefusals, at a place in the sample
 --   empty-is-good            a sample without bytes is good and delivers nothing
 --   lines-in-order           the lines are those of samples 1 to the last, joined
 --   thirteen-each            13 bytes a sample
@@ -17,28 +18,28 @@
 --   audited-exactly, tallied-exactly               the call answers exactly if the bundle is accepted and the lines fit: with the lines, the tally
 --   audit-refused-exactly, tally-refused-exactly   else it is refused: by the bundle, or the lines do not fit
 --   refused-alike            lines and tally are refused alike
---   call-refused-with        with 1 to 13 at a place in the bundle or at its end, or 29 at 0
+--   audit-refused-with       with a number of the reader's at a place in the bundle or at its end, or 29 at 0
 use Prim.Native.Nat.{ℕ, _+_, _-_, _*_, _≤_, _<_}
 use mathlib.Core.Path.{_≡_, refl, sym, _∙_}
 use mathlib.Core.List.{List, []}
-use mathlib.Core.Logic.{_⊎_}
+use mathlib.Core.Logic.{_⊎_, inl, inr, ⊎-elim}
 use lib.ListN.{length}
 use Rattle.words.specs.Refusals.{refused, ok}
 use Rattle.words.specs.RefusalNumbers.{outputTooLong}
-use Rattle.words.specs.Lists.{each, upto}
+use Rattle.words.specs.Lists.{each, upto, _∈_}
 use Rattle.bundles.specs.Recordings.{Recording, sampleCount, contentOf}
-use Rattle.bundles.specs.Bundles.{meaning}
-use Rattle.bundles.proofs.Refusals.{Within}
+use Rattle.bundles.specs.Readers.{Reader}
 use Rattle.resolution_rules.specs.Resolving.{judged, delivered}
 use Rattle.resolution_rules.specs.Rules.{JudgedRefusal}
+use Rattle.resolution_rules.specs.Readers.{Sound}
 use Rattle.resolution_rules.proofs.Promises.{sample-refusals}
 use Rattle.tally.specs.declared.Outcome.the-variants.{Passed, Empty, Refused}
 use Rattle.tally.specs.declared.Tally.{Tally}
 use Rattle.audit_rules.specs.Auditing.{lineSize, outcomeOf, lineOf, lines, tally, auditCall, tallyCall}
-use Rattle.audit_rules.specs.Rules.{said, lineAt, LineEach, Counts, Refuses, Audits, Tallies}
+use Rattle.audit_rules.specs.Rules.{outcomeByLine, lineAt, LinePerSample, Counts, AuditRefuses, Audits, Tallies}
 use Rattle.audit_rules.proofs.Outcomes as outcomes
 use Rattle.audit_rules.proofs.Lines.{lines-length, line-at}
-use Rattle.audit_rules.proofs.Reading.{line-each}
+use Rattle.audit_rules.proofs.Reading.{line-per-sample}
 use Rattle.audit_rules.proofs.Counts.{counts}
 use Rattle.audit_rules.proofs.Calls as calls
 
@@ -78,43 +79,53 @@ module _ (r : Recording) where
   tally-counts = counts r
 
 -- demand 2, of an accepted bundle
-module _ (b : List ℕ) (r : Recording) (accepted : meaning b ≡ ok r) (room : ℕ) (fits : lineSize * sampleCount (r .layout) ≤ room) where
-  pub every-sample-one-line : (auditCall b room ≡ ok (lines r)) × LineEach r (lines r)
-  every-sample-one-line = (calls.audits b room (record { recording = r; means = accepted; fits = fits; writes = refl }), line-each b r accepted)
+module _
+    (reader : Reader) (sound : Sound reader) (b : List ℕ) (r : Recording) (accepted : reader .means b ≡ ok r) (room : ℕ)
+    (fits : lineSize * sampleCount (r .layout) ≤ room)
+  where
+    lines-here : LinePerSample r (lines r)
+    lines-here = line-per-sample r (sound .contents b r accepted)
 
-  module _ (n : ℕ) (some : 0 < n) (there : n ≤ sampleCount (r .layout)) where
-    says : said (lineAt (lines r) n) (length (contentOf r n)) ≡ outcomeOf r n
-    says = line-each b r accepted .says n some there
+    pub every-sample-one-line : (auditCall reader b room ≡ ok (lines r)) × LinePerSample r (lines r)
+    every-sample-one-line = (calls.audits reader b room (record { recording = r; means = accepted; fits = fits; writes = refl }), lines-here)
 
-    pub line-empty-exactly : (said (lineAt (lines r) n) (length (contentOf r n)) ≡ Empty → length (contentOf r n) ≡ 0) × (length (contentOf r n) ≡ 0 → said (lineAt (lines r) n) (length (contentOf r n)) ≡ Empty)
-    line-empty-exactly = (λ e. outcomes.empty-because r n (sym says ∙ e), λ z. says ∙ outcomes.outcome-empty r n z)
+    module _ (n : ℕ) (some : 0 < n) (there : n ≤ sampleCount (r .layout)) where
+      by-line : outcomeByLine (lineAt (lines r) n) (length (contentOf r n)) ≡ outcomeOf r n
+      by-line = lines-here .outcome n some there
 
-    pub line-passed-exactly :
-        (said (lineAt (lines r) n) (length (contentOf r n)) ≡ Passed → (0 < length (contentOf r n)) × (judged r n ≡ ok tt))
-        × ((0 < length (contentOf r n)) × (judged r n ≡ ok tt) → said (lineAt (lines r) n) (length (contentOf r n)) ≡ Passed)
-    line-passed-exactly = (λ e. outcomes.passed-because r n (sym says ∙ e), λ w. says ∙ outcomes.outcome-passed r n (w .0) (w .1))
+      pub line-empty-exactly : (outcomeByLine (lineAt (lines r) n) (length (contentOf r n)) ≡ Empty → length (contentOf r n) ≡ 0) × (length (contentOf r n) ≡ 0 → outcomeByLine (lineAt (lines r) n) (length (contentOf r n)) ≡ Empty)
+      line-empty-exactly = (λ e. outcomes.empty-because r n (sym by-line ∙ e), λ z. by-line ∙ outcomes.outcome-empty r n z)
 
-    pub line-refused-exactly :
-        (said (lineAt (lines r) n) (length (contentOf r n)) ≡ Refused → (m : ℕ) × (p : ℕ) × (judged r n ≡ refused m p))
-        × ((m p : ℕ) → judged r n ≡ refused m p → said (lineAt (lines r) n) (length (contentOf r n)) ≡ Refused)
-    line-refused-exactly = (λ e. outcomes.refused-because r n (sym says ∙ e), λ m p j. says ∙ outcomes.outcome-refused r n j)
+      pub line-passed-exactly :
+          (outcomeByLine (lineAt (lines r) n) (length (contentOf r n)) ≡ Passed → (0 < length (contentOf r n)) × (judged r n ≡ ok tt))
+          × ((0 < length (contentOf r n)) × (judged r n ≡ ok tt) → outcomeByLine (lineAt (lines r) n) (length (contentOf r n)) ≡ Passed)
+      line-passed-exactly = (λ e. outcomes.passed-because r n (sym by-line ∙ e), λ w. by-line ∙ outcomes.outcome-passed r n (w .0) (w .1))
+
+      pub line-refused-exactly :
+          (outcomeByLine (lineAt (lines r) n) (length (contentOf r n)) ≡ Refused → (m : ℕ) × (p : ℕ) × (judged r n ≡ refused m p))
+          × ((m p : ℕ) → judged r n ≡ refused m p → outcomeByLine (lineAt (lines r) n) (length (contentOf r n)) ≡ Refused)
+      line-refused-exactly = (λ e. outcomes.refused-because r n (sym by-line ∙ e), λ m p j. by-line ∙ outcomes.outcome-refused r n j)
 
 -- the call on a bundle
-module _ (b : List ℕ) (room : ℕ) where
-  pub audited-exactly : (out : List ℕ) → (auditCall b room ≡ ok out → Audits b room out) × (Audits b room out → auditCall b room ≡ ok out)
-  audited-exactly out = (calls.audited-because b room out, calls.audits b room)
+module _ (reader : Reader) (b : List ℕ) (room : ℕ) where
+  pub audited-exactly : (out : List ℕ) → (auditCall reader b room ≡ ok out → Audits reader b room out) × (Audits reader b room out → auditCall reader b room ≡ ok out)
+  audited-exactly out = (calls.audited-because reader b room out, calls.audits reader b room)
 
-  pub tallied-exactly : (t : Tally) → (tallyCall b room ≡ ok t → Tallies b room t) × (Tallies b room t → tallyCall b room ≡ ok t)
-  tallied-exactly t = (calls.tallied-because b room t, calls.tallies b room)
+  pub tallied-exactly : (t : Tally) → (tallyCall reader b room ≡ ok t → Tallies reader b room t) × (Tallies reader b room t → tallyCall reader b room ≡ ok t)
+  tallied-exactly t = (calls.tallied-because reader b room t, calls.tallies reader b room)
 
-  pub audit-refused-exactly : (m p : ℕ) → (auditCall b room ≡ refused m p → Refuses b room m p) × (Refuses b room m p → auditCall b room ≡ refused m p)
-  audit-refused-exactly m p = (calls.audit-because b room m p, calls.audit-refuses b room)
+  pub audit-refused-exactly : (m p : ℕ) → (auditCall reader b room ≡ refused m p → AuditRefuses reader b room m p) × (AuditRefuses reader b room m p → auditCall reader b room ≡ refused m p)
+  audit-refused-exactly m p = (calls.audit-because reader b room m p, calls.audit-refuses reader b room)
 
-  pub tally-refused-exactly : (m p : ℕ) → (tallyCall b room ≡ refused m p → Refuses b room m p) × (Refuses b room m p → tallyCall b room ≡ refused m p)
-  tally-refused-exactly m p = (calls.tally-because b room m p, calls.tally-refuses b room)
+  pub tally-refused-exactly : (m p : ℕ) → (tallyCall reader b room ≡ refused m p → AuditRefuses reader b room m p) × (AuditRefuses reader b room m p → tallyCall reader b room ≡ refused m p)
+  tally-refused-exactly m p = (calls.tally-because reader b room m p, calls.tally-refuses reader b room)
 
-  pub refused-alike : (m p : ℕ) → (auditCall b room ≡ refused m p → tallyCall b room ≡ refused m p) × (tallyCall b room ≡ refused m p → auditCall b room ≡ refused m p)
-  refused-alike m p = (λ e. calls.tally-refuses b room (calls.audit-because b room m p e), λ e. calls.audit-refuses b room (calls.tally-because b room m p e))
+  pub refused-alike : (m p : ℕ) → (auditCall reader b room ≡ refused m p → tallyCall reader b room ≡ refused m p) × (tallyCall reader b room ≡ refused m p → auditCall reader b room ≡ refused m p)
+  refused-alike m p = (λ e. calls.tally-refuses reader b room (calls.audit-because reader b room m p e), λ e. calls.audit-refuses reader b room (calls.tally-because reader b room m p e))
 
-  pub call-refused-with : (m p : ℕ) → auditCall b room ≡ refused m p → Within b m p ⊎ ((m ≡ outputTooLong) × (p ≡ 0))
-  call-refused-with m p e = calls.refused-with b room (calls.audit-because b room m p e)
+  pub audit-refused-with :
+      Sound reader → (m p : ℕ) → auditCall reader b room ≡ refused m p → ((m ∈ reader .refusals) × (p ≤ length b)) ⊎ ((m ≡ outputTooLong) × (p ≡ 0))
+  audit-refused-with sound m p e = ⊎-elim
+      (λ h. inl (sound .refusal b m p h))
+      (λ h. inr h)
+      (calls.refused-with reader b room (calls.audit-because reader b room m p e))

@@ -1,11 +1,12 @@
--- What is read back from the lines of an accepted bundle: no number is cut by its width. Assumes nothing.
+-- What is read back from the lines: no number is cut by its width, where samples are no longer than the longest bundle, as in every bundle
+-- that a sound reader accepts. Assumes nothing.
 --
 --   read-at                     a number that was written is read back where it stands
 --   line-reads                  the three numbers of a line
---   content-few, units-few      bytes and delivered units of a sample of an accepted bundle, at most
---   found                       what the line of a sample says
---   said-found                  so the line and the sample's length give the outcome
---   line-each                   for all lines
+--   units-few                   delivered units of a sample, at most
+--   sample-line                 what stands in the line of a sample
+--   outcome-by-line             so the line and the sample's length give the outcome
+--   line-per-sample             for all lines
 use Prim.Native.Nat.{ℕ, _+_, _*_, _^_, _≤_, _<_}
 use mathlib.Core.Path.{_≡_, ap, sym, _∙_}
 use mathlib.Core.List.{List, [], _++_, append-assoc, append-nil}
@@ -19,14 +20,14 @@ use Rattle.words.specs.Bytes.{big, bytes}
 use Rattle.words.proofs.Bytes.{bytes-length, big-bytes, big-inside}
 use Rattle.bundles.specs.Limits.{bundleMost}
 use Rattle.bundles.specs.Recordings.{Recording, contentOf}
-use Rattle.bundles.specs.Bundles.{meaning}
-use Rattle.bundles.proofs.Promises.{limits-kept}
 use Rattle.resolution_rules.specs.Resolving.{judged, delivered}
 use Rattle.resolution_rules.proofs.Good.{good-rules, judged-refused}
-use Rattle.resolution_rules.proofs.Sizes.{delivered-count, content-most}
+use Rattle.resolution_rules.proofs.Sizes.{delivered-count}
 use Rattle.tally.specs.declared.Outcome.{Outcome}
-use Rattle.audit_rules.specs.Auditing.{refusalSize, placeSize, unitsSize, outcomeOf, lineOf, lines}
-use Rattle.audit_rules.specs.Rules.{Reads, said, Found, LineEach}
+use Rattle.numbers.specs.Places.{placeSize}
+use Rattle.audit_rules.specs.Auditing.{refusalSize, unitsSize, outcomeOf, lineOf, lines}
+use Rattle.audit_rules.specs.Rules.{Reads, outcomeByLine, SampleLine, LinePerSample}
+use Rattle.audit_rules.proofs.Refusals.{number-some, number-fits, place-inside}
 use Rattle.audit_rules.proofs.Outcomes.{empty-good, empty-nothing, outcome-empty, outcome-passed, outcome-refused, by-outcome}
 use Rattle.audit_rules.proofs.Lines.{line-refused, line-good, lines-length, line-at}
 
@@ -54,37 +55,35 @@ line-reads m p units h k l =
       units = read-at _ (refusalSize + placeSize) unitsSize units [] (drop-at (a ++ b) c (refusalSize + placeSize) front ∙ sym (append-nil c)) l;
     }
 
-module _ (b : List ℕ) (r : Recording) (accepted : meaning b ≡ ok r) where
-  pub content-few : (n : ℕ) → length (contentOf r n) ≤ bundleMost
-  content-few n = let c = content-most b r accepted n in let l = limits-kept b r accepted .bytes in omega arith
-
+-- samples of at most so many bytes as a sound reader lets them have
+module _ (r : Recording) (content-few : (n : ℕ) → length (contentOf r n) ≤ bundleMost) where
   pub units-few : (n : ℕ) → judged r n ≡ ok tt → length (delivered r n) ≤ bundleMost * bundleMost
   units-few n j = delivered-count r n (good-rules r n j) bundleMost content-few
 
-  pub found : (n : ℕ) → Found r n (lineOf r n) (outcomeOf r n)
-  found n = by-outcome r n
+  pub sample-line : (n : ℕ) → SampleLine r n (lineOf r n) (outcomeOf r n)
+  sample-line n = by-outcome r n
       (λ z.
       let e : lineOf r n ≡ bytes refusalSize 0 ++ bytes placeSize 0 ++ bytes unitsSize 0 = line-good r n (empty-good r n z) ∙ rw (empty-nothing r n z) in
-      rw (outcome-empty r n z, e) (Found.empty z (line-reads 0 0 0 (lit< tt) (lit< tt) (lit< tt))))
+      rw (outcome-empty r n z, e) (SampleLine.empty z (line-reads 0 0 0 (lit< tt) (lit< tt) (lit< tt))))
       (λ h j.
       let u = units-few n j in
-      rw (outcome-passed r n h j, line-good r n j) (Found.good h j (line-reads 0 0 (length (delivered r n)) (lit< tt) (lit< tt) (omega arith))))
+      rw (outcome-passed r n h j, line-good r n j) (SampleLine.good h j (line-reads 0 0 (length (delivered r n)) (lit< tt) (lit< tt) (omega arith))))
       (λ m p j.
       let w = judged-refused r n m p j in
-      let k = w .1 in
-      let l = w .2 in
+      let k = number-fits r n w in
+      let l = place-inside r n w in
       let c = content-few n in
-      rw (outcome-refused r n j, line-refused r n j) (Found.bad j w (line-reads m p 0 (omega arith) (omega arith) (lit< tt))))
+      rw (outcome-refused r n j, line-refused r n j) (SampleLine.bad j w (line-reads m p 0 (omega arith) (omega arith) (lit< tt))))
 
-  pub said-found : (n : ℕ) (s : List ℕ) (o : Outcome) → Found r n s o → said s (length (contentOf r n)) ≡ o
-  said-found n s o (Found.good h j w) = rw (w .refusal, ne-eqb (length (contentOf r n)) 0 (λ z. absurd (omega arith)))
-  said-found n s o (Found.empty z w) = rw (w .refusal, z)
-  said-found n s o (Found.bad {m} {p} j k w) = let a = k .0 in rw (w .refusal, ne-eqb m 0 (λ z. absurd (omega arith)))
+  pub outcome-by-line : (n : ℕ) (s : List ℕ) (o : Outcome) → SampleLine r n s o → outcomeByLine s (length (contentOf r n)) ≡ o
+  outcome-by-line n s o (SampleLine.good h j w) = rw (w .refusal, ne-eqb (length (contentOf r n)) 0 (λ z. absurd (omega arith)))
+  outcome-by-line n s o (SampleLine.empty z w) = rw (w .refusal, z)
+  outcome-by-line n s o (SampleLine.bad {m} {p} j k w) = let a = number-some r n k in rw (w .refusal, ne-eqb m 0 (λ z. absurd (omega arith)))
 
-  pub line-each : LineEach r (lines r)
-  line-each =
+  pub line-per-sample : LinePerSample r (lines r)
+  line-per-sample =
       record {
         size = lines-length r;
-        found = λ n h l. rw (line-at r n h l) (found n);
-        says = λ n h l. rw (line-at r n h l) (said-found n (lineOf r n) (outcomeOf r n) (found n));
+        line = λ n h l. rw (line-at r n h l) (sample-line n);
+        outcome = λ n h l. rw (line-at r n h l) (outcome-by-line n (lineOf r n) (outcomeOf r n) (sample-line n));
       }

@@ -1,24 +1,24 @@
 -- The audit of a bundle (01, 'Audit and naming list').
 --
---   outcomeOf r n          what the audit finds of sample n: passed, empty or refused
---   lineSize               the bytes of a line: 13
---   lineBytes v units      an audit line
---   lineOf r n             the line of sample n
---   lines r                a line a sample, in order
---   tally r                how many samples passed, are empty, are refused
---   auditCall b room       the call on a bundle, with room for the lines: 1 to 13, 29, or the lines
---   tallyCall b room       the same call's tally
+--   outcomeOf r n              what the audit finds of sample n: passed, empty or refused
+--   lineSize                   the bytes of a line: 13
+--   lineBytes v units          an audit line
+--   lineOf r n                 the line of sample n
+--   lines r                    a line a sample, in order
+--   tally r                    how many samples passed, are empty, are refused
+--   auditCall reader b room    the call on a bundle, with room for the lines: 1 to 13, 29, or the lines
+--   tallyCall reader b room    the same call's tally
 use Prim.Native.Nat.{ℕ, _+_}
-use mathlib.Core.List.{List, _++_, map}
+use mathlib.Core.List.{List, [], _∷_, _++_, map}
 use lib.ListN.{length}
-use Rattle.words.specs.Tests.{_<?_, _≡?_, pick}
-use Rattle.words.specs.RefusalNumbers.{outputTooLong}
-use Rattle.words.specs.Refusals.{_if_, Answer, refused, ok, Verdict, _atPlace_, _andThen_, numberOf, placeOf}
+use Rattle.words.specs.Tests.{_≡?_, pick}
+use Rattle.words.specs.Refusals.{Answer, refused, ok, Verdict, _andThen_, numberOf, placeOf}
 use Rattle.words.specs.Lists.{each, upto}
 use Rattle.words.specs.Bytes.{bytes}
-use Rattle.words.specs.Buffers.{within}
+use Rattle.words.specs.Buffers.{roomVerdict, within}
+use Rattle.numbers.specs.Places.{placeSize}
 use Rattle.bundles.specs.Recordings.{Recording, sampleCount, contentOf}
-use Rattle.bundles.specs.Bundles.{meaning}
+use Rattle.bundles.specs.Readers.{Reader}
 use Rattle.resolution_rules.specs.Resolving.{judged, delivered, good}
 use Rattle.resolution_rules.specs.Calls.{onBundle}
 use Rattle.tally.specs.Tallies.{tallied}
@@ -29,9 +29,6 @@ use Rattle.tally.specs.declared.Tally.{Tally}
 -- refusal, place, units delivered
 abbrev pub refusalSize : ℕ
 refusalSize = 1
-
-abbrev pub placeSize : ℕ
-placeSize = 4
 
 abbrev pub unitsSize : ℕ
 unitsSize = 8
@@ -61,14 +58,14 @@ module _ (r : Recording) where
   unfoldable pub tally : Tally
   tally = tallied (map outcomeOf (upto (sampleCount (r .layout))))
 
--- 29 where the lines do not fit
+-- the tally, but 29 where the lines do not fit
 abbrev pub tallyWithin : Recording → ℕ → Answer Tally
-tallyWithin r room = (outputTooLong if room <? length (lines r)) atPlace 0 andThen ok (tally r)
+tallyWithin r room = roomVerdict (room ∷ []) (lines r ∷ []) andThen ok (tally r)
 
-module _ (b : List ℕ) (room : ℕ) where
+module _ (reader : Reader) (b : List ℕ) (room : ℕ) where
   unfoldable pub auditCall : Answer (List ℕ)
-  auditCall = within room (onBundle (meaning b) (λ r. ok (lines r)))
+  auditCall = within room (onBundle reader b (λ r. ok (lines r)))
 
   -- refused exactly as the lines are
   unfoldable pub tallyCall : Answer Tally
-  tallyCall = onBundle (meaning b) (λ r. tallyWithin r room)
+  tallyCall = onBundle reader b (λ r. tallyWithin r room)

@@ -7,45 +7,42 @@
 --   Putting, putting-start, -none, -some, -end    a loop that writes
 --   list-few                              the list is not too long for its numbers
 --   names-number, names-room, names-listed    what the call on a recording answers
---   call-filled, call-bundle              the call by a table that was filled, and on a bundle that is refused
+--   call-filled                           the call by a table that was filled
 use Prim.Native.Nat.{ℕ, zero, suc, _+_, _-_, _*_, _≤_, _<_}
 use mathlib.Core.Path.{_≡_, refl, ap, sym, _∙_}
-use mathlib.Core.List.{List, [], _∷_, _++_, map, append-assoc, append-nil}
-use mathlib.Core.Bool.{Bool, true, false}
+use mathlib.Core.List.{List, [], _∷_, _++_, map, append-nil}
 use native.Mathlib.Omega.{arith}
 use native.Mathlib.Nat.{suc-mul}
 use borrow.Author.Tests.{eqb-true, eqb-false, leb-true, leb-false}
 use lib.Dec.{eqb, leb}
 use lib.ListN.{length, length-append, length-map, length-set}
-use Rattle.words.specs.Tests.{pick}
 use Rattle.words.specs.RefusalNumbers.{outputTooLong}
-use Rattle.words.specs.Refusals.{Answer, refused, ok}
-use Rattle.words.specs.Lists.{keep, each, upto}
+use Rattle.words.specs.Refusals.{refused, ok}
+use Rattle.words.specs.Lists.{each, upto}
 use Rattle.words.specs.Buffers.{writeAt, overwrite, within}
 use Rattle.words.proofs.Tests.{by-bool}
 use Rattle.words.proofs.Refusals.{by-verdict, at-refused}
 use Rattle.words.proofs.Lists.{each-append}
 use Rattle.words.proofs.Kept.{keep-few}
 use Rattle.words.proofs.Rows.{upto-more}
-use Rattle.words.proofs.Numbered.{put-after}
 use Rattle.words.proofs.Buffers.{write-none, write-first, write-length, write-write, within-room, within-not}
 use Rattle.units.specs.Units.{Sample, isExtractor}
 use Rattle.units.specs.Aggregators.{units, extractors}
-use Rattle.samples.specs.Check.{check, wellFormed}
-use Rattle.bundles.specs.Limits.{bundleMost}
+use Rattle.samples.specs.Check.{check}
+use Rattle.bundles.specs.Limits.{bundleMost, sampleMost}
 use Rattle.bundles.specs.Recordings.{Recording, sampleCount, contentOf}
-use Rattle.bundles.specs.Bundles.{bundleVerdict, meaning}
+use Rattle.bundles.specs.Readers.{firstLayout}
 use Rattle.tables.specs.Tables.{sampleTotal, layoutIn, recordingIn, tableMost, flagIn, flagged}
 use Rattle.tables.proofs.Layouts.{samples-count, samples-most}
 use Rattle.tables.proofs.Flags.{flagged-recording, flagged-layout, flagged-case, flag-set, flag-kept}
 use Rattle.filling.specs.Filling.{filling, tableAfter}
 use Rattle.filling.specs.declared.Filled.the-variants.{Done}
 use Rattle.filling.proofs.Promises.{table-accepted, table-means}
-use Rattle.resolution_rules.specs.Resolving.{sampleOf, own}
+use Rattle.resolution_rules.specs.Resolving.{own}
 use Rattle.resolution_rules.specs.Calls.{numberFault}
 use Rattle.resolution_rules.proofs.Sizes.{units-count}
 use Rattle.judging.proofs.Amounts.{contents-most}
-use Rattle.naming_list_rules.specs.Naming.{Namer, namer, namesSample, namersIn, namingList, listBytes, names, namesCall}
+use Rattle.naming_list_rules.specs.Naming.{Namer, namer, namesSample, namersIn, namingList, entrySize, listBytes, names, namesCall}
 use Rattle.naming_list_rules.proofs.Listing.{list-size}
 use Rattle.naming_list.proofs.Namers.{namers-not, list-none, list-append}
 
@@ -121,7 +118,7 @@ module _ (b t₀ : List ℕ) (s : ℕ) where
   pub record Counting (n count : ℕ) (t : List ℕ) : Type 0 where
     pub recording : recordingIn b t ≡ recordingIn b t₀
     pub lays : layoutIn t ≡ layoutIn t₀
-    pub long : length t ≡ length t₀
+    pub equal-length : length t ≡ length t₀
     pub inside : n ≤ sampleCount (layoutIn t₀)
     pub number : count ≡ length (sofar (recordingIn b t₀) s n)
     pub flags : (m : ℕ) → 0 < m → m ≤ n → flagIn t m ≡ length (namersIn (recordingIn b t₀) s m)
@@ -132,7 +129,7 @@ module _ (b t₀ : List ℕ) (s : ℕ) where
       record {
         recording = refl;
         lays = refl;
-        long = refl;
+        equal-length = refl;
         inside = omega arith;
         number = ap length (sym (sofar-none R s));
         flags = λ m h l. absurd (omega arith);
@@ -160,11 +157,11 @@ module _ (b t₀ : List ℕ) (s : ℕ) where
         let w = sofar-count R s n in
         let limit = samples-most t₀ in
         let z : sampleTotal t ≡ sampleCount (layoutIn t₀) = sym (samples-count t) ∙ ap sampleCount (c .lays) in
-        let u = c .long in
+        let u = c .equal-length in
         record {
           recording = flagged-recording b t (n + 1) f ∙ c .recording;
           lays = flagged-layout t (n + 1) f ∙ c .lays;
-          long = flagged-case t (n + 1) f (λ x. length x ≡ length t₀) u (length-set t _ f ∙ u);
+          equal-length = flagged-case t (n + 1) f (λ x. length x ≡ length t₀) u (length-set t _ f ∙ u);
           inside = omega arith;
           number = omega arith;
           flags = λ m i j. by-bool (eqb m (n + 1))
@@ -189,19 +186,19 @@ module _ (b t₀ : List ℕ) (s : ℕ) where
 module _ (r : Recording) (s : ℕ) (o : List ℕ) where
   pub record Putting (n at : ℕ) (out : List ℕ) : Type 0 where
     pub inside : n ≤ sampleCount (r .layout)
-    pub here : at ≡ length (sofar r s n) * 6
+    pub here : at ≡ length (sofar r s n) * entrySize
     pub is : out ≡ writeAt o 0 (listBytes (sofar r s n))
 
   pub putting-start : Putting 0 0 o
   putting-start = record { inside = omega arith; here = let e = ap length (sofar-none r s) in omega arith; is = rw (sofar-none r s, list-none) (write-none o 0) }
 
   -- samples of at most so many bytes have at most so many entries
-  pub putting-most : (c : ℕ) → ((k : ℕ) → length (contentOf r k) ≤ c) → (n at : ℕ) (out : List ℕ) → Putting n at out → at ≤ n * c * 6
+  pub putting-most : (c : ℕ) → ((k : ℕ) → length (contentOf r k) ≤ c) → (n at : ℕ) (out : List ℕ) → Putting n at out → at ≤ n * c * entrySize
   putting-most c most n at out p = let a = sofar-few r s c most n in let h = p .here in omega arith
 
   module _ (fits : length (listBytes (namingList r s)) ≤ length o) (n at : ℕ) (out : List ℕ) (c : Putting n at out) where
     -- what is written so far, and sample m too, fits
-    room : (m : ℕ) → m ≤ sampleCount (r .layout) → length (sofar r s m) * 6 ≤ length o
+    room : (m : ℕ) → m ≤ sampleCount (r .layout) → length (sofar r s m) * entrySize ≤ length o
     room m h =
         let a = list-size (namingList r s) in
         let b = sofar-most r s m (sampleCount (r .layout)) h in
@@ -223,7 +220,7 @@ module _ (r : Recording) (s : ℕ) (o : List ℕ) where
           none-left (x ∷ xs) e = absurd (omega arith)
 
       -- there is room for the entries of the next sample
-      pub putting-room : at + length (namersIn r s (n + 1)) * 6 ≤ length out
+      pub putting-room : at + length (namersIn r s (n + 1)) * entrySize ≤ length out
       putting-room =
           let a = room (n + 1) (omega arith) in
           let b = sofar-count r s n in
@@ -231,7 +228,7 @@ module _ (r : Recording) (s : ℕ) (o : List ℕ) where
           let l = putting-length in
           omega arith
 
-      pub putting-some : {k : ℕ} {out₁ : List ℕ} → k ≡ length (namersIn r s (n + 1)) → out₁ ≡ writeAt out at (listBytes (map (namer (n + 1)) (namersIn r s (n + 1)))) → Putting (n + 1) (at + k * 6) out₁
+      pub putting-some : {k : ℕ} {out₁ : List ℕ} → k ≡ length (namersIn r s (n + 1)) → out₁ ≡ writeAt out at (listBytes (map (namer (n + 1)) (namersIn r s (n + 1)))) → Putting (n + 1) (at + k * entrySize) out₁
       putting-some {k} {out₁} e f =
           let B = listBytes (sofar r s n) in
           let E = listBytes (entriesOf r s (n + 1)) in
@@ -254,7 +251,7 @@ module _ (r : Recording) (s : ℕ) (o : List ℕ) where
         c .is ∙ ap (λ (k : ℕ). writeAt o 0 (listBytes (sofar r s k))) e ∙ rw (sofar-all r s) (write-first o (listBytes (namingList r s)))
 
 -- the entries of a table's recording are few
-pub list-few : (b t : List ℕ) (s : ℕ) → length b ≤ bundleMost → length (namingList (recordingIn b t) s) ≤ 4096 * bundleMost
+pub list-few : (b t : List ℕ) (s : ℕ) → length b ≤ bundleMost → length (namingList (recordingIn b t) s) ≤ sampleMost * bundleMost
 unfolding recordingIn
 list-few b t s h =
     let r = recordingIn b t in
@@ -280,11 +277,6 @@ module _ (r : Recording) (s room : ℕ) where
 
 -- the call by a table that was filled
 module _ (b t : List ℕ) (done : filling b (length t) ≡ Done) where
-  pub call-filled : {u : List ℕ} → u ≡ tableAfter b t → (s room : ℕ) → within room (names (recordingIn b u) s) ≡ namesCall b s room
+  pub call-filled : {u : List ℕ} → u ≡ tableAfter b t → (s room : ℕ) → within room (names (recordingIn b u) s) ≡ namesCall firstLayout b s room
   unfolding namesCall
   call-filled f s room = rw (f, table-means b t done, table-accepted b t done)
-
--- a bundle that is refused
-pub call-bundle : (b : List ℕ) (s room : ℕ) {m p : ℕ} → bundleVerdict b ≡ refused m p → namesCall b s room ≡ refused m p
-unfolding namesCall meaning
-call-bundle b s room e = rw e

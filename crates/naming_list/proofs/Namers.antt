@@ -5,16 +5,15 @@
 --   namers-formed, namers-not            in a well-formed sample they are those of the naming list; in another there are none
 --   list-none, list-append               entries one after the other
 --   Looking, looking-start, -skip, -take, -few, -count, -written    a loop that looks for them, counts them and writes their entries
-use Prim.Native.Nat.{ℕ, zero, suc, _+_, _-_, _*_, _≤_, _<_}
+use Prim.Native.Nat.{ℕ, suc, _+_, _-_, _*_, _≤_, _<_}
 use mathlib.Core.Path.{_≡_, refl, ap, sym, _∙_}
-use mathlib.Core.List.{List, [], _∷_, _++_, map, append-assoc, append-nil, List·Memᴰ, List·Memᴰ·head, List·Memᴰ·tail}
-use mathlib.Core.Bool.{Bool, true, false, _&&_}
+use mathlib.Core.List.{List, [], _∷_, _++_, map, append-assoc, append-nil, List·Memᴰ}
+use mathlib.Core.Bool.{true, false, _&&_}
 use native.Mathlib.Omega.{arith}
-use borrow.Author.Tests.{ne-eqb, eq-eqb}
-use lib.Dec.{eqb}
+use borrow.Author.Tests.{ne-eqb}
 use lib.ListN.{length, length-append, length-map}
 use Rattle.words.specs.Tests.{_≡?_, pick}
-use Rattle.words.specs.Refusals.{refused, ok, Verdict}
+use Rattle.words.specs.Refusals.{refused, ok}
 use Rattle.words.specs.Lists.{keep, each}
 use Rattle.words.specs.Bytes.{bytes}
 use Rattle.words.specs.Buffers.{writeAt, put}
@@ -29,19 +28,16 @@ use Rattle.words.proofs.Buffers.{write-none, put-length}
 use Rattle.numbers.proofs.Laws.{L-some}
 use Rattle.units.specs.Units.{Sample, end, next, isAggregator, isExtractor}
 use Rattle.units.specs.Aggregators.{includedStart, units, extractors}
-use Rattle.units.specs.Steps.{extractorOf}
 use Rattle.units.specs.declared.Extractor.{Extractor}
-use Rattle.samples.specs.Check.{check, wellFormed}
+use Rattle.samples.specs.Check.{check}
 use Rattle.samples.proofs.Laws.{extractor-step}
-use Rattle.bundles.specs.Limits.{bundleMost}
 use Rattle.bundles.specs.Recordings.{Layout, Recording}
 use Rattle.links.specs.Links.{sampleNamed, nameFault}
-use Rattle.copies.specs.Flat.{flatPlaces}
 use Rattle.copies.proofs.Flat.{flat-aggregator, flat-other, flat-end, flat-step, whole-stretch, flat-units, Walking, walking-start}
 use Rattle.copies.proofs.Rest.{walking-skip, walking-take}
-use Rattle.resolution_rules.specs.Resolving.{sampleOf, own, named, nameFaultAt}
+use Rattle.resolution_rules.specs.Resolving.{own, named, nameFaultAt}
 use Rattle.resolution_rules.proofs.Delivered.{aggregator-only}
-use Rattle.naming_list_rules.specs.Naming.{Namer, namer, namesSample, namersIn, entryBytes, listBytes}
+use Rattle.naming_list_rules.specs.Naming.{Namer, namer, namesSample, namersIn, entryBytes, listBytes, entrySize}
 use Rattle.naming_list_rules.proofs.Listing.{list-size}
 use Rattle.naming_list.specs.Steps.{namesWith, namesAt, namersFrom, withEntry}
 
@@ -121,7 +117,7 @@ module _ (y : Layout) (s n : ℕ) (x : Sample) (o : List ℕ) (at : ℕ) where
     pub split : namersFrom y s n x 0 ≡ done ++ namersFrom y s n x p
     pub few : count ≤ p
     pub size : length out ≡ length o
-    pub written : at + length (namersFrom y s n x 0) * 6 ≤ length o → out ≡ writeAt o at (listBytes (map (namer n) done))
+    pub written : at + length (namersFrom y s n x 0) * entrySize ≤ length o → out ≡ writeAt o at (listBytes (map (namer n) done))
 
   pub looking-start : check x ≡ ok tt → Looking 0 0 o
   looking-start f =
@@ -167,7 +163,7 @@ module _ (y : Layout) (s n : ℕ) (x : Sample) (o : List ℕ) (at : ℕ) where
           }
 
       abbrev place : ℕ
-      place = at + count * 6
+      place = at + count * entrySize
 
       abbrev after : List ℕ
       after = withEntry out place n p
@@ -188,7 +184,7 @@ module _ (y : Layout) (s n : ℕ) (x : Sample) (o : List ℕ) (at : ℕ) where
             written = λ r.
                 let B = listBytes (map (namer n) (c .done)) in
                 let a : length (namersFrom y s n x 0) ≡ length (c .done) + suc (length (namersFrom y s n x (next x p))) = ap length (c .split ∙ ap (λ l. c .done ++ l) e) ∙ length-append (c .done) (p ∷ namersFrom y s n x (next x p)) in
-                let b : length B ≡ length (c .done) * 6 = list-size (map (namer n) (c .done)) ∙ rw (length-map (c .done) (namer n)) in
+                let b : length B ≡ length (c .done) * entrySize = list-size (map (namer n) (c .done)) ∙ rw (length-map (c .done) (namer n)) in
                 let b2 : length (B ++ bytes 2 n) ≡ length B + 2 = length-append B (bytes 2 n) ∙ rw (bytes-length 2 n) in
                 let b4 = bytes-length 4 p in
                 let u2 = bytes-length 2 n in
@@ -210,7 +206,7 @@ module _ (y : Layout) (s n : ℕ) (x : Sample) (o : List ℕ) (at : ℕ) where
     pub looking-count : end x ≤ p → count ≡ length (namersFrom y s n x 0)
     looking-count h = c .number ∙ ap length (sym (whole h))
 
-    pub looking-written : end x ≤ p → at + count * 6 ≤ length o → out ≡ writeAt o at (listBytes (map (namer n) (namersFrom y s n x 0)))
+    pub looking-written : end x ≤ p → at + count * entrySize ≤ length o → out ≡ writeAt o at (listBytes (map (namer n) (namersFrom y s n x 0)))
     looking-written h f =
         let e = looking-count h in
         c .written (omega arith) ∙ ap (λ (l : List ℕ). writeAt o at (listBytes (map (namer n) l))) (sym (whole h))

@@ -23,7 +23,8 @@ use Rattle.bundles.specs.Limits.{bundleMost, sampleMost}
 use Rattle.bundles.specs.Recordings.{Layout}
 use Rattle.links.specs.Links.{sampleNamed, nameFault}
 use Rattle.copies.specs.Flat.{flatPlaces}
-use Rattle.naming_list_rules.specs.Naming.{sampleSize, placeSize, entrySize}
+use Rattle.numbers.specs.Places.{placeSize}
+use Rattle.naming_list_rules.specs.Naming.{sampleSize, entrySize}
 use Rattle.naming_list.specs.declared.Listed.{Listed}
 use Rattle.naming_list.specs.declared.Listed.the-variants.{Refused, Count}
 

@@ -10,6 +10,7 @@ ghost use Rattle.units.specs.Units.{sample};
 ghost use Rattle.samples.specs.Check.{check};
 ghost use Rattle.bundles.specs.Limits.{bundleMost};
 ghost use Rattle.bundles.specs.Recordings.{sampleCount};
+ghost use Rattle.bundles.specs.Readers.{firstLayout};
 ghost use Rattle.tables.specs.Tables.{tableMost, layoutIn, recordingIn, flagIn};
 ghost use Rattle.naming_list_rules.specs.Naming.{namer, namersIn, namingList, entrySize, listBytes, names, namesCall};
 ghost use Rattle.naming_list.specs.Steps.{namesWith, namesAt, namersFrom, listMost, withEntry, answerOf};
@@ -17,6 +18,7 @@ use filling::Filled;
 use links::Named;
 use numbers::ByteOffset;
 use numbers::LengthSize;
+use numbers::PLACE_SIZE;
 use numbers::Refusal;
 use numbers::SampleNumber;
 use numbers::refusals;
@@ -28,9 +30,7 @@ use units::Track;
 // An entry of the list: the number of the extractor's own sample in 2 bytes, its place there in 4.
 const SAMPLE_SIZE: usize = 2;
 
-const PLACE_SIZE: usize = 4;
-
-const ENTRY_SIZE: usize = 6;
+const ENTRY_SIZE: usize = SAMPLE_SIZE + PLACE_SIZE;
 
 // The naming list of a sample: how many bytes of the output are written, or a refusal.
 pub enum Listed {
@@ -215,7 +215,7 @@ fn list_sample(b: &[u8], t: &mut [u64], s: SampleNumber, out: &mut [u8]) -> List
 // The extractors that name sample s: 1 to 13, 30, 29; or the list over the start of the buffer, 6 bytes an extractor, and how many bytes
 // that is. After a refusal the buffer is as it was.
 pub fn names(b: &[u8], s: SampleNumber, out: &mut [u8]) -> Listed
-    ensures { λ r. ⌜ Wrote (now (out .entry)) (now (out .exit)) (answerOf r) (namesCall (now (b .entry)) (s .0) (length (now (out .entry)))) ⌝ }
+    ensures { λ r. ⌜ Wrote (now (out .entry)) (now (out .exit)) (answerOf r) (namesCall firstLayout (now (b .entry)) (s .0) (length (now (out .entry)))) ⌝ }
 {
     let mut t = [0u64; tables::TABLE_SIZE];
     let filled = filling::fill_table(b, &mut t);

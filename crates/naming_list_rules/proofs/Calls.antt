@@ -2,7 +2,7 @@
 --
 --   names-number, names-there      the call on a recording
 --   names-kept                     the bytes of the sample asked for do not matter
---   names-means, resolve-means     the calls on an accepted bundle
+--   names-means, names-bundle      the call on an accepted bundle, and on one that is refused
 --   lists, lists-because, refuses, refuses-because     the naming call answers, or is refused, exactly if ..
 --   refuses-with                   30 or 29, at 0, or the bundle's own refusal
 --   same-answer                    calls with the same answer
@@ -24,10 +24,11 @@ use Rattle.words.proofs.Tests.{by-bool}
 use Rattle.words.proofs.Refusals.{by-answer, ok-same, ok-refused, refused-along}
 use Rattle.words.proofs.Buffers.{within-room, within-not}
 use Rattle.bundles.specs.Recordings.{Recording, sampleCount, replaced}
-use Rattle.resolution_rules.specs.Calls.{resolve}
+use Rattle.bundles.specs.Readers.{Reader}
+use Rattle.resolution_rules.specs.Readers.{DifferentTracks}
 use Rattle.resolution_rules.proofs.Calls.{number-good, number-bad, by-count}
-use Rattle.naming_list_rules.specs.Naming.{namingList, listBytes, names}
-use Rattle.naming_list_rules.specs.Rules.{DifferentTracks, Reader, namesBy, resolveBy, Lists, Refuses, SameAnswer}
+use Rattle.naming_list_rules.specs.Naming.{namingList, listBytes, names, namesCall}
+use Rattle.naming_list_rules.specs.Rules.{NamesAnswers, NamesRefuses, SameAnswer}
 use Rattle.naming_list_rules.proofs.Replaced.{layout-kept}
 use Rattle.naming_list_rules.proofs.Listing.{list-size, list-kept}
 use Rattle.naming_list_rules.proofs.Entries.{big-before}
@@ -46,56 +47,52 @@ unfolding names
 names-kept r s new apart = rw (list-kept r s new apart, layout-kept r s new)
 
 module _ (reader : Reader) (b : List ℕ) where
-  pub names-means : {r : Recording} (s room : ℕ) → reader .means b ≡ ok r → namesBy reader b s room ≡ within room (names r s)
-  unfolding namesBy
+  pub names-means : {r : Recording} (s room : ℕ) → reader .means b ≡ ok r → namesCall reader b s room ≡ within room (names r s)
+  unfolding namesCall
   names-means s room e = rw e
 
-  pub resolve-means : {r : Recording} (n room : ℕ) → reader .means b ≡ ok r → resolveBy reader b n room ≡ within room (resolve r n)
-  unfolding resolveBy
-  resolve-means n room e = rw e
-
-  names-not : {m p : ℕ} (s room : ℕ) → reader .means b ≡ refused m p → namesBy reader b s room ≡ refused m p
-  unfolding namesBy
-  names-not s room e = rw e
+  pub names-bundle : {m p : ℕ} (s room : ℕ) → reader .means b ≡ refused m p → namesCall reader b s room ≡ refused m p
+  unfolding namesCall
+  names-bundle s room e = rw e
 
   module _ (s room : ℕ) where
-    pub lists : {out : List ℕ} → Lists reader b s room out → namesBy reader b s room ≡ ok out
+    pub lists : {out : List ℕ} → NamesAnswers reader b s room out → namesCall reader b s room ≡ ok out
     lists {out} w =
         names-means s room (w .means) ∙ ap (within room) (names-there (w .recording) s (w .some) (w .there) ∙ ap ok (sym (w .lists))) ∙ within-room room out (w .fits)
 
-    pub refuses : {m p : ℕ} → Refuses reader b s room m p → namesBy reader b s room ≡ refused m p
-    refuses (Refuses.bundle e) = names-not s room e
-    refuses (Refuses.number r e h) = names-means s room e ∙ ap (within room) (names-number r s h)
-    refuses (Refuses.tooLong r e h l w) =
+    pub refuses : {m p : ℕ} → NamesRefuses reader b s room m p → namesCall reader b s room ≡ refused m p
+    refuses (NamesRefuses.bundle e) = names-bundle s room e
+    refuses (NamesRefuses.number r e h) = names-means s room e ∙ ap (within room) (names-number r s h)
+    refuses (NamesRefuses.tooLong r e h l w) =
         let z = list-size (namingList r s) in
         names-means s room e ∙ ap (within room) (names-there r s h l) ∙ within-not room (listBytes (namingList r s)) (omega arith)
 
     -- one of the two
-    answered : {G : Type 0} → ((m p : ℕ) → Refuses reader b s room m p → G) → ((out : List ℕ) → Lists reader b s room out → G) → G
+    answered : {G : Type 0} → ((m p : ℕ) → NamesRefuses reader b s room m p → G) → ((out : List ℕ) → NamesAnswers reader b s room out → G) → G
     answered f g = by-answer (reader .means b)
-        (λ m p e. f m p (Refuses.bundle e))
+        (λ m p e. f m p (NamesRefuses.bundle e))
         (λ r e. by-count (sampleCount (r .layout)) s
-        (λ h. f noSuchNumber 0 (Refuses.number r e h))
+        (λ h. f noSuchNumber 0 (NamesRefuses.number r e h))
         (λ h l.
         let z = list-size (namingList r s) in
         by-bool (ltb room (length (listBytes (namingList r s))))
-        (λ t. let k = ltb-true room (length (listBytes (namingList r s))) t in f outputTooLong 0 (Refuses.tooLong r e h l (omega arith)))
+        (λ t. let k = ltb-true room (length (listBytes (namingList r s))) t in f outputTooLong 0 (NamesRefuses.tooLong r e h l (omega arith)))
         (λ t. g (listBytes (namingList r s)) (record { recording = r; means = e; some = h; there = l; lists = refl; fits = ltb-false _ _ t }))))
 
-    pub refuses-because : (m p : ℕ) → namesBy reader b s room ≡ refused m p → Refuses reader b s room m p
+    pub refuses-because : (m p : ℕ) → namesCall reader b s room ≡ refused m p → NamesRefuses reader b s room m p
     refuses-because m p e = answered
-        (λ a c w. refused-along (Refuses reader b s room) (sym (refuses w) ∙ e) w)
+        (λ a c w. refused-along (NamesRefuses reader b s room) (sym (refuses w) ∙ e) w)
         (λ out w. ok-refused (sym e ∙ lists w))
 
-    pub lists-because : (out : List ℕ) → namesBy reader b s room ≡ ok out → Lists reader b s room out
+    pub lists-because : (out : List ℕ) → namesCall reader b s room ≡ ok out → NamesAnswers reader b s room out
     lists-because out e = answered
         (λ a c w. ok-refused (sym (refuses w) ∙ e))
-        (λ o w. subst (Lists reader b s room) (ok-same (sym (lists w) ∙ e)) w)
+        (λ o w. subst (NamesAnswers reader b s room) (ok-same (sym (lists w) ∙ e)) w)
 
-    pub refuses-with : (m p : ℕ) → Refuses reader b s room m p → (reader .means b ≡ refused m p) ⊎ (((m ≡ outputTooLong) ⊎ (m ≡ noSuchNumber)) × (p ≡ 0))
-    refuses-with m p (Refuses.bundle e) = inl e
-    refuses-with m p (Refuses.number r e h) = inr (inr refl, refl)
-    refuses-with m p (Refuses.tooLong r e h l w) = inr (inl refl, refl)
+    pub refuses-with : (m p : ℕ) → NamesRefuses reader b s room m p → (reader .means b ≡ refused m p) ⊎ (((m ≡ outputTooLong) ⊎ (m ≡ noSuchNumber)) × (p ≡ 0))
+    refuses-with m p (NamesRefuses.bundle e) = inl e
+    refuses-with m p (NamesRefuses.number r e h) = inr (inr refl, refl)
+    refuses-with m p (NamesRefuses.tooLong r e h l w) = inr (inl refl, refl)
 
 -- the same answer, by two calls with two buffers
 pub same-answer : {o o₁ o' o₁' : List ℕ} {a a' : Answer ℕ} (x : Answer (List ℕ)) → Wrote o o₁ a x → Wrote o' o₁' a' x → SameAnswer a a' o₁ o₁'

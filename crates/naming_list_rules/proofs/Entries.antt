@@ -3,8 +3,9 @@
 --   big-after            a number after other bytes
 --   big-before           a number before other bytes
 --   entry-read           what stands at the start of an entry's bytes
---   entries-read         what stands at 6 bytes an entry
---   entries-fit          the entries of a naming list fit their bytes
+--   entries-read         what stands at an entry's number of bytes each
+--   Fits, sound-fits     numbers and places fit their bytes, in every bundle that a sound reader accepts
+--   entries-fit          so do the entries of a naming list
 --   list-read            so they are read back
 --   unlisted-read        a sample whose number is read from no entry is not in the list
 use Prim.Native.Nat.{ℕ, zero, suc, _+_, _*_, _^_, _≤_, _<_}
@@ -14,14 +15,18 @@ use native.Mathlib.Omega.{arith}
 use native.Mathlib.Nat.{zero-add}
 use lib.ListN.{length, getD, length-append}
 use lib.Seq.{drop-at}
+use Rattle.words.specs.Refusals.{ok}
 use Rattle.words.specs.Lists.{each, nth}
 use Rattle.words.specs.Bytes.{big, bytes}
 use Rattle.words.proofs.Bytes.{bytes-length, big-bytes, big-inside}
-use Rattle.bundles.specs.Recordings.{Recording}
+use Rattle.bundles.specs.Recordings.{Recording, sampleCount, contentOf}
+use Rattle.bundles.specs.Readers.{Reader}
 use Rattle.links.proofs.Words.{mem-nth}
+use Rattle.resolution_rules.specs.Readers.{Sound}
 use Rattle.resolution_rules.proofs.Good.{extractor-inside}
-use Rattle.naming_list_rules.specs.Naming.{Namer, namer, namingList, sampleSize, placeSize, entryBytes, listBytes}
-use Rattle.naming_list_rules.specs.Rules.{Unlisted, Fits}
+use Rattle.numbers.specs.Places.{placeSize}
+use Rattle.naming_list_rules.specs.Naming.{Namer, namer, namingList, sampleSize, entrySize, entryBytes, listBytes}
+use Rattle.naming_list_rules.specs.Rules.{Unlisted}
 use Rattle.naming_list_rules.proofs.Listing.{list-only, entry-size, list-size}
 
 pub big-after : (a s : List ℕ) (q n : ℕ) → q + n ≤ length s → big (a ++ s) (length a + q) n ≡ big s q n
@@ -54,19 +59,26 @@ abbrev pub noNamer : Namer
 noNamer = namer 0 0
 
 pub entries-read : (es : List Namer) → ((e : Namer) → List·Memᴰ e es → EntryFits e) → (i : ℕ) → i < length es →
-    (big (listBytes es) (i * 6) sampleSize ≡ getD es i noNamer .sample) × (big (listBytes es) (i * 6 + sampleSize) placeSize ≡ getD es i noNamer .place)
+    (big (listBytes es) (i * entrySize) sampleSize ≡ getD es i noNamer .sample) × (big (listBytes es) (i * entrySize + sampleSize) placeSize ≡ getD es i noNamer .place)
 unfolding listBytes each
 entries-read [] h i l = absurd (omega arith)
 entries-read (e ∷ es) h zero l = entry-read e (listBytes es) (h e (List·Memᴰ·head refl))
 entries-read (e ∷ es) h (suc i) l =
     let below = entries-read es (λ x m. h x (List·Memᴰ·tail m)) i (omega arith) in
     let k = entry-size e in
-    let z : length (listBytes es) ≡ length es * 6 = list-size es in
-    let u : suc i * 6 ≡ length (entryBytes e) + i * 6 = omega arith in
-    let v : suc i * 6 + sampleSize ≡ length (entryBytes e) + (i * 6 + sampleSize) = omega arith in (
-      ap (λ (q : ℕ). big (entryBytes e ++ listBytes es) q sampleSize) u ∙ big-after (entryBytes e) (listBytes es) (i * 6) sampleSize (omega arith) ∙ below .0,
-      ap (λ (q : ℕ). big (entryBytes e ++ listBytes es) q placeSize) v ∙ big-after (entryBytes e) (listBytes es) (i * 6 + sampleSize) placeSize (omega arith) ∙ below .1,
+    let z : length (listBytes es) ≡ length es * entrySize = list-size es in
+    let u : suc i * entrySize ≡ length (entryBytes e) + i * entrySize = omega arith in
+    let v : suc i * entrySize + sampleSize ≡ length (entryBytes e) + (i * entrySize + sampleSize) = omega arith in (
+      ap (λ (q : ℕ). big (entryBytes e ++ listBytes es) q sampleSize) u ∙ big-after (entryBytes e) (listBytes es) (i * entrySize) sampleSize (omega arith) ∙ below .0,
+      ap (λ (q : ℕ). big (entryBytes e ++ listBytes es) q placeSize) v ∙ big-after (entryBytes e) (listBytes es) (i * entrySize + sampleSize) placeSize (omega arith) ∙ below .1,
     )
+
+-- numbers of samples fit their bytes, and so do places, which lie in a sample
+abbrev pub Fits : Recording → Type 0
+Fits r = (sampleCount (r .layout) < 256 ^ sampleSize) × ((n : ℕ) → length (contentOf r n) ≤ 256 ^ placeSize)
+
+pub sound-fits : (reader : Reader) → Sound reader → (b : List ℕ) (r : Recording) → reader .means b ≡ ok r → Fits r
+sound-fits reader sound b r e = let k = sound .samples b r e in (omega arith, λ n. let c = sound .contents b r e n in omega arith)
 
 module _ (r : Recording) (s : ℕ) (fits : Fits r) where
   pub entries-fit : (e : Namer) → List·Memᴰ e (namingList r s) → EntryFits e
@@ -79,10 +91,10 @@ module _ (r : Recording) (s : ℕ) (fits : Fits r) where
       (omega arith, omega arith)
 
   pub list-read : (i : ℕ) → i < length (namingList r s) →
-      (big (listBytes (namingList r s)) (i * 6) sampleSize ≡ getD (namingList r s) i noNamer .sample) × (big (listBytes (namingList r s)) (i * 6 + sampleSize) placeSize ≡ getD (namingList r s) i noNamer .place)
+      (big (listBytes (namingList r s)) (i * entrySize) sampleSize ≡ getD (namingList r s) i noNamer .sample) × (big (listBytes (namingList r s)) (i * entrySize + sampleSize) placeSize ≡ getD (namingList r s) i noNamer .place)
   list-read i l = entries-read (namingList r s) entries-fit i l
 
-  pub unlisted-read : (n : ℕ) → ((i : ℕ) → i < length (namingList r s) → big (listBytes (namingList r s)) (i * 6) sampleSize ≡ n → ⊥) → Unlisted r s n
+  pub unlisted-read : (n : ℕ) → ((i : ℕ) → i < length (namingList r s) → big (listBytes (namingList r s)) (i * entrySize) sampleSize ≡ n → ⊥) → Unlisted r s n
   unlisted-read n h p m = let w = mem-nth (namingList r s) (namer n p) noNamer m in at (w .0) (w .1 .0) (w .1 .1) (w .2)
     where
       at : (i : ℕ) → 0 < i → i ≤ length (namingList r s) → nth (namingList r s) i noNamer ≡ namer n p → ⊥

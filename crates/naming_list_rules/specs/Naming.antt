@@ -1,26 +1,27 @@
 -- The naming list of a sample (01, 'Audit and naming list').
 --
---   namesSample r s n p    whether the extractor at p of sample n names sample s
---   namersIn r s n         the extractors of sample n that name s
---   Namer                  an extractor: its own sample, and its place there
---   namingList r s         all that name s, by sample and then place
---   listBytes es           the list as it is written
---   names r s              the call on a recording: 30, or the list
---   namesCall b s room     the call on a bundle, with room for the list: 1 to 13, 30, 29, or the list
+--   namesSample r s n p          whether the extractor at p of sample n names sample s
+--   namersIn r s n               the extractors of sample n that name s
+--   Namer                        an extractor: its own sample, and its place there
+--   namingList r s               all that name s, by sample and then place
+--   listBytes es                 the list as it is written
+--   names r s                    the call on a recording: 30, or the list
+--   namesCall reader b s room    the call on a bundle, with room for the list: 1 to 13, 30, 29, or the list
 use Prim.Native.Nat.{ℕ, _+_}
 use mathlib.Core.List.{List, [], _++_, map}
 use mathlib.Core.Bool.{Bool, _&&_}
 use Rattle.words.specs.Tests.{_≡?_, pick}
-use Rattle.words.specs.Refusals.{Answer, ok, _andThen_, _atPlace_}
+use Rattle.words.specs.Refusals.{Answer, ok}
 use Rattle.words.specs.Lists.{keep, each, upto}
 use Rattle.words.specs.Bytes.{bytes}
 use Rattle.words.specs.Buffers.{within}
+use Rattle.numbers.specs.Places.{placeSize}
 use Rattle.units.specs.Aggregators.{extractors}
 use Rattle.samples.specs.Check.{wellFormed}
 use Rattle.bundles.specs.Recordings.{Recording, sampleCount}
-use Rattle.bundles.specs.Bundles.{meaning}
+use Rattle.bundles.specs.Readers.{Reader}
 use Rattle.resolution_rules.specs.Resolving.{sampleOf, named, nameFaultAt}
-use Rattle.resolution_rules.specs.Calls.{numberFault, onBundle}
+use Rattle.resolution_rules.specs.Calls.{onSample, onBundle}
 
 -- An extractor of the list: the number of its own sample, and its place, an offset in that sample.
 pub record Namer : Type 0 where
@@ -46,9 +47,6 @@ module _ (r : Recording) (s : ℕ) where
 abbrev pub sampleSize : ℕ
 sampleSize = 2
 
-abbrev pub placeSize : ℕ
-placeSize = 4
-
 abbrev pub entrySize : ℕ
 entrySize = sampleSize + placeSize
 
@@ -59,7 +57,7 @@ unfoldable pub listBytes : List Namer → List ℕ
 listBytes es = each entryBytes es
 
 unfoldable pub names : Recording → ℕ → Answer (List ℕ)
-names r s = numberFault (sampleCount (r .layout)) s atPlace 0 andThen ok (listBytes (namingList r s))
+names r s = onSample r s (ok (listBytes (namingList r s)))
 
-unfoldable pub namesCall : List ℕ → ℕ → ℕ → Answer (List ℕ)
-namesCall b s room = within room (onBundle (meaning b) (λ r. names r s))
+unfoldable pub namesCall : Reader → List ℕ → ℕ → ℕ → Answer (List ℕ)
+namesCall reader b s room = within room (onBundle reader b (λ r. names r s))

@@ -1,39 +1,36 @@
 -- The rules of the naming list in plain facts, in which the promises of proofs/Promises are stated.
 --
---   Names r s n p            the extractor at p of sample n names sample s
---   Before                   the order of the list: by sample, then place
---   timesListed r s n p      how often the extractor at p of sample n stands in the list of s
---   Unlisted r s n           no extractor of sample n is in the list of s
---   Kept r after n           sample n is in one recording as in another
---   Reader                   what is needed of a reader of bundles
---   namesBy, resolveBy       the calls on a bundle by a reader
---   Lists, Refuses           when the naming call answers, and when it is refused
---   SameAnswer               two calls that returned the same number, place and count, and wrote the same bytes up to that count
-use Prim.Native.Nat.{ℕ, _*_, _^_, _≤_, _<_}
+--   Names r s n p                 the extractor at p of sample n names sample s
+--   Before                        the order of the list: by sample, then place
+--   timesListed r s n p           how often the extractor at p of sample n stands in the list of s
+--   Unlisted r s n                no extractor of sample n is in the list of s
+--   Kept r after n                sample n is in one recording as in another
+--   NamesAnswers, NamesRefuses    when the naming call answers, and when it is refused
+--   SameAnswer                    two calls that returned the same number, place and count, and wrote the same bytes up to that count
+use Prim.Native.Nat.{ℕ, _*_, _≤_, _<_}
 use mathlib.Core.Path.{_≡_}
-use mathlib.Core.List.{List, List·Memᴰ}
+use mathlib.Core.List.{List}
 use mathlib.Core.Bool.{Bool, _&&_}
 use mathlib.Core.Logic.{_⊎_}
 use lib.ListN.{length, take}
 use Rattle.words.specs.Tests.{_≡?_}
 use Rattle.words.specs.RefusalNumbers.{outputTooLong, noSuchNumber}
 use Rattle.words.specs.Refusals.{Answer, refused, ok, numberOf, placeOf, countOf}
-use Rattle.words.specs.Lists.{keep}
-use Rattle.words.specs.Bytes.{splice}
-use Rattle.words.specs.Buffers.{within}
+use Rattle.words.specs.Lists.{keep, _∈_}
 use Rattle.units.specs.Aggregators.{extractors}
 use Rattle.samples.specs.Check.{check}
-use Rattle.bundles.specs.Recordings.{Layout, Reference, Recording, sampleCount, contentOf, replaced}
+use Rattle.bundles.specs.Recordings.{Recording, sampleCount}
+use Rattle.bundles.specs.Readers.{Reader}
 use Rattle.resolution_rules.specs.Resolving.{sampleOf, named, nameFaultAt, delivered, judged}
-use Rattle.resolution_rules.specs.Calls.{output, onBundle, resolve}
-use Rattle.naming_list_rules.specs.Naming.{Namer, namer, namingList, sampleSize, placeSize, entrySize, listBytes, names}
+use Rattle.resolution_rules.specs.Calls.{output}
+use Rattle.naming_list_rules.specs.Naming.{Namer, namer, namingList, entrySize, listBytes}
 
 -- Whatever 25 to 28 say, and whatever the other extractors of its sample are.
 pub record Names (r : Recording) (s n p : ℕ) : Type 0 where
   pub some : 0 < n
   pub there : n ≤ sampleCount (r .layout)
   pub formed : check (sampleOf r n) ≡ ok tt
-  pub extractor : List·Memᴰ p (extractors (sampleOf r n))
+  pub extractor : p ∈ extractors (sampleOf r n)
   -- neither 23 nor 24
   pub names-some : nameFaultAt r n p ≡ 0
   pub names : named r n p ≡ s
@@ -49,7 +46,7 @@ abbrev pub timesListed : Recording → ℕ → ℕ → ℕ → ℕ
 timesListed r s n p = length (keep (isNamer n p) (namingList r s))
 
 abbrev pub Unlisted : Recording → ℕ → ℕ → Type 0
-Unlisted r s n = (p : ℕ) → List·Memᴰ (namer n p) (namingList r s) → ⊥
+Unlisted r s n = (p : ℕ) → namer n p ∈ namingList r s → ⊥
 
 -- Sample n itself, and so whether it is well formed; its refusals 14 to 28; and of a good sample the units and the bytes that it delivers.
 pub record Kept (r after : Recording) (n : ℕ) : Type 0 where
@@ -59,48 +56,23 @@ pub record Kept (r after : Recording) (n : ℕ) : Type 0 where
   pub units : judged r n ≡ ok tt → delivered after n ≡ delivered r n
   pub bytes : judged r n ≡ ok tt → output after (delivered after n) ≡ output r (delivered r n)
 
--- references join different tracks
-abbrev pub DifferentTracks : Layout → Type 0
-DifferentTracks y = (f : Reference) → List·Memᴰ f (y .references) → f .from ≡ f .to → ⊥
+-- the naming call on sample s of the bundle b, with room for the list
+module _ (reader : Reader) (b : List ℕ) (s room : ℕ) where
+  pub record NamesAnswers (out : List ℕ) : Type 0 where
+    pub recording : Recording
+    pub means : reader .means b ≡ ok recording
+    pub some : 0 < s
+    pub there : s ≤ sampleCount (recording .layout)
+    pub lists : out ≡ listBytes (namingList recording s)
+    pub fits : length out ≤ room
 
--- numbers of samples fit their bytes in the list, and so do places, which lie in a sample
-abbrev pub Fits : Recording → Type 0
-Fits r = (sampleCount (r .layout) < 256 ^ sampleSize) × ((n : ℕ) → length (contentOf r n) ≤ 256 ^ placeSize)
-
--- A reader of bundles, of any layout: the recording that a bundle means, and where in the bundle the bytes of a sample start.
-pub record Reader : Type 0 where
-  pub means : List ℕ → Answer Recording
-  pub contentAt : List ℕ → ℕ → ℕ
-  -- a sample's bytes replaced by as many others: accepted still, with these bytes replaced in the recording and nothing else
-  pub replacing :
-      (b : List ℕ) (r : Recording) (n : ℕ) (new : List ℕ) → means b ≡ ok r →
-      0 < n → n ≤ sampleCount (r .layout) → length new ≡ length (contentOf r n) →
-      means (splice b (contentAt b n) new) ≡ ok (replaced r n new)
-  pub apart : (b : List ℕ) (r : Recording) → means b ≡ ok r → DifferentTracks (r .layout)
-  pub fits : (b : List ℕ) (r : Recording) → means b ≡ ok r → Fits r
-
-module _ (reader : Reader) (b : List ℕ) where
-  unfoldable pub namesBy : ℕ → ℕ → Answer (List ℕ)
-  namesBy s room = within room (onBundle (reader .means b) (λ r. names r s))
-
-  unfoldable pub resolveBy : ℕ → ℕ → Answer (List ℕ)
-  resolveBy n room = within room (onBundle (reader .means b) (λ r. resolve r n))
-
-  -- the naming call on sample s, with room for the list
-  module _ (s room : ℕ) where
-    pub record Lists (out : List ℕ) : Type 0 where
-      pub recording : Recording
-      pub means : reader .means b ≡ ok recording
-      pub some : 0 < s
-      pub there : s ≤ sampleCount (recording .layout)
-      pub lists : out ≡ listBytes (namingList recording s)
-      pub fits : length out ≤ room
-
-    -- the bundle's own refusal, 30, 29: never 14 to 28
-    pub data Refuses : ℕ → ℕ → Type 0 where
-      bundle : {m p : ℕ} → reader .means b ≡ refused m p → Refuses m p
-      number : (r : Recording) → reader .means b ≡ ok r → (s ≡ 0) ⊎ (sampleCount (r .layout) < s) → Refuses noSuchNumber 0
-      tooLong : (r : Recording) → reader .means b ≡ ok r → 0 < s → s ≤ sampleCount (r .layout) → room < length (namingList r s) * entrySize → Refuses outputTooLong 0
+  -- the bundle's own refusal, 30, 29: never 14 to 28
+  pub data NamesRefuses : ℕ → ℕ → Type 0 where
+    bundle : {m p : ℕ} → reader .means b ≡ refused m p → NamesRefuses m p
+    number : (r : Recording) → reader .means b ≡ ok r → (s ≡ 0) ⊎ (sampleCount (r .layout) < s) → NamesRefuses noSuchNumber 0
+    tooLong :
+        (r : Recording) → reader .means b ≡ ok r → 0 < s → s ≤ sampleCount (r .layout) →
+        room < length (namingList r s) * entrySize → NamesRefuses outputTooLong 0
 
 -- what two calls returned, and what they left in the buffers lent to them
 pub record SameAnswer (a a' : Answer ℕ) (out out' : List ℕ) : Type 0 where

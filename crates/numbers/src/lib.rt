@@ -18,6 +18,9 @@ pub struct SampleNumber(pub usize);
 // An offset in bytes, from 0: a place.
 pub struct ByteOffset(pub usize);
 
+// The bytes of a place as it is written.
+pub const PLACE_SIZE: usize = 4;
+
 // A refusal: its number in document 01's table, and its place.
 pub struct Refusal {
     pub number: u8,

@@ -20,9 +20,11 @@ use Rattle.bundles.specs.Tracks.{sizeAt, trackFault, tracksVerdict, tracks, ref
 use Rattle.bundles.specs.References.{noSuchTrack, referenceFault, referencesVerdict, references, samplesAt}
 use Rattle.bundles.specs.Samples.{orderFault, entryFault, samplesVerdict, sampleEntries, lengths, bytesAt}
 use Rattle.bundles.specs.Bundles.{endFault, bytesVerdict, bundleVerdict, layoutOf, recordingOf, meaning}
+use Rattle.bundles.specs.Readers.{firstLayout}
 use Rattle.links.specs.Links.{linkFault, linkedTrack, base, sampleNamed, nameFault}
 use Rattle.copies.specs.Copies.{among, copyEnd, copied, borderFault, copyFault}
-use Rattle.resolution_rules.specs.Resolving.{sampleOf, named, nameFaultAt, copyFaultAt, extractFault, copiedAt, deliveredAt, delivered, judged}
+use Rattle.resolution_rules.specs.Resolving.{sampleOf, named, nameFaultAt, copyFaultAt, extractFault, judged}
+use Rattle.resolution_rules.specs.Resolving.{copiedAt, deliveredAt, delivered}
 use Rattle.resolution_rules.specs.Calls.{written, output, numberFault, resolve, resolveCall}
 use Rattle.audit_rules.specs.Auditing.{lineBytes, lineOf, lines, auditCall}
 use Rattle.naming_list_rules.specs.Naming.{namersIn, namingList, listBytes, names, namesCall}
@@ -66,7 +68,8 @@ slice = 0x02 ∷ 0x65 ∷ 0x88 ∷ []
 
 -- track_ref_index, sample_offset, data_offset, data_length
 extractor : ℕ → ℕ → ℕ → ℕ → List ℕ
-extractor index offset start long = 0x08 ∷ 0x7F ∷ 0x80 ∷ 0x00 ∷ 0x03 ∷ index ∷ offset ∷ start ∷ long ∷ []
+extractor index sampleOffset dataOffset dataLength =
+    0x08 ∷ 0x7F ∷ 0x80 ∷ 0x00 ∷ 0x03 ∷ index ∷ sampleOffset ∷ dataOffset ∷ dataLength ∷ []
 
 -- an aggregator that includes a slice; one that covers a slice by n additional_bytes
 including : List ℕ
@@ -81,15 +84,15 @@ resolved = 0x00 ∷ 0x00 ∷ 0x00 ∷ 0x02 ∷ 0x65 ∷ 0x88 ∷ []
 
 -- sample 2 of a bundle resolved, with enough room
 second : List ℕ → List ℕ → Answer (List ℕ)
-second avc svc = resolveCall (bundle avc svc) 2 100
+second avc svc = resolveCall firstLayout (bundle avc svc) 2 100
 
 table : List Row
 table =
     -- B0
     gives (second slice (extractor 1 0 0 0)) resolved
-    ∷ gives (namesCall (bundle slice (extractor 1 0 0 0)) 1 6) (0x00 ∷ 0x02 ∷ 0x00 ∷ 0x00 ∷ 0x00 ∷ 0x00 ∷ [])
-    ∷ gives (namesCall (bundle slice (extractor 1 0 0 0)) 2 0) []
-    ∷ gives (auditCall (bundle slice (extractor 1 0 0 0)) 26) (bytes 13 1 ++ bytes 13 1)
+    ∷ gives (namesCall firstLayout (bundle slice (extractor 1 0 0 0)) 1 6) (0x00 ∷ 0x02 ∷ 0x00 ∷ 0x00 ∷ 0x00 ∷ 0x00 ∷ [])
+    ∷ gives (namesCall firstLayout (bundle slice (extractor 1 0 0 0)) 2 0) []
+    ∷ gives (auditCall firstLayout (bundle slice (extractor 1 0 0 0)) 26) (bytes 13 1 ++ bytes 13 1)
     -- M1, M2, M3
     ∷ gives (second slice (extractor 1 0 0 3)) resolved
     ∷ refuses (second slice (extractor 1 0 0 2)) 27 0
@@ -107,7 +110,7 @@ table =
     ∷ passes (checkAlone 1 1 including)
     ∷ gives (second slice including) resolved
     ∷ fails (checkAlone 0 1 including) 20 6
-    ∷ refuses (resolveCall (bundle including slice) 1 100) 20 6
+    ∷ refuses (resolveCall firstLayout (bundle including slice) 1 100) 20 6
     -- M8
     ∷ passes (checkAlone 1 1 (covering 3))
     ∷ gives (second slice (covering 3)) resolved
@@ -121,7 +124,8 @@ table =
     ∷ gives (second (covering 3) (extractor 1 0 0 9)) resolved
     -- M10
     ∷ fails (recordVerdict (readRecord 0 (0x01 ∷ 0x64 ∷ 0x00 ∷ 0x1E ∷ 0xFF ∷ 0xE0 ∷ 0x00 ∷ []))) 8 0
-    ∷ passes (recordVerdict (readRecord 0 (0x01 ∷ 0x64 ∷ 0x00 ∷ 0x1E ∷ 0xFF ∷ 0xE0 ∷ 0x00 ∷ 0xFD ∷ 0xF8 ∷ 0xF8 ∷ 0x00 ∷ [])))
+    ∷ passes (recordVerdict (readRecord 0
+    (0x01 ∷ 0x64 ∷ 0x00 ∷ 0x1E ∷ 0xFF ∷ 0xE0 ∷ 0x00 ∷ 0xFD ∷ 0xF8 ∷ 0xF8 ∷ 0x00 ∷ [])))
     -- M11
     ∷ fails (recordVerdict (readRecord 0 (0x01 ∷ 0x42 ∷ 0x00 ∷ 0x1E ∷ 0xFE ∷ 0xE0 ∷ 0x00 ∷ []))) 11 0
     -- M12
@@ -135,14 +139,36 @@ table =
 -- B0 as document 01 writes it
 bench : List ℕ
 bench =
-    0x02 ∷ 0x00 ∷ 0x00 ∷ 0x07 ∷ 0x01 ∷ 0x42 ∷ 0x00 ∷ 0x1E ∷ 0xFC ∷ 0xE0 ∷ 0x00 ∷ 0x01 ∷ 0x00 ∷ 0x07 ∷ 0x01 ∷ 0x53 ∷ 0x00 ∷ 0x1E ∷ 0xFC ∷ 0x00 ∷ 0x00 ∷ 0x01 ∷ 0x02 ∷ 0x01 ∷ 0x00 ∷ 0x02
-    ∷ 0x01 ∷ 0x00 ∷ 0x00 ∷ 0x00 ∷ 0x00 ∷ 0x00 ∷ 0x00 ∷ 0x00 ∷ 0x00 ∷ 0x00 ∷ 0x00 ∷ 0x00 ∷ 0x03 ∷ 0x02 ∷ 0x00 ∷ 0x00 ∷ 0x00 ∷ 0x00 ∷ 0x00 ∷ 0x00 ∷ 0x00 ∷ 0x00 ∷ 0x00 ∷ 0x00 ∷ 0x00 ∷ 0x09
-    ∷ 0x00 ∷ 0x00 ∷ 0x00 ∷ 0x0C ∷ 0x02 ∷ 0x65 ∷ 0x88 ∷ 0x08 ∷ 0x7F ∷ 0x80 ∷ 0x00 ∷ 0x03 ∷ 0x01 ∷ 0x00 ∷ 0x00 ∷ 0x00 ∷ []
+    0x02
+    ∷ 0x00 ∷ 0x00 ∷ 0x07 ∷ 0x01 ∷ 0x42 ∷ 0x00 ∷ 0x1E ∷ 0xFC ∷ 0xE0 ∷ 0x00
+    ∷ 0x01 ∷ 0x00 ∷ 0x07 ∷ 0x01 ∷ 0x53 ∷ 0x00 ∷ 0x1E ∷ 0xFC ∷ 0x00 ∷ 0x00
+    ∷ 0x01 ∷ 0x02 ∷ 0x01
+    ∷ 0x00 ∷ 0x02
+    ∷ 0x01 ∷ 0x00 ∷ 0x00 ∷ 0x00 ∷ 0x00 ∷ 0x00 ∷ 0x00 ∷ 0x00 ∷ 0x00 ∷ 0x00 ∷ 0x00 ∷ 0x00 ∷ 0x03
+    ∷ 0x02 ∷ 0x00 ∷ 0x00 ∷ 0x00 ∷ 0x00 ∷ 0x00 ∷ 0x00 ∷ 0x00 ∷ 0x00 ∷ 0x00 ∷ 0x00 ∷ 0x00 ∷ 0x09
+    ∷ 0x00 ∷ 0x00 ∷ 0x00 ∷ 0x0C
+    ∷ 0x02 ∷ 0x65 ∷ 0x88
+    ∷ 0x08 ∷ 0x7F ∷ 0x80 ∷ 0x00 ∷ 0x03 ∷ 0x01 ∷ 0x00 ∷ 0x00 ∷ 0x00
+    ∷ []
 
 bench-bytes : bundle slice (extractor 1 0 0 0) ≡ bench
 unfolding bundle slice extractor bench bytes
 bench-bytes = refl
 
 marked : map (λ row. row .answer) table ≡ map (λ row. row .expected) table
-unfolding table gives passes refuses fails recordVerdict bundle slice extractor including covering resolved second first firstOf keep some nth lastThat each upto sum entries skip big bytes cuts setFault byteFault trailerFault headFault sequencesEnd picturesEnd recordFault readAs readRecord size type unitFault placesFrom topUnits border topBetween coverFault includedFault withIncluded units extractors contentVerdict check countFault referencesFrom samplesIn sizeAt trackFault tracksVerdict tracks referencesAt noSuchTrack referenceFault referencesVerdict references samplesAt orderFault entryFault samplesVerdict sampleEntries lengths bytesAt endFault bytesVerdict bundleVerdict layoutOf recordingOf meaning linkFault linkedTrack base sampleNamed nameFault among copyEnd copied borderFault copyFault sampleOf named nameFaultAt copyFaultAt extractFault copiedAt deliveredAt delivered judged written output numberFault resolve resolveCall namersIn namingList listBytes names namesCall lineBytes lineOf lines auditCall
+unfolding table gives passes refuses fails recordVerdict bundle slice extractor including covering resolved second
+    firstOf first keep some nth lastThat each upto sum entries skip big bytes cuts
+    setFault
+    byteFault trailerFault headFault sequencesEnd picturesEnd recordFault readAs readRecord
+    size type unitFault placesFrom topUnits border topBetween coverFault includedFault withIncluded units extractors
+    contentVerdict check
+    countFault referencesFrom samplesIn sizeAt trackFault tracksVerdict tracks referencesAt noSuchTrack referenceFault referencesVerdict
+    references samplesAt orderFault entryFault samplesVerdict sampleEntries lengths bytesAt endFault bytesVerdict bundleVerdict layoutOf
+    recordingOf meaning
+    linkFault linkedTrack base sampleNamed nameFault
+    among copyEnd copied borderFault copyFault
+    sampleOf named nameFaultAt copyFaultAt extractFault copiedAt deliveredAt delivered judged written output numberFault resolve
+    resolveCall
+    lineBytes lineOf lines auditCall
+    namersIn namingList listBytes names namesCall
 marked = refl

@@ -1,5 +1,6 @@
 // One sample of a bundle, by its number.
 ghost use lib.ListN.{length};
+ghost use Rattle.bundles.specs.Readers.{firstLayout};
 ghost use Rattle.resolution_rules.specs.Calls.{resolveCall, placeCall};
 ghost use Rattle.naming_list_rules.specs.Naming.{namesCall};
 ghost use Rattle.puddockle.specs.Returns.{ReturnedOutput, ReturnedPart};
@@ -17,7 +18,8 @@ pub extern "C" fn puddockle_resolve(
     place: &mut u64,
     count: &mut u64,
 ) -> u32
-    ensures { λ r. ⌜ ReturnedOutput r (now (place .exit)) (now (count .exit)) (now (out .entry)) (now (out .exit)) (resolveCall (now (bundle .entry)) sample (length (now (out .entry)))) ⌝ }
+    ensures { λ r. ⌜ ReturnedOutput r (now (place .exit)) (now (count .exit)) (now (out .entry)) (now (out .exit))
+        (resolveCall firstLayout (now (bundle .entry)) sample (length (now (out .entry)))) ⌝ }
 {
     *place = 0;
     *count = 0;
@@ -40,7 +42,7 @@ pub extern "C" fn puddockle_unit(
     start: &mut u64,
     length: &mut u64,
 ) -> u32
-    ensures { λ r. ⌜ ReturnedPart r (now (place .exit)) (now (start .exit)) (now (length .exit)) (placeCall (now (bundle .entry)) sample unit) ⌝ }
+    ensures { λ r. ⌜ ReturnedPart r (now (place .exit)) (now (start .exit)) (now (length .exit)) (placeCall firstLayout (now (bundle .entry)) sample unit) ⌝ }
 {
     *place = 0;
     *start = 0;
@@ -65,7 +67,8 @@ pub extern "C" fn puddockle_names(
     place: &mut u64,
     count: &mut u64,
 ) -> u32
-    ensures { λ r. ⌜ ReturnedOutput r (now (place .exit)) (now (count .exit)) (now (out .entry)) (now (out .exit)) (namesCall (now (bundle .entry)) sample (length (now (out .entry)))) ⌝ }
+    ensures { λ r. ⌜ ReturnedOutput r (now (place .exit)) (now (count .exit)) (now (out .entry)) (now (out .exit))
+        (namesCall firstLayout (now (bundle .entry)) sample (length (now (out .entry)))) ⌝ }
 {
     *place = 0;
     *count = 0;

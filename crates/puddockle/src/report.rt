@@ -1,5 +1,6 @@
 // The audit of a bundle.
 ghost use lib.ListN.{length};
+ghost use Rattle.bundles.specs.Readers.{firstLayout};
 ghost use Rattle.audit_rules.specs.Auditing.{auditCall, tallyCall};
 ghost use Rattle.puddockle.specs.Returns.{ReturnedOutput, ReturnedTally};
 use crate::refusal;
@@ -15,8 +16,9 @@ pub extern "C" fn puddockle_audit(
     empty: &mut u64,
     refused: &mut u64,
 ) -> u32
-    ensures { λ r. ⌜ ReturnedOutput r (now (place .exit)) (now (count .exit)) (now (lines .entry)) (now (lines .exit)) (auditCall (now (bundle .entry)) (length (now (lines .entry))))
-        × ReturnedTally (now (passed .exit)) (now (empty .exit)) (now (refused .exit)) (tallyCall (now (bundle .entry)) (length (now (lines .entry)))) ⌝ }
+    ensures { λ r. ⌜ ReturnedOutput r (now (place .exit)) (now (count .exit)) (now (lines .entry)) (now (lines .exit))
+        (auditCall firstLayout (now (bundle .entry)) (length (now (lines .entry))))
+        × ReturnedTally (now (passed .exit)) (now (empty .exit)) (now (refused .exit)) (tallyCall firstLayout (now (bundle .entry)) (length (now (lines .entry)))) ⌝ }
 {
     *place = 0;
     *count = 0;

@@ -5,7 +5,9 @@ use mathlib.Core.Path.{sym, _∙_}
 use lib.ListN.{length}
 use Rattle.audit.proofs.audit.Statement.{statement}
 use Rattle.words.proofs.Buffers.{refuse}
+use Rattle.bundles.specs.Readers.{firstLayout}
 use Rattle.filling.proofs.Promises.{says-refused, never-short, table-short}
+use Rattle.resolution_rules.proofs.Readers.{verdict-refuses}
 use Rattle.audit_rules.proofs.Calls.{audit-bundle, tally-bundle}
 use Rattle.audit.proofs.Answered.{lines-filled, tally-filled}
 use Rattle.audit.proofs.audit.Tie as tie
@@ -37,8 +39,8 @@ audit-accepted-requires c κs = table-short _ _ (sym (c .before .before .before 
 returns : tie.Need-returns
 returns c =
     let a = c .before .before .before .before .before .before .before .before .args in
-    let v = says-refused (a .b .now) _ (c .before .filled .given .0 .0) (sym (c .before .before .before .before .fill-table .ensures .0) ∙ c .before .filled .given .1) in
-    (refuse (audit-bundle (a .b .now) _ v), sym (tally-bundle (a .b .now) _ v))
+    let v = verdict-refuses (a .b .now) _ _ (says-refused (a .b .now) _ (c .before .filled .given .0 .0) (sym (c .before .before .before .before .fill-table .ensures .0) ∙ c .before .filled .given .1)) in
+    (refuse (audit-bundle firstLayout (a .b .now) _ v), sym (tally-bundle firstLayout (a .b .now) _ v))
 
 returns-2 : tie.Need-returns-2
 returns-2 c = absurd (never-short _ _ _ (omega arith) (sym (c .before .before .before .before .fill-table .ensures .0) ∙ c .before .enum-told .given .1))

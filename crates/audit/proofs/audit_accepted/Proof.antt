@@ -8,7 +8,8 @@ use Rattle.bundles.specs.Recordings.{Recording, sampleCount}
 use Rattle.tables.specs.Tables.{recordingIn}
 use Rattle.tables.proofs.Layouts.{samples-most}
 use Rattle.audit_rules.proofs.Lines.{lines-length}
-use Rattle.audit.proofs.Answered.{count-in-table, lines-not, tally-not, lines-fit, tally-fits}
+use Rattle.audit_rules.proofs.Calls.{lines-not, tally-not, lines-fit, tally-fits}
+use Rattle.audit.proofs.Answered.{count-in-table}
 use Rattle.audit.proofs.audit_accepted.Tie as tie
 
 abbrev R : tie.After-sample-count → Recording

@@ -3,6 +3,7 @@ use borrow.Author.Needs.{needs}
 use native.Mathlib.Omega.{arith}
 use mathlib.Core.Path.{sym}
 use Prim.Native.Nat.{_-_, _*_}
+use Rattle.audit_rules.specs.Auditing.{lineSize}
 use Rattle.audit.proofs.line_part.Statement.{statement}
 use native.Mathlib.Nat.{add-sub-cancel-left}
 use Rattle.audit.proofs.Reading.{there-none, there-past, there-is}
@@ -39,7 +40,7 @@ part-result-end : tie.Need-part-result-end
 part-result-end c = search needs
 
 returns-3 : tie.Need-returns-3
-returns-3 c = let a = c .before .before .before .args in rw (there-is (a .lines .now) (a .n .0) (c .before .before .if1 .left) (omega arith), add-sub-cancel-left (13 * (a .n .0 - 1)) 13)
+returns-3 c = let a = c .before .before .before .args in rw (there-is (a .lines .now) (a .n .0) (c .before .before .if1 .left) (omega arith), add-sub-cancel-left (lineSize * (a .n .0 - 1)) lineSize)
 
 pub line-part-spec : {M : Type 1} → statement M
 line-part-spec =

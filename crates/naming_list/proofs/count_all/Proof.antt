@@ -1,12 +1,11 @@
 -- The loop's invariant: the extractors of the samples so far are counted, and each sample's flag tells how many stand in it. Assumes nothing.
 use borrow.Author.Needs.{needs}
 use native.Mathlib.Omega.{arith}
-use mathlib.Core.Path.{_≡_, sym, ap, _∙_}
-use Prim.Native.Nat.{ℕ, _-_, _≤_, _<_}
-use Rattle.bundles.specs.Limits.{bundleMost}
+use Prim.Native.Nat.{_-_, _≤_, _<_}
 use Rattle.bundles.specs.Recordings.{sampleCount}
-use Rattle.tables.specs.Tables.{layoutIn, recordingIn}
+use Rattle.tables.specs.Tables.{layoutIn}
 use Rattle.tables.proofs.Layouts.{samples-most}
+use Rattle.bundles.specs.Limits.{sampleMost}
 use Rattle.naming_list.proofs.Listings.{Counting, counting-start, counting-fits, counting-more, counting-end}
 use Rattle.naming_list.proofs.count_all.Statement.{statement}
 use Rattle.naming_list.proofs.count_all.Tie as tie
@@ -18,7 +17,7 @@ abbrev μ-loop : tie.MeasureT-loop
 μ-loop b t₀ s total count₀ n₀ t count n = total - n
 
 -- one sample more
-next : (c : tie.In-loop Inv-loop μ-loop) → (c .before .loop .n < sampleCount (layoutIn (c .before .before .before .before .before .before .args .t .now))) × (sampleCount (layoutIn (c .before .before .before .before .before .before .args .t .now)) ≤ 4096)
+next : (c : tie.In-loop Inv-loop μ-loop) → (c .before .loop .n < sampleCount (layoutIn (c .before .before .before .before .before .before .args .t .now))) × (sampleCount (layoutIn (c .before .before .before .before .before .before .args .t .now)) ≤ sampleMost)
 next c = (rw (c .before .before .sample-count .ensures) at (c .loop-test .taken), samples-most (c .before .before .before .before .before .before .args .t .now))
 
 sample-count-requires : tie.Need-sample-count-requires Inv-loop μ-loop
@@ -46,7 +45,7 @@ loop-again : tie.Need-loop-again Inv-loop μ-loop
 loop-again c = rw (c .before .before .set-flag .ensures) (counting-more _ _ _ _ _ _ (c .before .before .before .before .before .before .before .loop .inv) (next (c .before .before .before .before .before .before) .0) (c .before .before .before .before .before .before .before .before .before .before .before .before .pre .0) (c .before .before .before .before .count-in .ensures) (c .before .before .before .before .before .before .before .before .before .before .before .before .pre .1))
 
 same-length : tie.Need-same-length Inv-loop μ-loop
-same-length c = c .before .loop .inv .long
+same-length c = c .before .loop .inv .equal-length
 
 returns : tie.Need-returns Inv-loop μ-loop
 returns c = counting-end _ _ _ _ _ _ (c .before .loop .inv) (rw (c .before .before .sample-count .ensures) at (c .loop-test .left))

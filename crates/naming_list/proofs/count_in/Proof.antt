@@ -6,7 +6,7 @@ use mathlib.Core.Path.{_≡_, sym, ap, _∙_}
 use lib.ListN.{length}
 use Rattle.units.specs.Units.{sample}
 use Rattle.samples.specs.Check.{answerOf}
-use Rattle.tables.specs.Tables.{recordingIn, layoutIn}
+use Rattle.tables.specs.Tables.{recordingIn}
 use Rattle.resolution_rules.specs.Resolving.{sampleOf}
 use Rattle.judging.proofs.Amounts.{sample-from, contents-most}
 use Rattle.naming_list.proofs.Namers.{namers-formed, namers-not}

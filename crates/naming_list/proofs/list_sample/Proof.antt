@@ -6,10 +6,11 @@ use Prim.Native.Nat.{_*_, _≤_}
 use lib.ListN.{length}
 use Rattle.words.proofs.Buffers.{refuse, accept}
 use Rattle.bundles.specs.Recordings.{Recording, sampleCount}
-use Rattle.tables.specs.Tables.{layoutIn, recordingIn}
+use Rattle.tables.specs.Tables.{recordingIn}
 use Rattle.resolution_rules.specs.Calls.{numberFault}
-use Rattle.naming_list_rules.specs.Naming.{namingList, listBytes}
+use Rattle.naming_list_rules.specs.Naming.{namingList, listBytes, entrySize}
 use Rattle.naming_list_rules.proofs.Listing.{list-size}
+use Rattle.bundles.specs.Limits.{sampleMost, bundleMost}
 use Rattle.naming_list.proofs.Listings.{list-few, names-number, names-room, names-listed}
 use Rattle.naming_list.proofs.list_sample.Statement.{statement}
 use Rattle.naming_list.proofs.list_sample.Tie as tie
@@ -26,7 +27,7 @@ sound : (c : tie.Else1) → numberFault (sampleCount (R c .layout)) (c .before .
 sound c = sym (fault (c .before)) ∙ c .if1 .left
 
 -- how many bytes the list has
-size : (c : tie.After-slice-known3) → (length (listBytes (namingList (R (c .before .before .before .before)) (c .before .before .before .before .before .before .before .before .before .before .before .args .s .0))) ≡ c .before .before .count-all .result * 6) × (c .before .before .count-all .result ≤ 68719476736)
+size : (c : tie.After-slice-known3) → (length (listBytes (namingList (R (c .before .before .before .before)) (c .before .before .before .before .before .before .before .before .before .before .before .args .s .0))) ≡ c .before .before .count-all .result * entrySize) × (c .before .before .count-all .result ≤ sampleMost * bundleMost)
 size c =
     let a = c .before .before .before .before .before .before .before .before .before .before .before .args in
     let e = c .before .before .count-all .ensures .0 in

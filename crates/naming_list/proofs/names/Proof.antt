@@ -4,8 +4,11 @@ use native.Mathlib.Omega.{arith}
 use mathlib.Core.Path.{sym, _∙_}
 use lib.ListN.{length}
 use Rattle.words.proofs.Buffers.{refuse}
+use Rattle.bundles.specs.Readers.{firstLayout}
 use Rattle.filling.proofs.Promises.{says-refused, never-short, table-short}
-use Rattle.naming_list.proofs.Listings.{call-bundle, call-filled}
+use Rattle.resolution_rules.proofs.Readers.{verdict-refuses}
+use Rattle.naming_list_rules.proofs.Calls.{names-bundle}
+use Rattle.naming_list.proofs.Listings.{call-filled}
 use Rattle.naming_list.proofs.names.Statement.{statement}
 use Rattle.naming_list.proofs.names.Tie as tie
 
@@ -36,7 +39,7 @@ list-sample-requires c κs = (table-short _ _ (sym (c .before .before .before .b
 returns : tie.Need-returns
 returns c =
     let a = c .before .before .before .before .before .before .before .before .args in
-    refuse (call-bundle (a .b .now) (a .s .0) _ (says-refused (a .b .now) _ (c .before .filled .given .0 .0) (sym (c .before .before .before .before .fill-table .ensures .0) ∙ c .before .filled .given .1)))
+    refuse (names-bundle firstLayout (a .b .now) (a .s .0) _ (verdict-refuses (a .b .now) _ _ (says-refused (a .b .now) _ (c .before .filled .given .0 .0) (sym (c .before .before .before .before .fill-table .ensures .0) ∙ c .before .filled .given .1))))
 
 returns-2 : tie.Need-returns-2
 returns-2 c = absurd (never-short _ _ _ (omega arith) (sym (c .before .before .before .before .fill-table .ensures .0) ∙ c .before .enum-told .given .1))

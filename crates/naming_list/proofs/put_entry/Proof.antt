@@ -1,6 +1,5 @@
 -- Two numbers, one after the other. Assumes nothing.
 use borrow.Author.Needs.{needs}
-use native.Mathlib.Omega.{arith}
 use Rattle.naming_list.proofs.put_entry.Statement.{statement}
 use Rattle.naming_list.proofs.put_entry.Tie as tie
 

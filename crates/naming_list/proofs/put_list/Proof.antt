@@ -2,18 +2,18 @@
 use borrow.Author.Needs.{needs}
 use native.Mathlib.Omega.{arith}
 use mathlib.Core.Path.{_≡_, sym, ap, _∙_}
-use Prim.Native.Nat.{ℕ, _+_, _-_, _*_, _≤_, _<_}
+use Prim.Native.Nat.{_+_, _-_, _*_, _≤_, _<_}
 use lib.ListN.{length}
 use Rattle.units.specs.Units.{sample}
 use Rattle.samples.specs.Check.{check}
 use Rattle.words.specs.Refusals.{ok}
-use Rattle.bundles.specs.Limits.{bundleMost}
+use Rattle.bundles.specs.Limits.{bundleMost, sampleMost}
 use Rattle.bundles.specs.Recordings.{Recording, sampleCount}
 use Rattle.tables.specs.Tables.{layoutIn, recordingIn}
 use Rattle.tables.proofs.Layouts.{samples-most}
 use Rattle.resolution_rules.specs.Resolving.{sampleOf}
 use Rattle.judging.proofs.Amounts.{sample-from, contents-most}
-use Rattle.naming_list_rules.specs.Naming.{namersIn}
+use Rattle.naming_list_rules.specs.Naming.{namersIn, entrySize}
 use Rattle.naming_list.specs.Steps.{namersFrom}
 use Rattle.naming_list.proofs.Namers.{namers-formed}
 use Rattle.naming_list.proofs.Listings.{namers-few, some-formed, Putting, putting-start, putting-length, putting-most, putting-none, putting-room, putting-some, putting-end}
@@ -30,7 +30,7 @@ abbrev R : tie.In-loop Inv-loop μ-loop → Recording
 R c = recordingIn (c .before .before .before .before .before .before .args .b .now) (c .before .before .before .before .before .before .args .t .now)
 
 -- one sample more
-next : (c : tie.In-loop Inv-loop μ-loop) → (c .before .loop .n < sampleCount (R c .layout)) × (sampleCount (R c .layout) ≤ 4096)
+next : (c : tie.In-loop Inv-loop μ-loop) → (c .before .loop .n < sampleCount (R c .layout)) × (sampleCount (R c .layout) ≤ sampleMost)
 unfolding recordingIn
 next c = (rw (c .before .before .sample-count .ensures) at (c .loop-test .taken), samples-most (c .before .before .before .before .before .before .args .t .now))
 
@@ -55,7 +55,7 @@ number : (c : tie.After-slice-known2 Inv-loop μ-loop) → c .before .before .pu
 number c = c .before .before .put-namers .ensures .0 ∙ ap length (namers (c .before .before .before))
 
 -- the numbers are small
-few : (c : tie.In-loop Inv-loop μ-loop) → (c .before .loop .at ≤ c .before .loop .n * bundleMost * 6) × (length (namersIn (R c) (c .before .before .before .before .before .before .args .s .0) (c .before .loop .n + 1)) ≤ bundleMost)
+few : (c : tie.In-loop Inv-loop μ-loop) → (c .before .loop .at ≤ c .before .loop .n * bundleMost * entrySize) × (length (namersIn (R c) (c .before .before .before .before .before .before .args .s .0) (c .before .loop .n + 1)) ≤ bundleMost)
 few c =
     let a = c .before .before .before .before .before .before .args in
     let m = namers-few (R c) (a .s .0) (c .before .loop .n + 1) in

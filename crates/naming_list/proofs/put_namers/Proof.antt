@@ -2,19 +2,17 @@
 use borrow.Author.Needs.{needs}
 use native.Mathlib.Omega.{arith}
 use mathlib.Core.Path.{_≡_, sym, _∙_}
-use Prim.Native.Nat.{ℕ, _+_, _-_, _*_, _≤_}
+use Prim.Native.Nat.{ℕ, _+_, _-_, _≤_}
 use lib.ListN.{length}
 use mathlib.Core.Bool.{true, false}
 use borrow.Author.Tests.{eq-eqb, ne-eqb}
 use Rattle.words.proofs.Tests.{by-bool}
-use Rattle.words.specs.Tests.{pick}
 use Rattle.units.specs.Units.{Sample, sample, size, next, isAggregator}
 use Rattle.units.specs.Aggregators.{includedStart}
 use Rattle.units.proofs.Units.{next-after}
 use Rattle.samples.proofs.Walks.{next-is}
 use Rattle.bundles.specs.Limits.{bundleMost}
 use Rattle.tables.specs.Tables.{layoutIn}
-use Rattle.copies.proofs.Flat.{Walking}
 use Rattle.copies.proofs.Rest.{walking-skip, walking-take}
 use Rattle.naming_list.specs.Steps.{namesAt}
 use Rattle.naming_list.proofs.Namers.{Looking, looking-start, looking-skip, looking-few, looking-take, looking-count, looking-written}
