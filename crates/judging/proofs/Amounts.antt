@@ -35,7 +35,7 @@ use Rattle.tables.specs.Tables.{inside, contentIn, sampleTotal, layoutIn, recor
 use Rattle.links.specs.Links.{sampleNamed, nameFault}
 use Rattle.links.proofs.Words.{nth-zero, nth-over}
 use Rattle.copies.specs.Copies.{copied}
-use Rattle.copies.specs.Written.{taken, copyOf}
+use Rattle.copies.specs.Written.{amountOf, copyAmount}
 use Rattle.copies.proofs.Answers.{fault-of}
 use Rattle.resolution_rules.specs.Resolving.{sampleOf, spanOf, spansOf, own, named, linked, nameFaultAt, copyFaultAt, extractFault, copiedAt, deliveredAt}
 use Rattle.resolution_rules.specs.Amounts.{totalSize}
@@ -115,8 +115,8 @@ module _ (r : Recording) (n : ℕ) where
       (λ z. rw z (fault-of (Z p) (dataOffset (own r n) p) (dataLength (own r n) p)))
       (λ k z. rw (z, eqb·suc-zero k))
 
-  pub extracting-good : (p : ℕ) → extractFault r n p ≡ 0 → extracting r n (extractorOf (own r n) p) ≡ taken (Z p) (copied (Z p) (dataOffset (own r n) p) (dataLength (own r n) p))
-  unfolding extracting byName copyOf extractFault nameFaultAt copyFaultAt named
+  pub extracting-good : (p : ℕ) → extractFault r n p ≡ 0 → extracting r n (extractorOf (own r n) p) ≡ amountOf (Z p) (copied (Z p) (dataOffset (own r n) p) (dataLength (own r n) p))
+  unfolding extracting byName copyAmount extractFault nameFaultAt copyFaultAt named
   extracting-good p e =
       let a = orElse-none (nameFault (r .layout) n (trackRefIndex (own r n) p) (sampleOffset (own r n) p)) _ e in
       rw (a .0, a .1)

@@ -24,8 +24,8 @@ use Rattle.bundles.specs.Limits.{bundleMost}
 use Rattle.bundles.specs.Recordings.{Layout, Recording, trackAt}
 use Rattle.tables.specs.Tables.{recordingIn}
 use Rattle.links.specs.Links.{sampleNamed, nameFault}
-use Rattle.copies.specs.Written.{refusal, copyOf}
-use Rattle.copies.specs.declared.Copy.{Copy}
+use Rattle.copies.specs.Written.{refusedAmount, copyAmount}
+use Rattle.copies.specs.declared.CopyAmount.{CopyAmount}
 use Rattle.resolution_rules.specs.Resolving.{sampleOf, delivered, judged}
 use Rattle.resolution_rules.specs.Amounts.{ownBytes, copiedBytes}
 use Rattle.judging.specs.declared.Amount.{Amount}
@@ -50,18 +50,18 @@ byFields Nothing copy none = none
 abbrev pub byUnit : {A : Type 0} → Sample → ℕ → (fields.Extractor → A) → A → A → A
 byUnit x p copy none own = pick (isExtractor x p) (byFields (extractorAt x (end x) p) copy none) own
 
-unfoldable pub extracting : Recording → ℕ → fields.Extractor → Copy
-extracting r n f = byName r n f refusal (λ m. copyOf (sampleOf r m) (f .«data_offset» .0) (f .«data_length»))
+unfoldable pub extracting : Recording → ℕ → fields.Extractor → CopyAmount
+extracting r n f = byName r n f refusedAmount (λ m. copyAmount (sampleOf r m) (f .«data_offset» .0) (f .«data_length»))
 
 -- a unit of the sample itself; units that are copied
 abbrev pub ownAmount : Sample → ℕ → UnitAmount
 ownAmount x p = record { fault = 0; count = 1; «own_bytes» = size x p; «copied_bytes» = 0 }
 
-abbrev pub copiedAmount : Copy → UnitAmount
+abbrev pub copiedAmount : CopyAmount → UnitAmount
 copiedAmount c = record { fault = c .fault; count = c .count; «own_bytes» = 0; «copied_bytes» = c .bytes }
 
 unfoldable pub amountAt : Recording → ℕ → Sample → ℕ → UnitAmount
-amountAt r n x p = byUnit x p (λ f. copiedAmount (extracting r n f)) (copiedAmount (refusal 0)) (ownAmount x p)
+amountAt r n x p = byUnit x p (λ f. copiedAmount (extracting r n f)) (copiedAmount (refusedAmount 0)) (ownAmount x p)
 
 unfoldable pub judgement : Recording → ℕ → Answer Amount
 judgement r n = judged r n andThen ok (record { count = length (delivered r n); «own_bytes» = ownBytes r n; «copied_bytes» = copiedBytes r n })

@@ -10,7 +10,7 @@ ghost use Rattle.tables.specs.Tables.{layoutIn, recordingIn};
 ghost use Rattle.resolution_rules.specs.Resolving.{sampleOf};
 ghost use Rattle.resolution_rules.specs.Calls.{numberFault};
 ghost use Rattle.judging.specs.Steps.{trackFor, extracting, amountAt, judgement, judgementIn, answerOf};
-use copies::Copy;
+use copies::CopyAmount;
 use links::Named;
 use numbers::ByteOffset;
 use numbers::LengthSize;
@@ -67,17 +67,17 @@ pub fn track_of(t: &[u64], n: SampleNumber) -> Track
 }
 
 // What an extractor in sample n delivers: 23 to 28, or its units counted.
-fn extract(b: &[u8], t: &[u64], n: SampleNumber, f: Extractor) -> Copy
+fn extract(b: &[u8], t: &[u64], n: SampleNumber, f: Extractor) -> CopyAmount
     ensures { λ r. ⌜ r ≡ extracting (recordingIn (now (b .entry)) (now (t .entry))) (n .0) f ⌝ }
 {
     let named = links::name(t, n, f.track_ref_index, f.sample_offset);
     match named {
-        Named::Refused(fault) => Copy {
+        Named::Refused(fault) => CopyAmount {
             fault: fault,
             count: 0,
             bytes: 0,
         },
-        Named::Sample(m) => copies::copy_of(
+        Named::Sample(m) => copies::copy_amount(
             track_of(t, m),
             tables::sample_bytes(b, t, m),
             f.data_offset,

@@ -33,7 +33,7 @@ use Rattle.samples.specs.Check.{check}
 use Rattle.samples.proofs.Laws.{extractor-step}
 use Rattle.bundles.specs.Recordings.{Layout, Recording}
 use Rattle.links.specs.Links.{sampleNamed, nameFault}
-use Rattle.copies.proofs.Flat.{flat-aggregator, flat-other, flat-end, flat-step, whole-stretch, flat-units, Walking, walking-start}
+use Rattle.copies.proofs.Flat.{flat-aggregator, flat-other, flat-end, flat-step, sample-borders, flat-units, Walking, walking-start}
 use Rattle.copies.proofs.Rest.{walking-skip, walking-take}
 use Rattle.resolution_rules.specs.Resolving.{own, named, nameFaultAt}
 use Rattle.resolution_rules.proofs.Delivered.{aggregator-only}
@@ -122,7 +122,7 @@ module _ (y : Layout) (s n : ℕ) (x : Sample) (o : List ℕ) (at : ℕ) where
   pub looking-start : check x ≡ ok tt → Looking 0 0 o
   looking-start f =
       record {
-        walking = walking-start x 0 (end x) (whole-stretch x f);
+        walking = walking-start x 0 (end x) (sample-borders x f);
         done = [];
         number = refl;
         split = refl;

@@ -18,7 +18,7 @@ use Rattle.units.specs.Extractors.{dataOffset, dataLength}
 use Rattle.units.specs.Aggregators.{units, extractors}
 use Rattle.samples.specs.Check.{check}
 use Rattle.bundles.specs.Recordings.{Recording, sampleCount, replaced}
-use Rattle.copies.specs.Copies.{plain, copied}
+use Rattle.copies.specs.Copies.{withoutAggregators, copied}
 use Rattle.resolution_rules.specs.Resolving.{own, named, linked, nameFaultAt, extractFault, copiedAt, deliveredAt, delivered, judged}
 use Rattle.resolution_rules.specs.Calls.{output, resolve}
 use Rattle.resolution_rules.proofs.Delivered.{extractJudge, output-each}
@@ -62,7 +62,7 @@ module _ (r : Recording) (s : ℕ) (new : List ℕ) (n : ℕ) (other : n ≡ s �
     unfolding deliveredAt copiedAt
     bytes-other = by-bool (isExtractor (own r n) p)
         (λ q. rw q (written-other r s new (named r n p) (linked r n p) (copied (linked r n p) (dataOffset (own r n) p) (dataLength (own r n) p)) (far q)))
-        (λ q. rw q (written-other r s new n (own r n) (plain (own r n) (p ∷ [])) other))
+        (λ q. rw q (written-other r s new n (own r n) (withoutAggregators (own r n) (p ∷ [])) other))
 
   delivered-out : Outside → judged r n ≡ ok tt → delivered after n ≡ delivered r n
   unfolding delivered

@@ -22,7 +22,7 @@ use Rattle.units.specs.Aggregators.{units, extractors}
 use Rattle.samples.specs.Check.{check}
 use Rattle.bundles.specs.Recordings.{Recording, trackAt, contentOf}
 use Rattle.links.specs.Links.{sampleNamed, nameFault}
-use Rattle.copies.specs.Copies.{plain, copied, copyFault}
+use Rattle.copies.specs.Copies.{withoutAggregators, copied, copyFault}
 
 -- Sample n: the kind and the length size of its track, and its bytes.
 unfoldable pub sampleOf : Recording → ℕ → Sample
@@ -71,7 +71,7 @@ module _ (r : Recording) (n : ℕ) where
   -- An extractor is replaced by what it copies, an aggregator's header dropped. Included units are units of the sample too; units that an
   -- aggregator covers by reference stand in the sample already.
   unfoldable pub deliveredAt : ℕ → List Span
-  deliveredAt p = let c = copiedAt p in pick (isExtractor own p) c (spansOf n own (plain own (p ∷ [])))
+  deliveredAt p = let c = copiedAt p in pick (isExtractor own p) c (spansOf n own (withoutAggregators own (p ∷ [])))
 
   unfoldable pub delivered : List Span
   delivered = each deliveredAt (units own)

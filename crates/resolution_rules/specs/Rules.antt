@@ -1,4 +1,4 @@
--- The rules of resolving in plain facts, in which the promises of proofs/Promises are stated.
+-- The rules of resolving in withoutAggregators facts, in which the promises of proofs/Promises are stated.
 --
 --   Extracts r n p       none of 23 to 28 holds of the extractor at p
 --   Good r n             sample n is good
@@ -30,8 +30,8 @@ use Rattle.samples.specs.Check.{check}
 use Rattle.bundles.specs.Recordings.{Recording, sampleCount, trackOf, referencesFrom, samplesIn, contentOf}
 use Rattle.bundles.specs.Readers.{Reader}
 use Rattle.links.specs.Links.{linkedTrack}
-use Rattle.copies.specs.Copies.{plain, copyEnd}
-use Rattle.copies.specs.Rules.{Copy}
+use Rattle.copies.specs.Copies.{withoutAggregators, copyEnd}
+use Rattle.copies.specs.Rules.{CopyRules}
 use Rattle.resolution_rules.specs.Resolving.{sampleOf, Span, spanOf, spansOf, own, named, linked, extractFault, delivered, judged}
 use Rattle.resolution_rules.specs.Calls.{spanBytes, output}
 
@@ -41,7 +41,7 @@ module _ (r : Recording) (n : ℕ) where
     pub index :
         (0 < trackRefIndex (own r n) p) × (trackRefIndex (own r n) p ≤ length (referencesFrom (r .layout) (trackOf (r .layout) n)))
     pub there : named r n p ∈ samplesIn (r .layout) (linkedTrack (r .layout) n (trackRefIndex (own r n) p))
-    pub copy : Copy (linked r n p) (dataOffset (own r n) p) (dataLength (own r n) p)
+    pub copy : CopyRules (linked r n p) (dataOffset (own r n) p) (dataLength (own r n) p)
 
   pub record Good : Type 0 where
     pub formed : check (own r n) ≡ ok tt
@@ -53,7 +53,7 @@ module _ (r : Recording) (n : ℕ) where
       let z = linked r n p in
       let o = dataOffset (own r n) p in
       let e = copyEnd z o (dataLength (own r n) p) in
-      spansOf (named r n p) z (keep (λ q. (o ≤? q) && (q <? e)) (plain z (units z)))
+      spansOf (named r n p) z (keep (λ q. (o ≤? q) && (q <? e)) (withoutAggregators z (units z)))
 
   -- Each unit once, in order: an aggregator's head is dropped, an extractor is replaced, any other unit is delivered as it stands.
   pub data Delivers : List ℕ → List Span → Type 0 where

@@ -6,7 +6,7 @@ use Rattle.links.proofs.Naming.{naming-refused, naming-sample}
 use Rattle.judging.proofs.Amounts.{sample-from, by-name-refused, by-name-sample}
 use Rattle.judging.specs.Steps.{extracting}
 use Rattle.tables.specs.Tables.{layoutIn, recordingIn}
-use Rattle.copies.specs.Written.{copyOf}
+use Rattle.copies.specs.Written.{copyAmount}
 use Rattle.judging.proofs.extract.Tie as tie
 
 name-requires : tie.Need-name-requires
@@ -24,8 +24,8 @@ track-of-requires c κs = search needs
 sample-bytes-requires : tie.Need-sample-bytes-requires
 sample-bytes-requires c κs = search needs
 
-copy-of-requires : tie.Need-copy-of-requires
-copy-of-requires c κs = search needs
+copy-amount-requires : tie.Need-copy-amount-requires
+copy-amount-requires c κs = search needs
 
 returns : tie.Need-returns
 unfolding recordingIn extracting
@@ -39,7 +39,7 @@ unfolding recordingIn extracting
 returns-2 c =
     let a = c .before .before .before .before .before .before .before .before .before .args in
     let w = naming-sample (layoutIn (a .t .now)) (a .n .0) (a .f .«track_ref_index») (a .f .«sample_offset») (sym (c .before .before .before .before .before .before .name .ensures) ∙ c .before .before .before .before .named2 .given .1) in
-    c .copy-of .ensures ∙ ap (λ z. copyOf z (a .f .«data_offset» .0) (a .f .«data_length»)) (sample-from (a .b .now) (a .t .now) _ (c .before .before .track-of .ensures) (c .before .sample-bytes .ensures)) ∙ sym (by-name-sample (recordingIn (a .b .now) (a .t .now)) (a .n .0) (a .f) _ _ (w .0) (w .1))
+    c .copy-amount .ensures ∙ ap (λ z. copyAmount z (a .f .«data_offset» .0) (a .f .«data_length»)) (sample-from (a .b .now) (a .t .now) _ (c .before .before .track-of .ensures) (c .before .sample-bytes .ensures)) ∙ sym (by-name-sample (recordingIn (a .b .now) (a .t .now)) (a .n .0) (a .f) _ _ (w .0) (w .1))
 
 pub extract-spec : {M : Type 1} → statement M
 extract-spec =
@@ -50,6 +50,6 @@ extract-spec =
     enum-known-named-2
     track-of-requires
     sample-bytes-requires
-    copy-of-requires
+    copy-amount-requires
     returns
     returns-2)
