@@ -6,7 +6,7 @@
 --   copy-top, copy-whole, copy-cut, copy-most    a copy without 26 and 27: its first unit, and what lies between its borders
 --   copied-flat                   its units are those of one walk over it, aggregators dropped
 use Prim.Native.Nat.{ℕ, _+_, _≤_, _<_}
-use mathlib.Core.Path.{_≡_, refl, ap, sym, _∙_}
+use mathlib.Core.Path.{_≡_, ap}
 use mathlib.Core.List.{List·Memᴰ}
 use mathlib.Core.Bool.{true, false}
 use native.Mathlib.Omega.{arith}

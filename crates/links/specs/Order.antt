@@ -1,4 +1,5 @@
--- What is needed of a layout so that the samples of a track are neighbours. Every accepted bundle's has it (6).
+-- What is needed of a layout so that the samples of a track are neighbours, and the base is where the laws say. Every accepted bundle's
+-- has it (6).
 --
 --   TracksRise y     track numbers never fall
 --   TimesRise y      besides, tracks are numbered from 1, and within a track times strictly rise
