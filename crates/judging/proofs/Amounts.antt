@@ -100,10 +100,10 @@ spans-total m z (q ∷ qs) = let below = spans-total m z qs in omega arith
 pub record Amounts (r : Recording) (n c p : ℕ) (a : UnitAmount) : Type 0 where
   pub judge : unitJudge r n p ≡ a .fault atPlace p
   pub number : a .fault ≡ 0 → length (deliveredAt r n p) ≡ a .count
-  pub own : a .fault ≡ 0 → ownAt r n p ≡ a .own
-  pub copied : a .fault ≡ 0 → copiedSizeAt r n p ≡ a .copied
+  pub own-bytes : a .fault ≡ 0 → ownAt r n p ≡ a .«own_bytes»
+  pub copied-bytes : a .fault ≡ 0 → copiedSizeAt r n p ≡ a .«copied_bytes»
   pub few : a .fault ≡ 0 → a .count ≤ c
-  pub small : a .fault ≡ 0 → a .own + a .copied ≤ c * 4
+  pub small : a .fault ≡ 0 → a .«own_bytes» + a .«copied_bytes» ≤ c * 4
 
 module _ (r : Recording) (n : ℕ) where
   abbrev Z : ℕ → Sample
@@ -137,8 +137,8 @@ module _ (r : Recording) (n : ℕ) where
           record {
             judge = unit-judge r n p t ∙ ap (λ (k : ℕ). k atPlace p) (sym (extracting-fault p));
             number = λ z. rw (delivered-extractor r n p t, extracting-good p (good z)) (length-map qs (spanOf (named r n p) (Z p)));
-            own = λ z. own-extractor r n p t;
-            copied = λ z. rw (copied-extractor r n p t, extracting-good p (good z)) (spans-total (named r n p) (Z p) qs);
+            own-bytes = λ z. own-extractor r n p t;
+            copied-bytes = λ z. rw (copied-extractor r n p t, extracting-good p (good z)) (spans-total (named r n p) (Z p) qs);
             few = λ z. let k = copied-count r n p (extract-rules r n p (good z)) in let l = most (named r n p) in let e = length-map qs (spanOf (named r n p) (Z p)) in rw (extracting-good p (good z)) (omega arith);
             small = λ z.
                 let k = copied-most r n p (extract-rules r n p (good z)) in
@@ -161,8 +161,8 @@ module _ (r : Recording) (n : ℕ) where
           rw t (record {
             judge = unit-passes r n p t;
             number = λ o. rw (delivered-unit r n p a t);
-            own = λ o. own-unit r n p a t;
-            copied = λ o. copied-other r n p t;
+            own-bytes = λ o. own-unit r n p a t;
+            copied-bytes = λ o. copied-other r n p t;
             few = λ o. omega arith;
             small = λ o. omega arith;
           }))

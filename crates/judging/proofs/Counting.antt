@@ -23,7 +23,7 @@ use Rattle.judging.specs.declared.UnitAmount.{UnitAmount}
 use Rattle.copies.proofs.Flat.{flat-aggregator, flat-other, flat-end, flat-step, whole-stretch, flat-units, Walking, walking-start}
 use Rattle.copies.proofs.Rest.{walking-skip, walking-take}
 use Rattle.bundles.specs.Limits.{bundleMost}
-use Rattle.resolution_rules.specs.Resolving.{sampleOf, Span, own, deliveredAt, delivered, judged}
+use Rattle.resolution_rules.specs.Resolving.{Span, own, deliveredAt, delivered, judged}
 use Rattle.resolution_rules.specs.Amounts.{ownBytes, copiedBytes}
 use Rattle.judging.specs.Steps.{amountAt, judgement}
 use Rattle.resolution_rules.proofs.Delivered.{aggregator-only, delivered-aggregator, unitJudge, unit-passes, extractors-units, judged-form, judged-extractors}
@@ -90,15 +90,15 @@ module _ (r : Recording) (n : ℕ) (x : Sample) where
   judgement-form e f = rw (judged-form r n (rw e at f))
 
   -- count units, with own bytes and copied bytes, are delivered for the units before p, of which none is refused
-  pub record Judging (p count own copied : ℕ) : Type 0 where
+  pub record Judging (p count ownSum copiedSum : ℕ) : Type 0 where
     pub passing : Passing p
     pub bounded : (m : ℕ) → length (contentOf r m) ≤ bundleMost
     pub found : judged r n ≡ first (unitJudge r n) (ahead p)
     pub number : count + length (remaining p) ≡ length (delivered r n)
-    pub all-own : own + sum (map (ownAt r n) (ahead p)) ≡ ownBytes r n
-    pub all-copied : copied + sum (map (copiedSizeAt r n) (ahead p)) ≡ copiedBytes r n
+    pub all-own : ownSum + sum (map (ownAt r n) (ahead p)) ≡ ownBytes r n
+    pub all-copied : copiedSum + sum (map (copiedSizeAt r n) (ahead p)) ≡ copiedBytes r n
     pub few : count ≤ p * bundleMost
-    pub small : own + copied ≤ p * (bundleMost * 4)
+    pub small : ownSum + copiedSum ≤ p * (bundleMost * 4)
 
   pub judging-start : x ≡ own r n → check x ≡ ok tt → ((m : ℕ) → length (contentOf r m) ≤ bundleMost) → Judging 0 0 0 0
   judging-start e f l =
@@ -115,13 +115,13 @@ module _ (r : Recording) (n : ℕ) (x : Sample) where
         small = omega arith;
       }
 
-  module _ (p count own copied : ℕ) (c : Judging p count own copied) where
-    pub judging-skip : p < end x → isAggregator x p ≡ true → Judging (includedStart x p) count own copied
+  module _ (p count ownSum copiedSum : ℕ) (c : Judging p count ownSum copiedSum) where
+    pub judging-skip : p < end x → isAggregator x p ≡ true → Judging (includedStart x p) count ownSum copiedSum
     unfolding first sum
     judging-skip h t =
         let s = remaining-skip p (c .passing) h t in
         let t' = rw (c .passing .same) at t in
-        let a = aggregator-only (sampleOf r n) p t' in
+        let a = aggregator-only (own r n) p t' in
         let k = ahead-skip p h t in
         let i = own-aggregator r n p t' in
         let j = copied-other r n p a in
@@ -138,9 +138,9 @@ module _ (r : Recording) (n : ℕ) (x : Sample) where
           small = omega (arith, c .small);
         }
 
-    pub judging-fits : (count ≤ 281474976710656) × (own + copied ≤ 1125899906842624) × (end x ≤ bundleMost)
+    pub judging-fits : (count ≤ 281474976710656) × (ownSum + copiedSum ≤ 1125899906842624) × (end x ≤ bundleMost)
     judging-fits =
-        let e : end x ≡ end (sampleOf r n) = ap end (c .passing .same) in
+        let e : end x ≡ end (own r n) = ap end (c .passing .same) in
         let o = own-length r n in
         let l = c .bounded n in
         let i = c .passing .walking .inside in
@@ -153,22 +153,22 @@ module _ (r : Recording) (n : ℕ) (x : Sample) where
       amounts = rw e (passing-amounts p (c .passing) h t (c .bounded))
 
       -- the amounts fit
-      pub judging-few : a .fault ≡ 0 → (a .count ≤ bundleMost) × (a .own + a .copied ≤ bundleMost * 4)
+      pub judging-few : a .fault ≡ 0 → (a .count ≤ bundleMost) × (a .«own_bytes» + a .«copied_bytes» ≤ bundleMost * 4)
       judging-few z = (amounts .few z, amounts .small z)
 
       pub judging-refused : (a .fault ≡ 0 → ⊥) → judgement r n ≡ refused (a .fault) p
       unfolding judgement first
       judging-refused z = rw (c .found, ahead-take p h t, amounts .judge, at-refused p refl z)
 
-      pub judging-take : a .fault ≡ 0 → Judging (next x p) (count + a .count) (own + a .own) (copied + a .copied)
+      pub judging-take : a .fault ≡ 0 → Judging (next x p) (count + a .count) (ownSum + a .«own_bytes») (copiedSum + a .«copied_bytes»)
       unfolding first sum
       judging-take z =
           let k = ahead-take p h t in
           let s = remaining-take p h t in
           let l = L-some (x .lengthSize) in
           let i = amounts .number z in
-          let v = amounts .own z in
-          let w = amounts .copied z in
+          let v = amounts .own-bytes z in
+          let w = amounts .copied-bytes z in
           let u = length-append (deliveredAt r n p) (remaining (next x p)) in
           let f = judging-few z in
           let number = rw s at (c .number) in
@@ -189,7 +189,7 @@ module _ (r : Recording) (n : ℕ) (x : Sample) where
     unfolding first
     judging-good h = c .found ∙ rw (flat-end x p (end x) h)
 
-    pub judging-end : end x ≤ p → judgement r n ≡ ok (record { count = count; own = own; copied = copied })
+    pub judging-end : end x ≤ p → judgement r n ≡ ok (record { count = count; «own_bytes» = ownSum; «copied_bytes» = copiedSum })
     unfolding judgement sum
     judging-end h =
         let g = judging-good h in
@@ -199,6 +199,6 @@ module _ (r : Recording) (n : ℕ) (x : Sample) where
         let all-own = rw k at (c .all-own) in
         let all-copied = rw k at (c .all-copied) in
         let i : length (delivered r n) ≡ count = omega arith in
-        let j : ownBytes r n ≡ own = omega arith in
-        let w : copiedBytes r n ≡ copied = omega arith in
+        let j : ownBytes r n ≡ ownSum = omega arith in
+        let w : copiedBytes r n ≡ copiedSum = omega arith in
         rw (g, i, j, w)

@@ -34,12 +34,12 @@ module _ (r : Recording) (n : ℕ) where
       (λ a b v. let s : refused a b ≡ refused m q = rw v at e in let i : a ≡ m = cc in let j : b ≡ q = cc in v ∙ rw (i, j))
       (λ v. ok-refused (sym (rw v at e)))
 
-  judgement-good : (a : Amount) → judgement r n ≡ ok a → (judged r n ≡ ok tt) × (a .count ≡ length (delivered r n)) × (a .own ≡ ownBytes r n) × (a .copied ≡ copiedBytes r n)
+  judgement-good : (a : Amount) → judgement r n ≡ ok a → (judged r n ≡ ok tt) × (a .count ≡ length (delivered r n)) × (a .«own_bytes» ≡ ownBytes r n) × (a .«copied_bytes» ≡ copiedBytes r n)
   unfolding judgement
   judgement-good a e =
       let w = and-ok (judged r n) _ e in
       let s = ok-same (w .1) in
-      (w .0, sym (ap (λ (b : Amount). b .count) s), sym (ap (λ (b : Amount). b .own) s), sym (ap (λ (b : Amount). b .copied) s))
+      (w .0, sym (ap (λ (b : Amount). b .count) s), sym (ap (λ (b : Amount). b .«own_bytes») s), sym (ap (λ (b : Amount). b .«copied_bytes») s))
 
 module _ (b t : List ℕ) (n : ℕ) where
   abbrev R : Recording
@@ -57,14 +57,14 @@ module _ (b t : List ℕ) (n : ℕ) where
   judged-refused h e = judgement-refused (recordingIn b t) n (sym (judgement-in h) ∙ e)
 
   module _ (h : length b ≤ bundleMost) (a : Amount) (e : judgementIn b t n ≡ ok a) where
-    pub judged-good : (judged R n ≡ ok tt) × (a .count ≡ length (delivered R n)) × (a .own ≡ ownBytes R n) × (a .copied ≡ copiedBytes R n)
+    pub judged-good : (judged R n ≡ ok tt) × (a .count ≡ length (delivered R n)) × (a .«own_bytes» ≡ ownBytes R n) × (a .«copied_bytes» ≡ copiedBytes R n)
     judged-good = judgement-good R n a (sym (judgement-in h) ∙ e)
 
     -- the length of the output follows, and fits a word
-    pub judged-size : a .own + a .copied + lengthBefore * a .count ≡ length (output R (delivered R n))
+    pub judged-size : a .«own_bytes» + a .«copied_bytes» + lengthBefore * a .count ≡ length (output R (delivered R n))
     judged-size = let w = judged-good in rw (w .1, w .2, w .3) (sym (output-bytes R n (w .0)))
 
-    pub judged-most : a .own + a .copied + lengthBefore * a .count ≤ 1125899906842624
+    pub judged-most : a .«own_bytes» + a .«copied_bytes» + lengthBefore * a .count ≤ 1125899906842624
     judged-most =
         let w = judged-good in
         let m = delivered-most R n (good-rules R n (w .0)) bundleMost (λ k. let l = contents-most b t k in omega arith) in

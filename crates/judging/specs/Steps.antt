@@ -2,7 +2,7 @@
 --
 --   trackFor y n              what the track of sample n says of it, as the code has it
 --   byName r n f none found   what is said of an extractor with the fields f in sample n: of its refusal (23, 24), else of the sample named
---   byUnit x p said none own  what is said of the unit at p of the sample x: by its fields if it is an extractor
+--   byUnit x p copy none own  what is said of the unit at p of the sample x: copy of its fields if it is an extractor, else own
 --   extracting r n f          what an extractor with the fields f in sample n delivers: its refusal, 23 to 28, or its units counted
 --   amountAt r n x p          the same for the unit at p of sample n, which is x, if it is no aggregator: any other unit is one unit
 --   judgement r n             14 to 28 of sample n, or how much it delivers
@@ -44,27 +44,27 @@ byName r n f none found =
 
 -- in a well-formed sample `none` does not come
 abbrev pub byFields : {A : Type 0} → MaybeExtractor → (fields.Extractor → A) → A → A
-byFields (Extractor f) said none = said f
-byFields Nothing said none = none
+byFields (Extractor f) copy none = copy f
+byFields Nothing copy none = none
 
 abbrev pub byUnit : {A : Type 0} → Sample → ℕ → (fields.Extractor → A) → A → A → A
-byUnit x p said none own = pick (isExtractor x p) (byFields (extractorAt x (end x) p) said none) own
+byUnit x p copy none own = pick (isExtractor x p) (byFields (extractorAt x (end x) p) copy none) own
 
 unfoldable pub extracting : Recording → ℕ → fields.Extractor → Copy
 extracting r n f = byName r n f refusal (λ m. copyOf (sampleOf r m) (f .«data_offset» .0) (f .«data_length»))
 
 -- a unit of the sample itself; units that are copied
 abbrev pub ownAmount : Sample → ℕ → UnitAmount
-ownAmount x p = record { fault = 0; count = 1; own = size x p; copied = 0 }
+ownAmount x p = record { fault = 0; count = 1; «own_bytes» = size x p; «copied_bytes» = 0 }
 
 abbrev pub copiedAmount : Copy → UnitAmount
-copiedAmount c = record { fault = c .fault; count = c .count; own = 0; copied = c .bytes }
+copiedAmount c = record { fault = c .fault; count = c .count; «own_bytes» = 0; «copied_bytes» = c .bytes }
 
 unfoldable pub amountAt : Recording → ℕ → Sample → ℕ → UnitAmount
 amountAt r n x p = byUnit x p (λ f. copiedAmount (extracting r n f)) (copiedAmount (refusal 0)) (ownAmount x p)
 
 unfoldable pub judgement : Recording → ℕ → Answer Amount
-judgement r n = judged r n andThen ok (record { count = length (delivered r n); own = ownBytes r n; copied = copiedBytes r n })
+judgement r n = judged r n andThen ok (record { count = length (delivered r n); «own_bytes» = ownBytes r n; «copied_bytes» = copiedBytes r n })
 
 unfoldable pub judgementIn : List ℕ → List ℕ → ℕ → Answer Amount
 judgementIn b t n = (bundleTooLong if bundleMost <? length b) atPlace 0 andThen judgement (recordingIn b t) n

@@ -25,16 +25,16 @@ use units::Track;
 // How many units a sample delivers, and how many bytes they have: of its own, and copied by its extractors.
 pub struct Amount {
     pub count: usize,
-    pub own: usize,
-    pub copied: usize,
+    pub own_bytes: usize,
+    pub copied_bytes: usize,
 }
 
 // The same of one unit of a sample; or its refusal, where it is an extractor.
 pub struct UnitAmount {
     pub fault: u8,
     pub count: usize,
-    pub own: usize,
-    pub copied: usize,
+    pub own_bytes: usize,
+    pub copied_bytes: usize,
 }
 
 // A sample is good, or refused.
@@ -102,8 +102,8 @@ pub fn amount_at(
         return UnitAmount {
             fault: 0,
             count: 1,
-            own: l.number(x, at.0),
-            copied: 0,
+            own_bytes: l.number(x, at.0),
+            copied_bytes: 0,
         };
     }
     let found = unit_steps::extractor_at(k, x, at, ByteOffset(x.len()));
@@ -113,15 +113,15 @@ pub fn amount_at(
             UnitAmount {
                 fault: copy.fault,
                 count: copy.count,
-                own: 0,
-                copied: copy.bytes,
+                own_bytes: 0,
+                copied_bytes: copy.bytes,
             }
         }
         MaybeExtractor::Nothing => UnitAmount {
             fault: 0,
             count: 0,
-            own: 0,
-            copied: 0,
+            own_bytes: 0,
+            copied_bytes: 0,
         },
     }
 }
@@ -134,8 +134,8 @@ fn measure(b: &[u8], t: &[u64], n: SampleNumber, k: Track, x: &[u8]) -> Judged
     let l = k.length_size;
     let w = l.bytes();
     let mut count: usize = 0;
-    let mut own: usize = 0;
-    let mut copied: usize = 0;
+    let mut own_bytes: usize = 0;
+    let mut copied_bytes: usize = 0;
     let mut p: usize = 0;
     while p < x.len() {
         if units::type_at(k, x, ByteOffset(p)) == units::AGGREGATOR {
@@ -149,12 +149,16 @@ fn measure(b: &[u8], t: &[u64], n: SampleNumber, k: Track, x: &[u8]) -> Judged
                 });
             }
             count += a.count;
-            own += a.own;
-            copied += a.copied;
+            own_bytes += a.own_bytes;
+            copied_bytes += a.copied_bytes;
             p = p + w + l.number(x, p);
         }
     }
-    Judged::Good(Amount { count, own, copied })
+    Judged::Good(Amount {
+        count,
+        own_bytes,
+        copied_bytes,
+    })
 }
 
 // 14 to 28 of sample n, or how much it delivers; a number that no sample has is one without bytes, which delivers nothing. A bundle too

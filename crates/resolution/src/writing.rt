@@ -136,7 +136,7 @@ pub(crate) fn resolve_sample(b: &[u8], t: &[u64], n: SampleNumber, out: &mut [u8
     match judged {
         Judged::Refused(f) => Resolved::Refused(f),
         Judged::Good(a) => {
-            let size = a.own + a.copied + copies::LENGTH_BEFORE * a.count;
+            let size = a.own_bytes + a.copied_bytes + copies::LENGTH_BEFORE * a.count;
             if out.len() < size {
                 return refused(refusals::OUTPUT_TOO_LONG);
             }

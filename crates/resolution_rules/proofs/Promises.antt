@@ -45,7 +45,7 @@ use Rattle.samples.specs.Check.{check}
 use Rattle.bundles.specs.Recordings.{Recording, sampleCount, timeOf, samplesIn}
 use Rattle.bundles.specs.Readers.{Reader}
 use Rattle.links.specs.Links.{linkedTrack, base, sampleNamed}
-use Rattle.links.specs.Order.{baseSample, Steps}
+use Rattle.links.specs.Order.{TimesRise, baseSample, Steps}
 use Rattle.links.proofs.Links.{named-baseless}
 use Rattle.links.proofs.Order.{named-steps, base-times, later-without}
 use Rattle.copies.specs.Extracted.{extracted}
@@ -147,9 +147,13 @@ module _ (reader : Reader) (sound : Sound reader) (b : List ℕ) (r : Recording)
         let same : w .recording ≡ r = ok-same (sym (w .means) ∙ accepted) in
         w .resolves .delivers ∙ ap (λ (s : Recording). output s (delivered s n)) same ∙ calls.joined reader sound b r accepted n some there good
 
+  -- times rise: what is said of the base holds only there
+  rises : TimesRise (r .layout)
+  rises = sound .rise b r accepted
+
   -- the sample named from sample n, by signed steps
   pub named-from-base : (n index offset : ℕ) → 0 < linkedTrack (r .layout) n index → 0 < base (r .layout) n (linkedTrack (r .layout) n index) → Steps (r .layout) n index offset
-  named-from-base n index offset h l = named-steps (r .layout) (sound .rise b r accepted .tracks) n index offset h l
+  named-from-base n index offset h l = named-steps (r .layout) (rises .tracks) n index offset h l
 
   pub base-is-last : (n k : ℕ) → 0 < base (r .layout) n k →
       (timeOf (r .layout) (baseSample (r .layout) n k) ≤ timeOf (r .layout) n) × ((m : ℕ) → List·Memᴰ m (samplesIn (r .layout) k) → baseSample (r .layout) n k < m → timeOf (r .layout) n < timeOf (r .layout) m)

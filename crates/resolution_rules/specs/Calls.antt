@@ -2,15 +2,16 @@
 -- unit 30 again, for its number, after 28. A reader says what a bundle b means; each order of refusals stands here once, for all calls.
 --
 --   spanBytes r u                  the bytes of a delivered unit
---   output r us                    delivered units, each after a 4-byte length
+--   written r u, output r us       a delivered unit after a 4-byte length; delivered units so
 --   numberFault count n            30
 --   onSample r n a                 30 for the sample number n, else a
 --   onGood r n a                   30, then 14 to 28 of sample n, else a
---   onBundle reader b call         1 to 13, else what is said of the recording
+--   onMeaning, onBundle            1 to 13 of a bundle by a reader, else what is said of its recording
 --   resolve r n                    sample n resolved
 --   resolveUnit r n k              the kth unit that sample n delivers
 --   resolveCall reader b n room    the call on a bundle, with room for the output
 --   unitCall reader b n k          the call for one unit
+--   placedBy starts a              where a unit stands, by where samples start
 --   placeCall reader b n k         the call for where in the bundle that unit stands
 --   spanIn reader b u              a delivered unit as a part of the bundle
 --   unitPart reader b a            that part for the answer of unitCall; empty if refused

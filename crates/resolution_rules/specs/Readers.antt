@@ -19,6 +19,7 @@ DifferentTracks y = (f : Reference) → f ∈ y .references → f .from ≡ f .t
 
 -- Of an accepted bundle b, which means r; of a refused one.
 pub record Sound (reader : Reader) : Type 0 where
+  -- references join different tracks, times rise
   pub apart : (b : List ℕ) (r : Recording) → reader .means b ≡ ok r → DifferentTracks (r .layout)
   pub rise : (b : List ℕ) (r : Recording) → reader .means b ≡ ok r → TimesRise (r .layout)
   -- the limits

@@ -51,10 +51,10 @@ skips c = passing-skip _ _ _ _ (c .before .before .before .loop .inv .passing) (
 takes : (c : tie.Else1 Inv-loop μ-loop) → next (X (c .before .before)) (P (c .before .before)) ≤ length (c .before .before .before .before .before .before .before .before .args .x .now)
 takes c = passing-take _ _ _ _ (c .before .before .before .loop .inv .passing) (c .before .before .loop-test .taken) (other c) .walking .inside
 
-few : (c : tie.Else2 Inv-loop μ-loop) → (c .before .before .amount-at .result .count ≤ bundleMost) × (c .before .before .amount-at .result .own + c .before .before .amount-at .result .copied ≤ bundleMost * 4)
+few : (c : tie.Else2 Inv-loop μ-loop) → (c .before .before .amount-at .result .count ≤ bundleMost) × (c .before .before .amount-at .result .«own_bytes» + c .before .before .amount-at .result .«copied_bytes» ≤ bundleMost * 4)
 few c = judging-few _ _ _ _ _ _ _ (c .before .before .before .before .before .before .loop .inv) (c .before .before .before .before .before .loop-test .taken) (other (c .before .before .before)) (c .before .before .amount-at .ensures) (c .if2 .left)
 
-small : (c : tie.Else2 Inv-loop μ-loop) → (c .before .before .before .before .before .before .loop .count ≤ 281474976710656) × (c .before .before .before .before .before .before .loop .own + c .before .before .before .before .before .before .loop .copied ≤ 1125899906842624) × (length (c .before .before .before .before .before .before .before .before .before .before .before .args .x .now) ≤ bundleMost)
+small : (c : tie.Else2 Inv-loop μ-loop) → (c .before .before .before .before .before .before .loop .count ≤ 281474976710656) × (c .before .before .before .before .before .before .loop .own-bytes + c .before .before .before .before .before .before .loop .copied-bytes ≤ 1125899906842624) × (length (c .before .before .before .before .before .before .before .before .before .before .before .args .x .now) ≤ bundleMost)
 small c = judging-fits _ _ _ _ _ _ _ (c .before .before .before .before .before .before .loop .inv)
 
 ends : (c : tie.After-number Inv-loop μ-loop) → P (c .before .before .before .before .before .before .before .before .before) + c .before .before .before .before .before .before .before .before .before .before .before .bytes .result + c .number .result ≡ next (X (c .before .before .before .before .before .before .before .before .before)) (P (c .before .before .before .before .before .before .before .before .before))
@@ -93,11 +93,11 @@ returns c = sym (judging-refused _ _ _ _ _ _ _ (c .before .before .before .befor
 add-count : tie.Need-add-count Inv-loop μ-loop
 add-count c = let f = few (c .before) in let s = small (c .before) in omega arith
 
-add-own : tie.Need-add-own Inv-loop μ-loop
-add-own c = let f = few (c .before .before) in let s = small (c .before .before) in omega arith
+add-own-bytes : tie.Need-add-own-bytes Inv-loop μ-loop
+add-own-bytes c = let f = few (c .before .before) in let s = small (c .before .before) in omega arith
 
-add-copied : tie.Need-add-copied Inv-loop μ-loop
-add-copied c = let f = few (c .before .before .before) in let s = small (c .before .before .before) in omega arith
+add-copied-bytes : tie.Need-add-copied-bytes Inv-loop μ-loop
+add-copied-bytes c = let f = few (c .before .before .before) in let s = small (c .before .before .before) in omega arith
 
 add-p-4 : tie.Need-add-p-4 Inv-loop μ-loop
 add-p-4 c = let w = takes (c .before .before .before .before .before .before) in let s = small (c .before .before .before) in omega arith
@@ -135,8 +135,8 @@ measure-spec =
     amount-at-requires
     returns
     add-count
-    add-own
-    add-copied
+    add-own-bytes
+    add-copied-bytes
     add-p-4
     number-requires
     add-p-5

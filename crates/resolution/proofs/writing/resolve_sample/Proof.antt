@@ -43,10 +43,10 @@ answered c = sym (c .before .before .judge .ensures) ∙ ap answerOf (c .judged2
 good : (c : tie.After-judged2) → judged (R (c .before .before .before)) (c .before .before .before .before .before .before .before .before .before .args .n .0) ≡ ok tt
 good c = judged-good _ _ _ (c .before .before .before .before .before .before .before .before .before .pre) (A c) (answered c) .0
 
-size : (c : tie.After-judged2) → A c .own + A c .copied + 4 * A c .count ≡ length (Output c)
+size : (c : tie.After-judged2) → A c .«own_bytes» + A c .«copied_bytes» + 4 * A c .count ≡ length (Output c)
 size c = judged-size _ _ _ (c .before .before .before .before .before .before .before .before .before .pre) (A c) (answered c)
 
-most : (c : tie.After-judged2) → A c .own + A c .copied + 4 * A c .count ≤ 1125899906842624
+most : (c : tie.After-judged2) → A c .«own_bytes» + A c .«copied_bytes» + 4 * A c .count ≤ 1125899906842624
 most c = judged-most _ _ _ (c .before .before .before .before .before .before .before .before .before .pre) (A c) (answered c)
 
 fits : (c : tie.Else2) → length (Output (c .before .before .before .before)) ≤ length (c .before .before .before .before .before .before .before .before .before .before .before .before .before .args .out .now)
