@@ -33,7 +33,7 @@ use Rattle.samples.proofs.Laws.{unit-inside, extractor-step}
 use Rattle.bundles.specs.Recordings.{Recording, contentOf}
 use Rattle.tables.specs.Tables.{inside, contentIn, sampleTotal, layoutIn, recordingIn}
 use Rattle.links.specs.Links.{sampleNamed, nameFault}
-use Rattle.links.proofs.Words.{nth-zero, nth-over}
+use Rattle.words.proofs.Rows.{nth-none, nth-beyond}
 use Rattle.copies.specs.Copies.{copied}
 use Rattle.copies.specs.Written.{amountOf, copyAmount}
 use Rattle.copies.proofs.Answers.{fault-of}
@@ -68,8 +68,8 @@ module _ (b t : List ℕ) where
       (λ i l. h (nth xs m []) (nth-mem xs m [] i l))
     where
       none : (m ≡ 0) ⊎ (length xs < m) → nth xs m [] ≡ []
-      none (inl z) = rw z (nth-zero xs [])
-      none (inr l) = nth-over xs m [] (omega arith)
+      none (inl z) = rw z (nth-none xs [])
+      none (inr l) = nth-beyond xs m [] (omega arith)
 
   pub contents-most : (m : ℕ) → length (contentOf (recordingIn b t) m) ≤ length b
   unfolding recordingIn

@@ -120,7 +120,7 @@ module _ (r : Recording) (n : ℕ) (g : Good r n) where
       (λ p k a e z. rw z (plain-unit r n p (g .formed) k a e))
       (λ p q x k z.
       let c = copied-unit (linked r n p) (dataOffset (own r n) p) (dataLength (own r n) p) q k in
-      rw z (plain-unit r (named r n p) q (x .copy .formed) (c .0) (c .1) (x .copy .plain q k)))
+      rw z (plain-unit r (named r n p) q (x .copy .formed) (c .0) (c .1) (x .copy .noExtractor q k)))
 
   pub delivered-there : 0 < n → n ≤ sampleCount (r .layout) → (u : Span) → List·Memᴰ u (delivered r n) → (0 < u .sample) × (u .sample ≤ sampleCount (r .layout))
   delivered-there h l u m = source u m

@@ -11,7 +11,7 @@ use Rattle.units.specs.Extractors.{dataOffset, dataLength}
 use Rattle.units.specs.Aggregators.{extractors}
 use Rattle.samples.proofs.Laws.{extractor-step}
 use Rattle.bundles.specs.Recordings.{Recording}
-use Rattle.copies.specs.Copies.{copied, copyFault}
+use Rattle.copies.specs.Copies.{copied, copyFault, copyUnits}
 use Rattle.copies.specs.Extracted.{unitBytes, copiedUnit, extracted}
 use Rattle.copies.proofs.Copied.{rules-copy}
 use Rattle.resolution_rules.specs.Resolving.{sampleOf, spanOf, own, named, linked, copiedAt}
@@ -26,7 +26,7 @@ module _ (r : Recording) where
 
   pub extracted-unit : (n : ℕ) → Good r n → (p k : ℕ) → List·Memᴰ p (extractors (own r n)) → 0 < k → k ≤ length (copiedAt r n p) →
       extracted (own r n) p (linked r n p) k ≡ spanBytes r (nth (copiedAt r n p) k noSpan)
-  unfolding extracted copiedUnit copiedAt
+  unfolding extracted copiedUnit copyUnits copiedAt
   extracted-unit n g p k m h l =
       let z = linked r n p in
       let o = dataOffset (own r n) p in

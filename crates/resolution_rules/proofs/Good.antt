@@ -24,12 +24,11 @@ use Rattle.units.proofs.Walks.{units-rise}
 use Rattle.samples.specs.Check.{check}
 use Rattle.samples.proofs.Laws.{check-refusals, unit-inside}
 use Rattle.bundles.specs.Recordings.{Recording, contentOf}
-use Rattle.links.proofs.Links.{link-none, in-track, named-there, name-none, name-good, name-range}
-use Rattle.copies.proofs.Copied.{copy-rules, rules-copy, copy-range}
+use Rattle.links.proofs.Links.{link-none, in-track, named-there, name-none, name-good, name-refusal}
+use Rattle.copies.proofs.Copied.{copy-rules, rules-copy, copy-refusal}
 use Rattle.resolution_rules.specs.Resolving.{sampleOf, own, named, linked, nameFaultAt, copyFaultAt, extractFault, judged}
 use Rattle.resolution_rules.specs.Rules.{Extracts, Good, JudgedRefusal, FirstRefused}
 use Rattle.words.proofs.Joined.{first-earliest, first-here}
-use Rattle.resolution_rules.proofs.Bridges.{form-set, name-set, copy-set}
 use Rattle.resolution_rules.proofs.Delivered.{extractJudge}
 
 pub own-length : (r : Recording) (n : ℕ) → end (sampleOf r n) ≡ length (contentOf r n)
@@ -57,8 +56,8 @@ module _ (r : Recording) (n : ℕ) where
   pub extract-range : (p : ℕ) → NoneOr extractorRefusals (extractFault r n p)
   unfolding extractFault nameFaultAt copyFaultAt
   extract-range p = none-or-orElse extractorRefusals _ _
-      (none-or-wider (λ m w. Memᴰ·append-left copyRefusals w) (name-set (name-range (r .layout) n (trackRefIndex (own r n) p) (sampleOffset (own r n) p))))
-      (none-or-wider (λ m w. Memᴰ·append-right nameRefusals w) (copy-set (copy-range (linked r n p) (dataOffset (own r n) p) (dataLength (own r n) p))))
+      (none-or-wider (λ m w. Memᴰ·append-left copyRefusals w) (name-refusal (r .layout) n (trackRefIndex (own r n) p) (sampleOffset (own r n) p)))
+      (none-or-wider (λ m w. Memᴰ·append-right nameRefusals w) (copy-refusal (linked r n p) (dataOffset (own r n) p) (dataLength (own r n) p)))
 
   pub good-rules : judged r n ≡ ok tt → Good r n
   unfolding judged
@@ -82,7 +81,7 @@ module _ (r : Recording) (n : ℕ) where
       let s : refused a c ≡ refused m p = rw v at e in
       let k = check-refusals (own r n) m p (v ∙ s) in
       let l = own-length r n in
-      (Memᴰ·append-left extractorRefusals (form-set m (k .0) (k .1)), omega arith))
+      (Memᴰ·append-left extractorRefusals (k .0), omega arith))
       (λ v.
       let w = first-from (extractJudge r n) (extractors (own r n)) (rw v at e) in
       let f = at-from (extractFault r n (w .0)) (w .0) (w .2) in

@@ -46,8 +46,7 @@ use Rattle.bundles.specs.Recordings.{Recording, sampleCount, timeOf, samplesIn}
 use Rattle.bundles.specs.Readers.{Reader}
 use Rattle.links.specs.Links.{linkedTrack, base, sampleNamed}
 use Rattle.links.specs.Order.{TimesRise, baseSample, Steps}
-use Rattle.links.proofs.Links.{named-baseless}
-use Rattle.links.proofs.Order.{named-steps, base-times, later-without}
+use Rattle.links.proofs.Order.{named-steps, named-baseless, base-times, later-without}
 use Rattle.copies.specs.Extracted.{extracted}
 use Rattle.copies.specs.Written.{lengthBefore}
 use Rattle.resolution_rules.specs.Resolving.{Span, own, linked, copiedAt, deliveredAt, delivered, judged}
@@ -152,13 +151,13 @@ module _ (reader : Reader) (sound : Sound reader) (b : List ℕ) (r : Recording)
   rises = sound .rise b r accepted
 
   -- the sample named from sample n, by signed steps
-  pub named-from-base : (n index offset : ℕ) → 0 < linkedTrack (r .layout) n index → 0 < base (r .layout) n (linkedTrack (r .layout) n index) → Steps (r .layout) n index offset
-  named-from-base n index offset h l = named-steps (r .layout) (rises .tracks) n index offset h l
+  pub named-from-base : (n index offset : ℕ) → 0 < base (r .layout) n (linkedTrack (r .layout) n index) → Steps (r .layout) n index offset
+  named-from-base n index offset h = named-steps (r .layout) rises n index offset h
 
   pub base-is-last : (n k : ℕ) → 0 < base (r .layout) n k →
       (timeOf (r .layout) (baseSample (r .layout) n k) ≤ timeOf (r .layout) n) × ((m : ℕ) → List·Memᴰ m (samplesIn (r .layout) k) → baseSample (r .layout) n k < m → timeOf (r .layout) n < timeOf (r .layout) m)
-  base-is-last = base-times (r .layout)
+  base-is-last = base-times (r .layout) rises
 
   pub none-without-base : (n index offset : ℕ) → base (r .layout) n (linkedTrack (r .layout) n index) ≡ 0 →
       (sampleNamed (r .layout) n index offset ≡ 0) × ((m : ℕ) → List·Memᴰ m (samplesIn (r .layout) (linkedTrack (r .layout) n index)) → timeOf (r .layout) n < timeOf (r .layout) m)
-  none-without-base n index offset e = (named-baseless (r .layout) n index offset e, later-without (r .layout) n (linkedTrack (r .layout) n index) e)
+  none-without-base n index offset e = (named-baseless (r .layout) rises n index offset e, later-without (r .layout) rises n (linkedTrack (r .layout) n index) e)

@@ -20,7 +20,7 @@ use Rattle.bundles.specs.Samples.{lengths}
 use Rattle.bundles.specs.Bundles.{bundleVerdict, meaning, contentAt}
 use Rattle.bundles.specs.Readers.{firstLayout}
 use Rattle.bundles.proofs.Promises.{limits-kept, references-join, samples-tile, samples-all, sum-exact, bytes-replaced, refusals-within}
-use Rattle.links.proofs.Words.{nth-zero, nth-over}
+use Rattle.words.proofs.Rows.{nth-none, nth-beyond}
 use Rattle.links.proofs.Order.{bundle-rise}
 use Rattle.resolution_rules.specs.Readers.{Sound}
 use Rattle.resolution_rules.proofs.Bridges.{bundle-set}
@@ -54,8 +54,8 @@ module _ (b : List ℕ) (r : Recording) (e : meaning b ≡ ok r) where
   pub content-most : (n : ℕ) → length (contentOf r n) ≤ length b
   content-most n = by-count (sampleCount (r .layout)) n
       (λ h. let k : contentOf r n ≡ [] = ⊎-elim
-      (λ z. rw z (nth-zero (r .contents) []))
-      (λ l. let a = samples-all b r e in nth-over (r .contents) n [] (omega arith)) h in
+      (λ z. rw z (nth-none (r .contents) []))
+      (λ l. let a = samples-all b r e in nth-beyond (r .contents) n [] (omega arith)) h in
       rw k (omega arith))
       (λ h l. let i = inside n h l in omega arith)
 
