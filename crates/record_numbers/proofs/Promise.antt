@@ -21,9 +21,9 @@ use Rattle.numbers.specs.declared.Kind.{Kind}
 use Rattle.numbers.specs.declared.Kind.the-variants.{Avc, Svc}
 use Rattle.numbers.specs.declared.MaybeKind.{MaybeKind}
 use Rattle.numbers.specs.declared.MaybeKind.the-variants.{Known, Unknown}
-use Rattle.records.specs.Layout.{layoutOf, bit, flagOf, flagsIn}
+use Rattle.records.specs.Layout.{recordLayout, bit, flagOf, flagsIn}
 use Rattle.records.specs.Read.{recordFault, recordOf, readAs, readRecord, trailerThere, picturesEnd}
-use Rattle.records.specs.Answers.{partOf}
+use Rattle.records.specs.Answers.{partBytes}
 use Rattle.records.specs.declared.Record.{Record}
 use Rattle.record_writer.specs.Write.{writeRecord}
 use Rattle.record_writer.specs.Promise.{Holds}
@@ -54,24 +54,24 @@ unfolding readRecord
 read-unknown kind s e = rw e
 
 -- complete_representation, there and back
-flag-back : (k : Kind) (n : ℕ) → flagOf (layoutOf k .complete) (bit (flagOf (layoutOf k .complete) n)) ≡ flagOf (layoutOf k .complete) n
+flag-back : (k : Kind) (n : ℕ) → flagOf (recordLayout k .complete) (bit (flagOf (recordLayout k .complete) n)) ≡ flagOf (recordLayout k .complete) n
 flag-back Avc n = refl
 flag-back Svc n = by-bool (n ≡? 0) (λ t. rw t) (λ t. rw t)
 
-flag-fits : (k : Kind) (n : ℕ) → (flagMost k <? bit (flagOf (layoutOf k .complete) n)) ≡ false
+flag-fits : (k : Kind) (n : ℕ) → (flagMost k <? bit (flagOf (recordLayout k .complete) n)) ≡ false
 flag-fits Avc n = refl
 flag-fits Svc n = by-bool (n ≡? 0) (λ t. rw t) (λ t. rw t)
 
 module _ (k : Kind) (s : List ℕ) where
   no-fault : numbersFault k (numbersOf (recordOf k s)) ≡ 0
   unfolding numbersFault numbersOf
-  no-fault = rw (flag-fits k (flagsIn (layoutOf k .size) (getD s 4 0))) (by-bool (trailerThere k s) (λ t. rw t) (λ t. rw t))
+  no-fault = rw (flag-fits k (flagsIn (recordLayout k .«length_size») (getD s 4 0))) (by-bool (trailerThere k s) (λ t. rw t) (λ t. rw t))
 
   fields-back : fieldsFrom k (numbersOf (recordOf k s)) ≡ recordOf k s .fields
   unfolding fieldsFrom numbersOf
-  fields-back = rw (flag-back k (flagsIn (layoutOf k .size) (getD s 4 0))) (by-bool (trailerThere k s) (λ t. rw t) (λ t. rw t))
+  fields-back = rw (flag-back k (flagsIn (recordLayout k .«length_size») (getD s 4 0))) (by-bool (trailerThere k s) (λ t. rw t) (λ t. rw t))
 
-  extensions-back : extensionsIn s (numbersOf (recordOf k s)) ≡ partOf s (recordOf k s .extensions)
+  extensions-back : extensionsIn s (numbersOf (recordOf k s)) ≡ partBytes s (recordOf k s .extensions)
   unfolding numbersOf
   extensions-back = by-bool (trailerThere k s) (λ t. rw t) (λ t. rw (t, sub-self (picturesEnd k s)))
 
@@ -99,7 +99,7 @@ read-numbered kind s room e = numbered room (readRecord kind s) e
 
 -- what stands where the numbers of a record say
 module _ (kind : ℕ) (k : Kind) (s : List ℕ) (r : Record) (q : kindOf kind ≡ Known k) (e : readRecord kind s ≡ ok r) where
-  extensions-there : extensionsIn s (numbersOf r) ≡ partOf s (r .extensions)
+  extensions-there : extensionsIn s (numbersOf r) ≡ partBytes s (r .extensions)
   extensions-there = rw (accepted k s (sym (read-known kind k s q) ∙ e)) (extensions-back k s)
 
   held : Holds kind s (fieldsFrom k (numbersOf r)) (sequencesIn s (numbersOf r)) (picturesIn s (numbersOf r)) (extensionsIn s (numbersOf r))

@@ -21,7 +21,7 @@ use Rattle.words.specs.Refusals.{_if_, _orElse_, Answer, refused, ok, _atPlace_
 use Rattle.words.specs.Buffers.{within}
 use Rattle.numbers.specs.Kinds.{kindOf, onKind}
 use Rattle.numbers.specs.declared.Kind.{Kind}
-use Rattle.records.specs.Layout.{layoutOf, bit, flagOf}
+use Rattle.records.specs.Layout.{recordLayout, bit, flagOf}
 use Rattle.records.specs.Read.{readRecord}
 use Rattle.records.specs.declared.High.{High}
 use Rattle.records.specs.declared.Trailer.{Trailer}
@@ -48,7 +48,7 @@ trailerNumbers (With t) x = trailerPresent ∷ t .format ∷ t .luma ∷ t .chro
 
 unfoldable pub numbersOf : Record → List ℕ
 numbersOf r =
-    r .fields .profile ∷ r .fields .compatibility ∷ r .fields .level ∷ bit (r .fields .complete) ∷ r .fields .size
+    r .fields .profile ∷ r .fields .compatibility ∷ r .fields .level ∷ bit (r .fields .complete) ∷ r .fields .«length_size»
     ∷ r .fields .sequences ∷ r .sequences .start .0 ∷ r .sequences .len
     ∷ r .fields .pictures ∷ r .pictures .start .0 ∷ r .pictures .len
     ∷ trailerNumbers (r .fields .trailer) (r .extensions)
@@ -65,7 +65,7 @@ abbrev pub _at_ : List ℕ → ℕ → ℕ
 ns at i = getD ns i 0
 
 abbrev pub flagMost : Kind → ℕ
-flagMost k = pick (layoutOf k .complete) 1 0
+flagMost k = pick (recordLayout k .complete) 1 0
 
 unfoldable pub numbersFault : Kind → List ℕ → ℕ
 numbersFault k ns =
@@ -85,8 +85,8 @@ fieldsFrom k ns =
       profile = ns at 0;
       compatibility = ns at 1;
       level = ns at 2;
-      complete = flagOf (layoutOf k .complete) (ns at 3);
-      size = ns at 4;
+      complete = flagOf (recordLayout k .complete) (ns at 3);
+      «length_size» = ns at 4;
       sequences = ns at 5;
       pictures = ns at 8;
       trailer = trailerFrom ns;

@@ -63,7 +63,7 @@ pub(crate) fn numbers_of(r: Record) -> [u64; 18]
         f.compatibility as u64,
         f.level as u64,
         flag,
-        f.size as u64,
+        f.length_size as u64,
         f.sequences as u64,
         sequences_start.0 as u64,
         sequences.len as u64,

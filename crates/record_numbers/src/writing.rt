@@ -24,7 +24,7 @@ use records::layouts;
 fn flag_most(k: Kind) -> u64
     ensures { λ r. ⌜ r ≡ flagMost k ⌝ }
 {
-    let l = layouts::layout_of(k);
+    let l = layouts::record_layout(k);
     if l.complete {
         return 1;
     }
@@ -93,7 +93,7 @@ fn fields_from(k: Kind, numbers: &[u64]) -> Fields
     requires { ⌜ numberCount ≤ length (now numbers) ⌝ }
     ensures { λ r. ⌜ r ≡ fieldsFrom k (now (numbers .entry)) ⌝ }
 {
-    let l = layouts::layout_of(k);
+    let l = layouts::record_layout(k);
     let complete = flag_from(l.complete, numbers[3]);
     let trailer = trailer_from(numbers);
     Fields {
@@ -101,7 +101,7 @@ fn fields_from(k: Kind, numbers: &[u64]) -> Fields
         compatibility: numbers[1] as usize,
         level: numbers[2] as usize,
         complete,
-        size: numbers[4] as usize,
+        length_size: numbers[4] as usize,
         sequences: numbers[5] as usize,
         pictures: numbers[8] as usize,
         trailer,

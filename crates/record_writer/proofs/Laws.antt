@@ -18,7 +18,7 @@ use Rattle.words.specs.Buffers.{writeAt, put, overwrite}
 use Rattle.words.proofs.Tests.{by-bool}
 use Rattle.words.proofs.Buffers.{put-fits, put-next, write-write, write-first}
 use Rattle.numbers.specs.declared.Kind.{Kind}
-use Rattle.records.specs.Spell.{headBytes, highHead, trailerHead, trailerBytes, spelled, trailerSetsFit, fits}
+use Rattle.records.specs.Fields.{headBytes, highHead, trailerHead, trailerBytes, recordBytes, trailerSetsFit, fits}
 use Rattle.records.specs.declared.Trailer.{Trailer}
 use Rattle.records.specs.declared.Trailer.the-variants.{Without, With}
 use Rattle.records.specs.declared.Fields.{Fields}
@@ -28,15 +28,15 @@ use Rattle.record_writer.specs.Steps.{roomFor}
 use Rattle.record_writer.specs.declared.Room.{Room}
 use Rattle.record_writer.specs.declared.Room.the-variants.{Lacks, Fits}
 
-pub spelled-length : (k : Kind) (f : Fields) (a b x : List ℕ) → length (spelled k f a b x) ≡ 7 + length a + length b + length (trailerBytes (f .trailer) x)
-unfolding spelled
+pub spelled-length : (k : Kind) (f : Fields) (a b x : List ℕ) → length (recordBytes k f a b x) ≡ 7 + length a + length b + length (trailerBytes (f .trailer) x)
+unfolding recordBytes
 spelled-length k f a b x = simp (length-append) (omega arith)
 
 trailer-length : (t : Trailer) (x : List ℕ) → trailerSetsFit t x ≡ true → length (trailerBytes t x) ≡ trailerHead t + length x
 trailer-length Without x e = let z : length x ≡ 0 = eqb-true _ _ e in omega arith
 trailer-length (With t) x e = length-append (highHead t) x
 
-pub total : (k : Kind) (f : Fields) (a b x : List ℕ) → fits k f a b x ≡ true → length (spelled k f a b x) ≡ 7 + trailerHead (f .trailer) + length a + length b + length x
+pub total : (k : Kind) (f : Fields) (a b x : List ℕ) → fits k f a b x ≡ true → length (recordBytes k f a b x) ≡ 7 + trailerHead (f .trailer) + length a + length b + length x
 total k f a b x e =
     let w = fitting k f a b x e in
     omega (arith, spelled-length k f a b x, trailer-length (f .trailer) x (w .extensions))
@@ -53,13 +53,13 @@ front-written o k f a h =
     rw (put-fits o 0 (headBytes k f) (omega arith), put-next o (headBytes k f) a 6 refl (omega arith))
     (put-next o (headBytes k f ++ a) (f .pictures ∷ []) (6 + length a) (sym (length-append (headBytes k f) a)) (simp (length-append) (omega arith)))
 
-spelled-parts : (k : Kind) (f : Fields) (a b x : List ℕ) → (front k f a ++ b) ++ trailerBytes (f .trailer) x ≡ spelled k f a b x
-unfolding spelled
+spelled-parts : (k : Kind) (f : Fields) (a b x : List ℕ) → (front k f a ++ b) ++ trailerBytes (f .trailer) x ≡ recordBytes k f a b x
+unfolding recordBytes
 spelled-parts k f a b x = simp (append-assoc)
 
 pub record-written :
-    (o : List ℕ) (k : Kind) (f : Fields) (a b x : List ℕ) → length (spelled k f a b x) ≤ length o →
-    writeAt (put (writeAt o 0 (front k f a)) (6 + length a + 1) b) (6 + length a + 1 + length b) (trailerBytes (f .trailer) x) ≡ overwrite o (spelled k f a b x)
+    (o : List ℕ) (k : Kind) (f : Fields) (a b x : List ℕ) → length (recordBytes k f a b x) ≤ length o →
+    writeAt (put (writeAt o 0 (front k f a)) (6 + length a + 1) b) (6 + length a + 1 + length b) (trailerBytes (f .trailer) x) ≡ overwrite o (recordBytes k f a b x)
 record-written o k f a b x h =
     let n = spelled-length k f a b x in
     let l = front-length k f a in
@@ -67,14 +67,14 @@ record-written o k f a b x h =
     ap (λ (w : List ℕ). writeAt w (6 + length a + 1 + length b) (trailerBytes (f .trailer) x)) (put-next o (front k f a) b (6 + length a + 1) (sym l) (omega arith))
     ∙ ap (λ (p : ℕ). writeAt (writeAt o 0 (front k f a ++ b)) p (trailerBytes (f .trailer) x)) e
     ∙ write-write o 0 (front k f a ++ b) (trailerBytes (f .trailer) x) (omega (arith, length-append (front k f a) b))
-    ∙ ap (λ (w : List ℕ). writeAt o 0 w) (spelled-parts k f a b x) ∙ write-first o (spelled k f a b x)
+    ∙ ap (λ (w : List ℕ). writeAt o 0 w) (spelled-parts k f a b x) ∙ write-first o (recordBytes k f a b x)
 
 module _ (k : Kind) (f : Fields) (a b x : List ℕ) where
   pub write-misfit : fits k f a b x ≡ false → writeAs k f a b x ≡ refused fieldsFitNoRecord 0
   unfolding writeAs
   write-misfit e = rw e
 
-  pub write-fits : fits k f a b x ≡ true → writeAs k f a b x ≡ ok (spelled k f a b x)
+  pub write-fits : fits k f a b x ≡ true → writeAs k f a b x ≡ ok (recordBytes k f a b x)
   unfolding writeAs
   write-fits e = rw e
 

@@ -25,11 +25,11 @@ use Rattle.numbers.specs.declared.Kind.{Kind}
 use Rattle.numbers.specs.declared.MaybeKind.{MaybeKind}
 use Rattle.numbers.specs.declared.MaybeKind.the-variants.{Known, Unknown}
 use Rattle.records.specs.Read.{recordFault, recordOf, readAs, readRecord}
-use Rattle.records.specs.Spell.{spelled, placed, fits}
-use Rattle.records.specs.Answers.{partOf, respelled}
+use Rattle.records.specs.Fields.{recordBytes, placed, fits}
+use Rattle.records.specs.Answers.{partBytes, writtenAgain}
 use Rattle.records.specs.declared.Fields.{Fields}
 use Rattle.records.specs.declared.Record.{Record}
-use Rattle.records.proofs.SpellsBack.{spells-back}
+use Rattle.records.proofs.BytesBack.{bytes-back}
 use Rattle.records.proofs.ReadsBack.{spelled-record, spelled-parts}
 use Rattle.records.proofs.Fits.{Fitting, fitting, spelled-bytes, read-fits}
 use Rattle.records.proofs.Refusals.{record-refusal}
@@ -69,11 +69,11 @@ module _ (kind : ℕ) where
   write-unknown f a b x room e = rw e
 
 -- what an accepted record holds fits, and spells its bytes
-held : (kind : ℕ) (k : Kind) (s : List ℕ) (f : Fields) (a b x : List ℕ) → kindOf kind ≡ Known k → Bytes s → Holds kind s f a b x → (fits k f a b x ≡ true) × (spelled k f a b x ≡ s)
+held : (kind : ℕ) (k : Kind) (s : List ℕ) (f : Fields) (a b x : List ℕ) → kindOf kind ≡ Known k → Bytes s → Holds kind s f a b x → (fits k f a b x ≡ true) × (recordBytes k f a b x ≡ s)
 held kind k s f a b x q g h =
     let e = accepted-as k s (sym (read-known kind k s q) ∙ h .read) in
     let z = h .found in
-    rw (← h .fields, ← h .sequences, ← h .pictures, ← h .extensions, e .1) (read-fits k s g (e .0), spells-back k s g (e .0))
+    rw (← h .fields, ← h .sequences, ← h .pictures, ← h .extensions, e .1) (read-fits k s g (e .0), bytes-back k s g (e .0))
 
 pub writes-back : WritesBack
 writes-back kind s f a b x room g h l =
@@ -91,21 +91,21 @@ within-ok room (ok out) e =
     (λ t. rw t at e)
 
 -- what is written fits, and is what the fields spell
-written : (k : Kind) (f : Fields) (a b x : List ℕ) {s : List ℕ} → writeAs k f a b x ≡ ok s → (fits k f a b x ≡ true) × (spelled k f a b x ≡ s)
+written : (k : Kind) (f : Fields) (a b x : List ℕ) {s : List ℕ} → writeAs k f a b x ≡ ok s → (fits k f a b x ≡ true) × (recordBytes k f a b x ≡ s)
 written k f a b x e =
     by-bool (fits k f a b x)
     (λ t. (t, ok-same (sym (write-fits k f a b x t) ∙ e)))
     (λ t. ok-refused (sym (write-misfit k f a b x t) ∙ e))
 
 -- what fits is held by the bytes that it spells
-holds : (kind : ℕ) (k : Kind) (f : Fields) (a b x : List ℕ) → kindOf kind ≡ Known k → fits k f a b x ≡ true → Holds kind (spelled k f a b x) f a b x
+holds : (kind : ℕ) (k : Kind) (f : Fields) (a b x : List ℕ) → kindOf kind ≡ Known k → fits k f a b x ≡ true → Holds kind (recordBytes k f a b x) f a b x
 unfolding readAs
 holds kind k f a b x q t =
     let w = fitting k f a b x t in
     let p = spelled-parts k f a b x (w .numbers) (w .sequences) (w .pictures) (w .extensions) (w .belongs) in
     record {
       found = placed f a b x;
-      read = read-known kind k (spelled k f a b x) q ∙ rw (w .good, spelled-record k f a b x (w .numbers) (w .sequences) (w .pictures) (w .extensions) (w .belongs));
+      read = read-known kind k (recordBytes k f a b x) q ∙ rw (w .good, spelled-record k f a b x (w .numbers) (w .sequences) (w .pictures) (w .extensions) (w .belongs));
       fields = refl;
       sequences = p .0;
       pictures = p .1;
@@ -123,7 +123,7 @@ reads-back kind s f a b x room e =
 misfit : (room : ℕ) (k : Kind) (f : Fields) (a b x : List ℕ) → within room (writeAs k f a b x) ≡ refused fieldsFitNoRecord 0 → fits k f a b x ≡ false
 misfit room k f a b x e =
     by-bool (fits k f a b x)
-    (λ t. by-bool (room <? length (spelled k f a b x))
+    (λ t. by-bool (room <? length (recordBytes k f a b x))
     (λ l. let z : _≡_ {A = Answer (List ℕ)} (refused outputTooLong 0) (refused fieldsFitNoRecord 0) = rw (write-fits k f a b x t, l) at e in let y : outputTooLong ≡ fieldsFitNoRecord = cc in absurd (omega arith))
     (λ l. ok-refused (sym (rw (write-fits k f a b x t, l) at e))))
     (λ t. t)
@@ -132,7 +132,7 @@ pub misfits-exactly : MisfitsExactly
 misfits-exactly kind k f a b x room q ga gb gx = (
   λ e s g h. true-false (fits k f a b x) (held kind k s f a b x q g h .0) (misfit room k f a b x (sym (write-known kind k f a b x room q) ∙ e)),
   λ none. by-bool (fits k f a b x)
-      (λ t. absurd (none (spelled k f a b x) (spelled-bytes k f a b x (fitting k f a b x t .numbers) ga gb gx) (holds kind k f a b x q t)))
+      (λ t. absurd (none (recordBytes k f a b x) (spelled-bytes k f a b x (fitting k f a b x t .numbers) ga gb gx) (holds kind k f a b x q t)))
       (λ t. write-known kind k f a b x room q ∙ ap (within room) (write-misfit k f a b x t)),
 )
 

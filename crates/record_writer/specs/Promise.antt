@@ -12,7 +12,7 @@ use Rattle.numbers.specs.Kinds.{kindOf}
 use Rattle.numbers.specs.declared.Kind.{Kind}
 use Rattle.numbers.specs.declared.MaybeKind.the-variants.{Known}
 use Rattle.records.specs.Read.{readRecord}
-use Rattle.records.specs.Answers.{partOf}
+use Rattle.records.specs.Answers.{partBytes}
 use Rattle.records.specs.declared.Fields.{Fields}
 use Rattle.records.specs.declared.Record.{Record}
 use Rattle.record_writer.specs.Write.{writeRecord}
@@ -22,9 +22,9 @@ pub record Holds (kind : ℕ) (s : List ℕ) (f : Fields) (a b x : List ℕ) : T
   pub found : Record
   pub read : readRecord kind s ≡ ok found
   pub fields : found .fields ≡ f
-  pub sequences : partOf s (found .sequences) ≡ a
-  pub pictures : partOf s (found .pictures) ≡ b
-  pub extensions : partOf s (found .extensions) ≡ x
+  pub sequences : partBytes s (found .sequences) ≡ a
+  pub pictures : partBytes s (found .pictures) ≡ b
+  pub extensions : partBytes s (found .extensions) ≡ x
 
 -- `writes-back`: an accepted record, written again from its fields and its own parts with room, gives the same bytes.
 abbrev pub WritesBack : Type 0

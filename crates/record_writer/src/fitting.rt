@@ -2,7 +2,7 @@
 ghost use mathlib.Core.Path.{_≡_};
 ghost use mathlib.Core.Bool.{_&&_};
 ghost use Rattle.records.specs.Layout.{flagFits};
-ghost use Rattle.records.specs.Spell.{highNumbersFit, numbersFit, trailerBelongs, fits};
+ghost use Rattle.records.specs.Fields.{highNumbersFit, numbersFit, trailerBelongs, fits};
 ghost use Rattle.records.specs.Parts.{trailerFits};
 use numbers::Kind;
 use records::Fields;
@@ -42,7 +42,7 @@ fn high_fits(t: High) -> bool
 fn numbers_fit(k: Kind, f: Fields) -> bool
     ensures { λ r. ⌜ r ≡ numbersFit k f ⌝ }
 {
-    let l = layouts::layout_of(k);
+    let l = layouts::record_layout(k);
     let count = l.count;
     if 256 <= f.profile {
         return false;
@@ -57,10 +57,10 @@ fn numbers_fit(k: Kind, f: Fields) -> bool
     if !flag_fits(l.complete, complete) {
         return false;
     }
-    if f.size <= 0 {
+    if f.length_size <= 0 {
         return false;
     }
-    if 4 < f.size {
+    if 4 < f.length_size {
         return false;
     }
     if count.low <= f.sequences {
@@ -104,10 +104,10 @@ pub(crate) fn fit(k: Kind, f: Fields, a: &[u8], b: &[u8], x: &[u8]) -> bool
     if !numbers_fit(k, f) {
         return false;
     }
-    if f.size == 3 {
+    if f.length_size == 3 {
         return false;
     }
-    let l = layouts::layout_of(k);
+    let l = layouts::record_layout(k);
     let types = l.sequence;
     if !sets::are_sets(types, a, f.sequences) {
         return false;

@@ -6,7 +6,7 @@ ghost use Prim.Native.Nat.{_+_, _-_, _≤_, _<_};
 ghost use lib.ListN.{length};
 ghost use Rattle.words.specs.Buffers.{writeAt, put, overwrite};
 ghost use Rattle.records.specs.Layout.{Sound, byteOf, bit};
-ghost use Rattle.records.specs.Spell.{headBytes, highHead, trailerHead, trailerBytes, spelled, numbersFit, trailerNumbersFit, highNumbersFit, fits};
+ghost use Rattle.records.specs.Fields.{headBytes, highHead, trailerHead, trailerBytes, recordBytes, numbersFit, trailerNumbersFit, highNumbersFit, fits};
 ghost use Rattle.record_writer.specs.Steps.{roomFor};
 use crate::Room;
 use numbers::Kind;
@@ -41,11 +41,11 @@ fn head_bytes(k: Kind, f: Fields) -> [u8; 6]
     requires { ⌜ numbersFit k f ≡ true ⌝ }
     ensures { λ r. ⌜ r ≡ headBytes k f ⌝ }
 {
-    let l = layouts::layout_of(k);
-    let size = l.size;
+    let l = layouts::record_layout(k);
+    let size = l.length_size;
     let count = l.count;
     let complete = f.complete;
-    let fifth = byte_of(size, bit_of(complete), f.size - 1);
+    let fifth = byte_of(size, bit_of(complete), f.length_size - 1);
     let sixth = byte_of(count, 0, f.sequences);
     [
         1,
@@ -127,8 +127,8 @@ fn put_front(out: &mut [u8], k: Kind, f: Fields, a: &[u8])
 
 // The record, where it fits and there is room.
 pub(crate) fn put_record(k: Kind, f: Fields, a: &[u8], b: &[u8], x: &[u8], out: &mut [u8])
-    requires { ⌜ (fits k f (now a) (now b) (now x) ≡ true) × (length (spelled k f (now a) (now b) (now x)) ≤ length (now out)) ⌝ }
-    ensures { λ _. ⌜ now (out .exit) ≡ overwrite (now (out .entry)) (spelled k f (now (a .entry)) (now (b .entry)) (now (x .entry))) ⌝ }
+    requires { ⌜ (fits k f (now a) (now b) (now x) ≡ true) × (length (recordBytes k f (now a) (now b) (now x)) ≤ length (now out)) ⌝ }
+    ensures { λ _. ⌜ now (out .exit) ≡ overwrite (now (out .entry)) (recordBytes k f (now (a .entry)) (now (b .entry)) (now (x .entry))) ⌝ }
 {
     let trailer = f.trailer;
     let at = 6 + a.len() + 1;

@@ -3,7 +3,7 @@
 --   Shapes       a byte as flags, fixed bits and a value; what holds of each kind's row
 --   Parsed       an accepted record, taken apart
 --   Walked       the steps of the reader
---   SpellsBack   a record that was read spells the bytes that were read
+--   BytesBack   a record that was read spells the bytes that were read
 --   Numbers      what numbers that fit say
 --   ReadsBack    fields and sets that fit are read back from the bytes that they spell
 --   Fits         what fits, set by set
@@ -11,7 +11,7 @@
 pub mod Shapes
 pub mod Parsed
 pub mod Walked
-pub mod SpellsBack
+pub mod BytesBack
 pub mod Numbers
 pub mod ReadsBack
 pub mod Fits

@@ -25,12 +25,12 @@ pub struct Shape {
 
 // What the kinds of record differ in: a kind is one row.
 pub struct Layout {
+    // how many flags stand at the top of the byte with the length size
+    pub flags: usize,
     // the byte with the length size less one
-    pub size: Shape,
+    pub length_size: Shape,
     // the byte with the number of sequence sets
     pub count: Shape,
-    // whether there is a complete_representation
-    pub complete: bool,
     // the types of a sequence set
     pub sequence: SetTypes,
     // whether the high profiles have a trailer
@@ -70,7 +70,7 @@ pub struct Fields {
     // complete_representation
     pub complete: Flag,
     // the length size, L: 1, 2 or 4
-    pub size: usize,
+    pub length_size: usize,
     // how many sets of each kind there are
     pub sequences: usize,
     pub pictures: usize,

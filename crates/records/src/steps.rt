@@ -5,9 +5,10 @@ ghost use lib.ListN.{length};
 ghost use Rattle.words.specs.Refusals.{_orElse_};
 ghost use Rattle.words.specs.Bytes.{byteAt};
 ghost use Rattle.sets.specs.Sets.{setsFault, setsEnd};
-ghost use Rattle.records.specs.Layout.{Sound, layoutOf, flagsIn, valueIn, flagOf, pictureTypes};
-ghost use Rattle.records.specs.Read.{missing, byteFault, trailerFault, trailerEnd, highOf, headFault, sequencesFault, sequencesEnd, picturesEnd, fieldsOf, trailerOf};
-ghost use Rattle.records.specs.Steps.{Walked, valuesFault, Followed};
+ghost use Rattle.records.specs.Layout.{Sound, recordLayout, valueIn, flagOf, pictureTypes, missing, byteFault};
+ghost use Rattle.records.specs.Trailers.{extensionTypes, valuesFault, highOf};
+ghost use Rattle.records.specs.Read.{headFault, sequencesFault, sequencesEnd, picturesEnd, fieldsOf, trailerOf};
+ghost use Rattle.records.specs.Steps.{Walked, Followed};
 use crate::Fields;
 use crate::Flag;
 use crate::Follow;
@@ -45,8 +46,8 @@ pub(crate) fn byte_fault(s: &[u8], h: Shape, at: usize) -> u8
 pub(crate) fn head_fault(k: Kind, s: &[u8]) -> u8
     ensures { λ r. ⌜ r ≡ headFault k (now (s .entry)) ⌝ }
 {
-    let l = layouts::layout_of(k);
-    let size = l.size;
+    let l = layouts::record_layout(k);
+    let size = l.length_size;
     let count = l.count;
     if s.len() <= 0 {
         return refusals::RECORD_CUT;
@@ -69,7 +70,7 @@ pub(crate) fn walk_sequences(k: Kind, s: &[u8]) -> Walk
     requires { ⌜ 5 < length (now s) ⌝ }
     ensures { λ r. ⌜ Walked r (sequencesFault k (now (s .entry))) (sequencesEnd k (now (s .entry))) ⌝ }
 {
-    let l = layouts::layout_of(k);
+    let l = layouts::record_layout(k);
     let count = l.count;
     let types = l.sequence;
     let n = value_in(count, s[5]);
@@ -116,7 +117,7 @@ fn values_fault(s: &[u8], at: usize) -> u8
 // A trailer at a place.
 pub(crate) fn walk_trailer(s: &[u8], at: usize) -> Walk
     requires { ⌜ at ≤ length (now s) ⌝ }
-    ensures { λ r. ⌜ Walked r (trailerFault (now (s .entry)) at) (trailerEnd (now (s .entry)) at) ⌝ }
+    ensures { λ r. ⌜ Walked r (valuesFault (now (s .entry)) at orElse setsFault extensionTypes (now (s .entry)) (byteAt (now (s .entry)) (at + 3)) (at + 4)) (setsEnd (now (s .entry)) (byteAt (now (s .entry)) (at + 3)) (at + 4)) ⌝ }
 {
     let fault = values_fault(s, at);
     if fault != 0 {
@@ -174,14 +175,14 @@ pub(crate) fn follow_of(k: Kind, s: &[u8], at: usize) -> Follow
     }
 }
 
-// complete_representation, where a record has one.
-fn flag_of(has: bool, flags: usize) -> Flag
-    ensures { λ r. ⌜ r ≡ flagOf has flags ⌝ }
+// A flag by its bit, where a record has it.
+fn flag_of(has: bool, bit: u8) -> Flag
+    ensures { λ r. ⌜ r ≡ flagOf has bit ⌝ }
 {
     if !has {
         return Flag::Absent;
     }
-    if flags == 0 {
+    if bit == 0 {
         return Flag::Clear;
     }
     Flag::Set
@@ -192,10 +193,10 @@ pub(crate) fn fields_of(k: Kind, s: &[u8], at: usize, trailer: Trailer) -> Field
     requires { ⌜ (5 < length (now s)) × (at < length (now s)) × (at ≡ sequencesEnd k (now s)) × (trailer ≡ trailerOf k (now s)) ⌝ }
     ensures { λ r. ⌜ r ≡ fieldsOf k (now (s .entry)) ⌝ }
 {
-    let l = layouts::layout_of(k);
-    let size = l.size;
+    let l = layouts::record_layout(k);
+    let size = l.length_size;
     let count = l.count;
-    let complete = flag_of(l.complete, s[4] as usize / size.unit);
+    let complete = flag_of(0 < l.flags, s[4] / layouts::COMPLETE % 2);
     let less_one = value_in(size, s[4]);
     let sequences = value_in(count, s[5]);
     Fields {
@@ -203,7 +204,7 @@ pub(crate) fn fields_of(k: Kind, s: &[u8], at: usize, trailer: Trailer) -> Field
         compatibility: s[2] as usize,
         level: s[3] as usize,
         complete,
-        size: less_one + 1,
+        length_size: less_one + 1,
         sequences,
         pictures: s[at] as usize,
         trailer,

@@ -9,7 +9,7 @@ use mathlib.Core.Bool.{true}
 use borrow.Author.Tests.{not-true, not-false}
 use Rattle.words.specs.Buffers.{within}
 use Rattle.words.proofs.Buffers.{refuse, accept, within-room, within-not}
-use Rattle.records.specs.Spell.{fits, spelled}
+use Rattle.records.specs.Fields.{fits, recordBytes}
 use Rattle.record_writer.proofs.Laws.{total, write-misfit, write-fits, room-lacks, room-fits}
 use Rattle.record_writer.proofs.write_as.Tie as tie
 
@@ -18,7 +18,7 @@ fit : (c : tie.Else1) → fits (c .before .before .before .before .before .befor
 fit c = sym (c .before .fit .ensures) ∙ not-false _ (c .if1 .left)
 
 -- how long the record is
-long : (c : tie.After-room-for) → let a = c .before .before .before .before .before .before .before .before .args in length (spelled (a .k) (a .f) (a .a .now) (a .b .now) (a .x .now)) ≡ 7 + c .before .trailer-head .result + length (a .a .now) + length (a .b .now) + length (a .x .now)
+long : (c : tie.After-room-for) → let a = c .before .before .before .before .before .before .before .before .args in length (recordBytes (a .k) (a .f) (a .a .now) (a .b .now) (a .x .now)) ≡ 7 + c .before .trailer-head .result + length (a .a .now) + length (a .b .now) + length (a .x .now)
 long c = let a = c .before .before .before .before .before .before .before .before .args in omega (arith, total (a .k) (a .f) (a .a .now) (a .b .now) (a .x .now) (fit (c .before .before)), c .before .trailer-head .ensures .0)
 
 fit-requires : tie.Need-fit-requires
@@ -59,7 +59,7 @@ put-record-requires c κs =
 returns-2 : tie.Need-returns-2
 returns-2 c =
     let a = c .before .before .before .before .before .before .before .before .before .before .before .args in
-    let out = spelled (a .k) (a .f) (a .a .now) (a .b .now) (a .x .now) in
+    let out = recordBytes (a .k) (a .f) (a .a .now) (a .b .now) (a .x .now) in
     let g = room-lacks (7 + c .before .before .before .before .trailer-head .result + length (a .a .now) + length (a .b .now) + length (a .x .now)) (length (a .out .now)) (sym (c .before .before .before .room-for .ensures) ∙ c .before .enum-told .given .1) in
     rw (c .refused2 .ensures)
     (refuse (ap (within (length (a .out .now))) (write-fits (a .k) (a .f) (a .a .now) (a .b .now) (a .x .now) (fit (c .before .before .before .before .before))) ∙ within-not (length (a .out .now)) out (omega (arith, long (c .before .before .before), g))))
@@ -70,7 +70,7 @@ same-length c = search needs
 returns-3 : tie.Need-returns-3
 returns-3 c =
     let a = c .before .before .before .before .before .before .before .before .before .before .before .before .before .before .before .args in
-    let out = spelled (a .k) (a .f) (a .a .now) (a .b .now) (a .x .now) in
+    let out = recordBytes (a .k) (a .f) (a .a .now) (a .b .now) (a .x .now) in
     let g = room-fits (7 + c .before .before .before .before .before .before .before .before .trailer-head .result + length (a .a .now) + length (a .b .now) + length (a .x .now)) (length (a .out .now)) _ (sym (c .before .before .before .before .before .before .before .room-for .ensures) ∙ c .before .before .before .before .before .room .given .1) in
     let n : c .before .before .before .before .before .room .given .0 .0 ≡ length out = omega (arith, long (c .before .before .before .before .before .before .before), g .1) in
     rw n

@@ -4,8 +4,8 @@ use Rattle.record_numbers.specs.Numbers.{fieldsFrom}
 use Rattle.record_numbers.proofs.writing.fields_from.Statement.{statement}
 use Rattle.record_numbers.proofs.writing.fields_from.Tie as tie
 
-layout-of-requires : tie.Need-layout-of-requires
-layout-of-requires c κs = search needs
+record-layout-requires : tie.Need-record-layout-requires
+record-layout-requires c κs = search needs
 
 shared-slice-read-flag-from : tie.Need-shared-slice-read-flag-from
 shared-slice-read-flag-from c = search needs
@@ -36,13 +36,13 @@ shared-slice-read-t23 c = search needs
 
 returns : tie.Need-returns
 unfolding fieldsFrom
-returns c = rw (c .before .before .before .before .before .before .trailer-from .ensures, c .before .before .before .before .before .before .before .flag-from .ensures, c .before .before .before .before .before .before .before .before .before .layout-of .ensures)
+returns c = rw (c .before .before .before .before .before .before .trailer-from .ensures, c .before .before .before .before .before .before .before .flag-from .ensures, c .before .before .before .before .before .before .before .before .before .record-layout .ensures)
 
 pub fields-from-spec : {M : Type 1} → statement M
 fields-from-spec =
     tie.close
     (tie.spec
-    layout-of-requires
+    record-layout-requires
     shared-slice-read-flag-from
     flag-from-requires
     trailer-from-requires

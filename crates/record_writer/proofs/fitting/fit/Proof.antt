@@ -20,29 +20,29 @@ returns-2 : tie.Need-returns-2
 unfolding fitsByParts all
 returns-2 c = rw (fits-by-parts, ← c .before .before .before .numbers-fit .ensures, not-false (c .before .before .before .numbers-fit .result) (c .before .before .if1 .left)) (search tests)
 
-layout-of-requires : tie.Need-layout-of-requires
-layout-of-requires c κs = search needs
+record-layout-requires : tie.Need-record-layout-requires
+record-layout-requires c κs = search needs
 
 are-sets-requires : tie.Need-are-sets-requires
 are-sets-requires c κs = search needs
 
 returns-3 : tie.Need-returns-3
 unfolding fitsByParts all
-returns-3 c = rw (fits-by-parts, ← c .before .before .before .before .before .before .before .numbers-fit .ensures, not-false (c .before .before .before .before .before .before .before .numbers-fit .result) (c .before .before .before .before .before .before .if1 .left), ← c .before .before .before .layout-of .ensures, ← c .before .are-sets .ensures, not-true (c .before .are-sets .result) (c .if3 .taken)) (search tests)
+returns-3 c = rw (fits-by-parts, ← c .before .before .before .before .before .before .before .numbers-fit .ensures, not-false (c .before .before .before .before .before .before .before .numbers-fit .result) (c .before .before .before .before .before .before .if1 .left), ← c .before .before .before .record-layout .ensures, ← c .before .are-sets .ensures, not-true (c .before .are-sets .result) (c .if3 .taken)) (search tests)
 
 are-sets-requires-2 : tie.Need-are-sets-requires-2
 are-sets-requires-2 c κs = search needs
 
 returns-4 : tie.Need-returns-4
 unfolding fitsByParts all
-returns-4 c = rw (fits-by-parts, ← c .before .before .before .before .before .before .before .before .before .numbers-fit .ensures, not-false (c .before .before .before .before .before .before .before .before .before .numbers-fit .result) (c .before .before .before .before .before .before .before .before .if1 .left), ← c .before .before .before .before .before .layout-of .ensures, ← c .before .before .before .are-sets .ensures, not-false (c .before .before .before .are-sets .result) (c .before .before .if3 .left), ← c .before .are-sets2 .ensures, not-true (c .before .are-sets2 .result) (c .if4 .taken)) (search tests)
+returns-4 c = rw (fits-by-parts, ← c .before .before .before .before .before .before .before .before .before .numbers-fit .ensures, not-false (c .before .before .before .before .before .before .before .before .before .numbers-fit .result) (c .before .before .before .before .before .before .before .before .if1 .left), ← c .before .before .before .before .before .record-layout .ensures, ← c .before .before .before .are-sets .ensures, not-false (c .before .before .before .are-sets .result) (c .before .before .if3 .left), ← c .before .are-sets2 .ensures, not-true (c .before .are-sets2 .result) (c .if4 .taken)) (search tests)
 
 trailer-fits-requires : tie.Need-trailer-fits-requires
 trailer-fits-requires c κs = search needs
 
 returns-5 : tie.Need-returns-5
 unfolding fitsByParts all
-returns-5 c = rw (fits-by-parts, ← c .before .before .before .before .before .before .before .before .before .before .numbers-fit .ensures, not-false (c .before .before .before .before .before .before .before .before .before .before .numbers-fit .result) (c .before .before .before .before .before .before .before .before .before .if1 .left), ← c .before .before .before .before .before .before .layout-of .ensures, ← c .before .before .before .before .are-sets .ensures, not-false (c .before .before .before .before .are-sets .result) (c .before .before .before .if3 .left), ← c .before .before .are-sets2 .ensures, not-false (c .before .before .are-sets2 .result) (c .before .if4 .left), ne-eqb (c .before .before .before .before .before .before .before .before .before .before .before .before .before .before .args .f .size) 3 (c .before .before .before .before .before .before .before .if2 .left), and-true) (c .trailer-fits .ensures)
+returns-5 c = rw (fits-by-parts, ← c .before .before .before .before .before .before .before .before .before .before .numbers-fit .ensures, not-false (c .before .before .before .before .before .before .before .before .before .before .numbers-fit .result) (c .before .before .before .before .before .before .before .before .before .if1 .left), ← c .before .before .before .before .before .before .record-layout .ensures, ← c .before .before .before .before .are-sets .ensures, not-false (c .before .before .before .before .are-sets .result) (c .before .before .before .if3 .left), ← c .before .before .are-sets2 .ensures, not-false (c .before .before .are-sets2 .result) (c .before .if4 .left), ne-eqb (c .before .before .before .before .before .before .before .before .before .before .before .before .before .before .args .f .«length_size») 3 (c .before .before .before .before .before .before .before .if2 .left), and-true) (c .trailer-fits .ensures)
 
 pub fit-spec : {M : Type 1} → statement M
 fit-spec =
@@ -51,7 +51,7 @@ fit-spec =
     numbers-fit-requires
     returns
     returns-2
-    layout-of-requires
+    record-layout-requires
     are-sets-requires
     returns-3
     are-sets-requires-2

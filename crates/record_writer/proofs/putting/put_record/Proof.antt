@@ -8,11 +8,11 @@ use Rattle.record_writer.proofs.putting.put_record.Statement.{statement
 use Rattle.records.proofs.Numbers.{numbers-true}
 use Rattle.records.proofs.Fits.{Fitting, fitting}
 use Rattle.record_writer.proofs.Laws.{spelled-length, record-written}
-use Rattle.records.specs.Spell.{spelled, trailerBytes}
+use Rattle.records.specs.Fields.{recordBytes, trailerBytes}
 use Rattle.record_writer.proofs.putting.put_record.Tie as tie
 
 -- how long the record is, and that it fits
-long : (c : tie.Start) → length (spelled (c .args .k) (c .args .f) (c .args .a .now) (c .args .b .now) (c .args .x .now)) ≡ 7 + length (c .args .a .now) + length (c .args .b .now) + length (trailerBytes (c .args .f .trailer) (c .args .x .now))
+long : (c : tie.Start) → length (recordBytes (c .args .k) (c .args .f) (c .args .a .now) (c .args .b .now) (c .args .x .now)) ≡ 7 + length (c .args .a .now) + length (c .args .b .now) + length (trailerBytes (c .args .f .trailer) (c .args .x .now))
 long c = spelled-length (c .args .k) (c .args .f) (c .args .a .now) (c .args .b .now) (c .args .x .now)
 
 fit : (c : tie.Start) → Fitting (c .args .k) (c .args .f) (c .args .a .now) (c .args .b .now) (c .args .x .now)

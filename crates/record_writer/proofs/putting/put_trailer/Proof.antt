@@ -5,7 +5,7 @@ use mathlib.Core.Path.{_∙_}
 use Prim.Native.Nat.{_+_}
 use lib.ListN.{length-append}
 use Rattle.record_writer.proofs.putting.put_trailer.Statement.{statement}
-use Rattle.records.specs.Spell.{highHead}
+use Rattle.records.specs.Fields.{highHead}
 use Rattle.words.proofs.Buffers.{write-none, put-fits, write-write, write-length}
 use Rattle.words.specs.Buffers.{writeAt}
 use Rattle.record_writer.proofs.putting.put_trailer.Tie as tie
