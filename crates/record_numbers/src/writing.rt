@@ -5,7 +5,8 @@ ghost use lib.ListN.{length};
 ghost use Rattle.words.specs.Buffers.{within, Wrote};
 ghost use Rattle.records.specs.Layout.{flagOf};
 ghost use Rattle.record_writer.specs.Answers.{answerOf};
-ghost use Rattle.record_numbers.specs.Numbers.{numberCount, flagMost, highFrom, trailerFrom, numbersFault, fieldsFrom, writeNumbersAs};
+ghost use Rattle.record_numbers.specs.Indices.{numberCount};
+ghost use Rattle.record_numbers.specs.Numbers.{flagMost, highFrom, trailerFrom, numbersFault, fieldsFrom, writeNumbersAs};
 use crate::NUMBER_COUNT;
 use crate::TRAILER_NONE;
 use crate::TRAILER_PRESENT;
@@ -25,7 +26,7 @@ fn flag_most(k: Kind) -> u64
     ensures { λ r. ⌜ r ≡ flagMost k ⌝ }
 {
     let l = layouts::record_layout(k);
-    if l.complete {
+    if 0 < l.flags {
         return 1;
     }
     0
@@ -94,7 +95,7 @@ fn fields_from(k: Kind, numbers: &[u64]) -> Fields
     ensures { λ r. ⌜ r ≡ fieldsFrom k (now (numbers .entry)) ⌝ }
 {
     let l = layouts::record_layout(k);
-    let complete = flag_from(l.complete, numbers[3]);
+    let complete = flag_from(0 < l.flags, numbers[3]);
     let trailer = trailer_from(numbers);
     Fields {
         profile: numbers[0] as usize,
@@ -121,17 +122,17 @@ pub(crate) fn refused(number: u8) -> Written
 pub(crate) fn write_as(
     k: Kind,
     numbers: &[u64],
-    a: &[u8],
-    b: &[u8],
-    x: &[u8],
+    sequences: &[u8],
+    pictures: &[u8],
+    extensions: &[u8],
     out: &mut [u8],
 ) -> Written
-    ensures { λ r. ⌜ Wrote (now (out .entry)) (now (out .exit)) (answerOf r) (within (length (now (out .entry))) (writeNumbersAs k (now (numbers .entry)) (now (a .entry)) (now (b .entry)) (now (x .entry)))) ⌝ }
+    ensures { λ r. ⌜ Wrote (now (out .entry)) (now (out .exit)) (answerOf r) (within (length (now (out .entry))) (writeNumbersAs k (now (numbers .entry)) (now (sequences .entry)) (now (pictures .entry)) (now (extensions .entry)))) ⌝ }
 {
     let fault = numbers_fault(k, numbers);
     if fault != 0 {
         return refused(fault);
     }
     let f = fields_from(k, numbers);
-    record_writer::write_as(k, f, a, b, x, out)
+    record_writer::write_as(k, f, sequences, pictures, extensions, out)
 }
