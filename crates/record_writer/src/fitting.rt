@@ -63,7 +63,7 @@ pub(crate) fn facts_of(k: Kind, profile: usize, trailer: Trailer) -> Facts
         Trailer::With(t) => {
             let fits = high_fits(t);
             Facts {
-                head: 4,
+                head: layouts::TRAILER_HEAD,
                 sets: t.extensions,
                 fits,
                 belongs: has,
@@ -121,7 +121,7 @@ pub(crate) fn fit(
     if !numbers_fit(k, f) {
         return false;
     }
-    if f.length_size == 3 {
+    if f.length_size == layouts::BAD_SIZE {
         return false;
     }
     let l = layouts::record_layout(k);

@@ -14,6 +14,9 @@ use numbers::Refusal;
 use numbers::refusals;
 use records::Fields;
 
+// How many bytes of a record stand neither in sets nor in a trailer: its head, and the number of picture sets.
+const FRONT: usize = 7;
+
 pub enum Written {
     Refused(Refusal),
     // how many bytes
@@ -63,7 +66,7 @@ pub fn write_as(
     }
     let trailer = f.trailer;
     let facts = fitting::facts_of(k, f.profile, trailer);
-    let head = 7 + facts.head;
+    let head = FRONT + facts.head;
     let room = putting::room_for(out.len(), head, sequences.len(), pictures.len(), extensions.len());
     match room {
         Room::Lacks => refused(refusals::OUTPUT_TOO_LONG),

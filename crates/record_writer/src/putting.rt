@@ -50,7 +50,7 @@ fn head_bytes(k: Kind, f: Fields) -> [u8; 6]
     let fifth = bit_of(complete) * layouts::COMPLETE + less_one;
     let sixth = byte_of(count, f.sequences);
     [
-        1,
+        layouts::VERSION,
         f.profile as u8,
         f.compatibility as u8,
         f.level as u8,
@@ -116,9 +116,9 @@ fn put_front(out: &mut [u8], k: Kind, f: Fields, sequences: &[u8])
 {
     let head = head_bytes(k, f);
     let count = [f.pictures as u8];
-    let at = 6 + sequences.len();
+    let at = layouts::HEAD + sequences.len();
     numbers::put_bytes(out, 0, &head);
-    numbers::put_bytes(out, 6, sequences);
+    numbers::put_bytes(out, layouts::HEAD, sequences);
     numbers::put_bytes(out, at, &count);
 }
 
@@ -137,7 +137,7 @@ pub(crate) fn put_record(
     ensures { λ _. ⌜ now (out .exit) ≡ overwrite (now (out .entry)) (recordBytes k f (now (sequences .entry)) (now (pictures .entry)) (now (extensions .entry))) ⌝ }
 {
     let trailer = f.trailer;
-    let at = 6 + sequences.len() + 1;
+    let at = layouts::HEAD + sequences.len() + 1;
     let end = at + pictures.len();
     put_front(out, k, f, sequences);
     numbers::put_bytes(out, at, pictures);

@@ -7,6 +7,27 @@ use crate::Shape;
 use numbers::Kind;
 use sets::SetTypes;
 
+// A record's version, where the other bytes before the sequence sets stand, and how many these are.
+pub const VERSION: u8 = 1;
+
+pub const PROFILE_AT: usize = 1;
+
+pub const COMPATIBILITY_AT: usize = 2;
+
+pub const LEVEL_AT: usize = 3;
+
+pub const LENGTH_SIZE_AT: usize = 4;
+
+pub const COUNT_AT: usize = 5;
+
+pub const HEAD: usize = 6;
+
+// How many bytes a trailer has before its sets.
+pub const TRAILER_HEAD: usize = 4;
+
+// The length size that no record may state.
+pub const BAD_SIZE: usize = 3;
+
 // What complete_representation, the first flag, counts in its byte.
 pub const COMPLETE: u8 = 128;
 

@@ -4,7 +4,7 @@ mod steps;
 
 ghost use mathlib.Core.Path.{_≡_};
 ghost use Rattle.records.specs.Answers.{answerOf};
-ghost use Rattle.records.specs.Read.{sequencesEnd, picturesEnd, recordFault, readAs, readRecord};
+ghost use Rattle.records.specs.Read.{lengthSize, sequencesEnd, picturesEnd, recordFault, readAs, readRecord};
 ghost use Rattle.records.specs.Steps.{Followed};
 use numbers::ByteOffset;
 use numbers::Kind;
@@ -123,8 +123,8 @@ fn accepted(k: Kind, s: &[u8], p: usize, q: usize, follow: Follow) -> Reading
     Reading::Accepted(Record {
         fields,
         sequences: Part {
-            start: ByteOffset(6),
-            len: p - 6,
+            start: ByteOffset(layouts::HEAD),
+            len: p - layouts::HEAD,
         },
         pictures: Part {
             start: ByteOffset(p + 1),
@@ -163,6 +163,16 @@ pub fn read_as(k: Kind, s: &[u8]) -> Reading
         return refused(refusals::BYTES_AFTER_RECORD);
     }
     accepted(k, s, p, q, follow)
+}
+
+// The length size that the bytes of a record of a known kind state, whatever else they hold; a byte that is not there counts as 0.
+pub fn length_size(k: Kind, s: &[u8]) -> usize
+    ensures { λ r. ⌜ r ≡ lengthSize k (now (s .entry)) ⌝ }
+{
+    let l = layouts::record_layout(k);
+    let shape = l.length_size;
+    let less_one = steps::value_in(shape, numbers::byte(s, layouts::LENGTH_SIZE_AT));
+    less_one + 1
 }
 
 // The record that the bytes are, by a kind's number: 0 AVC, 1 SVC.

@@ -47,22 +47,22 @@ pub(crate) fn head_fault(k: Kind, s: &[u8]) -> u8
     ensures { λ r. ⌜ r ≡ headFault k (now (s .entry)) ⌝ }
 {
     let l = layouts::record_layout(k);
-    let size = l.length_size;
+    let shape = l.length_size;
     let count = l.count;
     if s.len() <= 0 {
         return refusals::RECORD_CUT;
     }
-    if s[0] != 1 {
+    if s[0] != layouts::VERSION {
         return refusals::BAD_VERSION;
     }
-    let fifth = byte_fault(s, size, 4);
+    let fifth = byte_fault(s, shape, layouts::LENGTH_SIZE_AT);
     if fifth != 0 {
         return fifth;
     }
-    if value_in(size, s[4]) + 1 == 3 {
+    if value_in(shape, s[layouts::LENGTH_SIZE_AT]) + 1 == layouts::BAD_SIZE {
         return refusals::BAD_LENGTH_SIZE;
     }
-    byte_fault(s, count, 5)
+    byte_fault(s, count, layouts::COUNT_AT)
 }
 
 // The sequence sets, after the six bytes.
@@ -73,8 +73,8 @@ pub(crate) fn walk_sequences(k: Kind, s: &[u8]) -> Walk
     let l = layouts::record_layout(k);
     let count = l.count;
     let types = l.sequence;
-    let n = value_in(count, s[5]);
-    sets::walk_sets(types, s, n, 6)
+    let n = value_in(count, s[layouts::COUNT_AT]);
+    sets::walk_sets(types, s, n, layouts::HEAD)
 }
 
 // The number of picture sets at a place, and the sets.
@@ -124,7 +124,7 @@ pub(crate) fn walk_trailer(s: &[u8], at: usize) -> Walk
         return Walk { fault, end: 0 };
     }
     let n = s[at + 3] as usize;
-    sets::walk_sets(layouts::EXTENSION_TYPES, s, n, at + 4)
+    sets::walk_sets(layouts::EXTENSION_TYPES, s, n, at + layouts::TRAILER_HEAD)
 }
 
 // The values of a trailer at a place.
@@ -149,7 +149,7 @@ pub(crate) fn follow_of(k: Kind, s: &[u8], at: usize) -> Follow
     requires { ⌜ (1 < length (now s)) × (at ≤ length (now s)) × (at ≡ picturesEnd k (now s)) ⌝ }
     ensures { λ r. ⌜ Followed k (now (s .entry)) r ⌝ }
 {
-    if !layouts::has_trailer(k, s[1] as usize) {
+    if !layouts::has_trailer(k, s[layouts::PROFILE_AT] as usize) {
         return Follow {
             fault: 0,
             trailer: Trailer::Without,
@@ -170,7 +170,7 @@ pub(crate) fn follow_of(k: Kind, s: &[u8], at: usize) -> Follow
     Follow {
         fault: 0,
         trailer: Trailer::With(high),
-        start: at + 4,
+        start: at + layouts::TRAILER_HEAD,
         end: w.end,
     }
 }
@@ -194,15 +194,15 @@ pub(crate) fn fields_of(k: Kind, s: &[u8], at: usize, trailer: Trailer) -> Field
     ensures { λ r. ⌜ r ≡ fieldsOf k (now (s .entry)) ⌝ }
 {
     let l = layouts::record_layout(k);
-    let size = l.length_size;
+    let shape = l.length_size;
     let count = l.count;
-    let complete = flag_of(0 < l.flags, s[4] / layouts::COMPLETE % 2);
-    let less_one = value_in(size, s[4]);
-    let sequences = value_in(count, s[5]);
+    let complete = flag_of(0 < l.flags, s[layouts::LENGTH_SIZE_AT] / layouts::COMPLETE % 2);
+    let less_one = value_in(shape, s[layouts::LENGTH_SIZE_AT]);
+    let sequences = value_in(count, s[layouts::COUNT_AT]);
     Fields {
-        profile: s[1] as usize,
-        compatibility: s[2] as usize,
-        level: s[3] as usize,
+        profile: s[layouts::PROFILE_AT] as usize,
+        compatibility: s[layouts::COMPATIBILITY_AT] as usize,
+        level: s[layouts::LEVEL_AT] as usize,
         complete,
         length_size: less_one + 1,
         sequences,
