@@ -1,6 +1,7 @@
 -- An accepted record, taken apart: no test refused, and where its sets end. Assumes nothing.
 --
 --   byte-good                 a byte without a refusal is there, with its fixed bits
+--   length-size-most          a length size is at most 4
 --   Head, head-good           what the six bytes before the sequence sets are
 --   Trailed, values-good      what the bytes of a trailer before its sets are
 --   Parsed, parsed            all of it
@@ -24,6 +25,7 @@ use Rattle.records.specs.Layout.{recordLayout, fixedIn, valueIn, picture
 use Rattle.records.specs.Trailers.{extensionTypes, chromaShape, depthShape, hasTrailer, valuesFault, ending}
 use Rattle.records.specs.Read.{lengthSize, headFault, sequenceCount, sequencesFault, sequencesEnd, pictureCount, picturesFault, picturesEnd, trailerOf, followFault, extensionsAt, recordEnd, recordFault}
 use Rattle.records.specs.declared.Shape.{Shape}
+use Rattle.records.proofs.Shapes.{row, value-below}
 
 pub there : (s : List ℕ) (p : ℕ) → missing s p ≡ 0 → p < length s
 there s p e = leb-false _ _ (if-none _ _ e)
@@ -33,6 +35,10 @@ unfolding byteFault
 byte-good s h p e =
     let a = orElse-none (missing s p) _ e in
     (there s p (a .0), eqb-true _ _ (not-false _ (if-none _ _ (a .1))))
+
+-- whatever the bytes are
+pub length-size-most : (k : Kind) (s : List ℕ) → lengthSize k s ≤ 4
+length-size-most k s = omega (arith, value-below (recordLayout k .«length_size») (byteAt s 4) (row k .«length_size»), row k .low)
 
 pub record Head (k : Kind) (s : List ℕ) : Type 0 where
   pub version : byteAt s 0 ≡ 1

@@ -69,9 +69,10 @@ sound-chroma = sound chromaShape (lit< tt) (lit< tt) (lit≤ tt) (lit≤ tt)
 pub sound-depth : Sound depthShape
 sound-depth = sound depthShape (lit< tt) (lit< tt) (lit≤ tt) (lit≤ tt)
 
--- What holds of each kind's row: its shapes are sound, and no flags stand before the number of sequence sets.
+-- What holds of each kind's row: its shapes are sound, a length size is at most 4, and no flags stand before the number of sequence sets.
 pub record Row (l : Layout) : Type 0 where
   pub «length_size» : Sound (l .«length_size»)
+  pub low : l .«length_size» .low ≡ 4
   pub count : Sound (l .count)
   pub unit : l .count .unit ≡ 256
 
@@ -79,12 +80,14 @@ pub row : (k : Kind) → Row (recordLayout k)
 row Avc =
     record {
       «length_size» = sound (recordLayout Avc .«length_size») (lit< tt) (lit< tt) (lit≤ tt) (lit≤ tt);
+      low = refl;
       count = sound (recordLayout Avc .count) (lit< tt) (lit< tt) (lit≤ tt) (lit≤ tt);
       unit = refl;
     }
 row Svc =
     record {
       «length_size» = sound (recordLayout Svc .«length_size») (lit< tt) (lit< tt) (lit≤ tt) (lit≤ tt);
+      low = refl;
       count = sound (recordLayout Svc .count) (lit< tt) (lit< tt) (lit≤ tt) (lit≤ tt);
       unit = refl;
     }
