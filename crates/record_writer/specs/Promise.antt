@@ -44,9 +44,9 @@ MisfitsExactly =
     (kind : ℕ) (k : Kind) (f : Fields) (sequences pictures extensions : List ℕ) (room : ℕ) →
     kindOf kind ≡ Known k → Bytes sequences → Bytes pictures → Bytes extensions →
     (writeRecord kind f sequences pictures extensions room ≡ refused fieldsFitNoRecord 0 →
-      (s : List ℕ) → Bytes s → Holds kind s f sequences pictures extensions → ⊥)
+    (s : List ℕ) → Bytes s → Holds kind s f sequences pictures extensions → ⊥)
     × (((s : List ℕ) → Bytes s → Holds kind s f sequences pictures extensions → ⊥) →
-      writeRecord kind f sequences pictures extensions room ≡ refused fieldsFitNoRecord 0)
+    writeRecord kind f sequences pictures extensions room ≡ refused fieldsFitNoRecord 0)
 
 -- `read-refusals`, `write-refusals`: every refusal is one of these, at place 0.
 abbrev pub readRefusals : List ℕ

@@ -109,13 +109,7 @@ fn numbers_fit(k: Kind, f: Fields) -> bool
 }
 
 // Fields and sets fit a record.
-pub(crate) fn fit(
-    k: Kind,
-    f: Fields,
-    sequences: &[u8],
-    pictures: &[u8],
-    extensions: &[u8],
-) -> bool
+pub(crate) fn fit(k: Kind, f: Fields, sequences: &[u8], pictures: &[u8], extensions: &[u8]) -> bool
     ensures { λ r. ⌜ r ≡ fits k f (now (sequences .entry)) (now (pictures .entry)) (now (extensions .entry)) ⌝ }
 {
     if !numbers_fit(k, f) {

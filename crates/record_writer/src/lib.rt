@@ -67,7 +67,13 @@ pub fn write_as(
     let trailer = f.trailer;
     let facts = fitting::facts_of(k, f.profile, trailer);
     let head = FRONT + facts.head;
-    let room = putting::room_for(out.len(), head, sequences.len(), pictures.len(), extensions.len());
+    let room = putting::room_for(
+        out.len(),
+        head,
+        sequences.len(),
+        pictures.len(),
+        extensions.len(),
+    );
     match room {
         Room::Lacks => refused(refusals::OUTPUT_TOO_LONG),
         Room::Fits(n) => {

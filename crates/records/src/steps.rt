@@ -196,7 +196,10 @@ pub(crate) fn fields_of(k: Kind, s: &[u8], at: usize, trailer: Trailer) -> Field
     let l = layouts::record_layout(k);
     let shape = l.length_size;
     let count = l.count;
-    let complete = flag_of(0 < l.flags, s[layouts::LENGTH_SIZE_AT] / layouts::COMPLETE % 2);
+    let complete = flag_of(
+        0 < l.flags,
+        s[layouts::LENGTH_SIZE_AT] / layouts::COMPLETE % 2,
+    );
     let less_one = value_in(shape, s[layouts::LENGTH_SIZE_AT]);
     let sequences = value_in(count, s[layouts::COUNT_AT]);
     Fields {
