@@ -27,7 +27,8 @@ use Rattle.records.specs.declared.Trailer.the-variants.{Without, With}
 use Rattle.records.specs.declared.Part.{Part}
 use Rattle.records.specs.declared.Record.{Record}
 use Rattle.record_writer.specs.Write.{writeAs}
-use Rattle.record_numbers.specs.Numbers.{numberCount, trailerNumbers, numbersOf, readNumbers, numbersFault, fieldsFrom, writeNumbersAs}
+use Rattle.record_numbers.specs.Indices.{numberCount}
+use Rattle.record_numbers.specs.Numbers.{trailerNumbers, numbersOf, readNumbers, numbersFault, fieldsFrom, writeNumbersAs}
 
 trailer-length : (t : Trailer) (x : Part) → length (trailerNumbers t x) ≡ 7
 trailer-length Without x = refl

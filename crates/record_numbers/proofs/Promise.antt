@@ -3,16 +3,17 @@
 --   numbers-back      the numbers of a record that was read give its fields
 --   writes-back       an accepted record, written again from its numbers, gives the same bytes
 --   reads-back        what was written reads back as what was given
-use Prim.Native.Nat.{ℕ, _≤_}
+use Prim.Native.Nat.{ℕ, _+_, _/_, _%_, _≤_}
 use mathlib.Core.Path.{_≡_, refl, sym, _∙_}
 use mathlib.Core.Bool.{false}
 use mathlib.Core.List.{List}
+use native.Mathlib.Omega.{arith}
 use native.Mathlib.Nat.{sub-self}
-use lib.ListN.{length, getD}
+use lib.ListN.{length}
 use Rattle.words.specs.Tests.{_<?_, _≡?_}
 use Rattle.words.specs.RefusalNumbers.{unknownKind}
 use Rattle.words.specs.Refusals.{Answer, refused, ok}
-use Rattle.words.specs.Bytes.{Bytes}
+use Rattle.words.specs.Bytes.{Bytes, byteAt}
 use Rattle.words.specs.Buffers.{within}
 use Rattle.words.proofs.Tests.{by-bool, by-number}
 use Rattle.words.proofs.Refusals.{ok-same, ok-refused}
@@ -21,14 +22,18 @@ use Rattle.numbers.specs.declared.Kind.{Kind}
 use Rattle.numbers.specs.declared.Kind.the-variants.{Avc, Svc}
 use Rattle.numbers.specs.declared.MaybeKind.{MaybeKind}
 use Rattle.numbers.specs.declared.MaybeKind.the-variants.{Known, Unknown}
-use Rattle.records.specs.Layout.{layoutOf, bit, flagOf, flagsIn}
-use Rattle.records.specs.Read.{recordFault, recordOf, readAs, readRecord, trailerThere, picturesEnd}
-use Rattle.records.specs.Answers.{partOf}
+use Rattle.records.specs.Layout.{recordLayout, bit, flagOf}
+use Rattle.records.specs.Trailers.{hasTrailer, extensionTypes}
+use Rattle.sets.proofs.Laws.{sets-none}
+use Rattle.records.proofs.Shapes.{flag-back}
+use Rattle.records.specs.Read.{recordFault, recordOf, readAs, readRecord, picturesEnd, recordEnd}
+use Rattle.records.specs.Answers.{partBytes}
 use Rattle.records.specs.declared.Record.{Record}
 use Rattle.record_writer.specs.Write.{writeRecord}
 use Rattle.record_writer.specs.Promise.{Holds}
 use Rattle.record_writer.proofs.Promise as writer
-use Rattle.record_numbers.specs.Numbers.{numberCount, numbersOf, asNumbers, readNumbers, numbersFault, flagMost, fieldsFrom, writeNumbersAs, writeNumbers, _at_}
+use Rattle.record_numbers.specs.Indices.{numberCount}
+use Rattle.record_numbers.specs.Numbers.{numbersOf, asNumbers, readNumbers, numbersFault, hasComplete, flagMost, fieldsFrom, writeNumbersAs, writeNumbers, _at_}
 use Rattle.record_numbers.specs.Promise.{sequencesIn, picturesIn, extensionsIn, Same, NumbersBack, WritesBack, ReadsBack}
 use Rattle.record_numbers.proofs.Laws.{read-fits, fault-none}
 
@@ -53,27 +58,26 @@ read-unknown : (kind : ℕ) (s : List ℕ) → kindOf kind ≡ Unknown → readR
 unfolding readRecord
 read-unknown kind s e = rw e
 
--- complete_representation, there and back
-flag-back : (k : Kind) (n : ℕ) → flagOf (layoutOf k .complete) (bit (flagOf (layoutOf k .complete) n)) ≡ flagOf (layoutOf k .complete) n
-flag-back Avc n = refl
-flag-back Svc n = by-bool (n ≡? 0) (λ t. rw t) (λ t. rw t)
-
-flag-fits : (k : Kind) (n : ℕ) → (flagMost k <? bit (flagOf (layoutOf k .complete) n)) ≡ false
+-- complete_representation fits what it may be
+flag-fits : (k : Kind) (n : ℕ) → (flagMost k <? bit (flagOf (hasComplete k) n)) ≡ false
 flag-fits Avc n = refl
 flag-fits Svc n = by-bool (n ≡? 0) (λ t. rw t) (λ t. rw t)
 
 module _ (k : Kind) (s : List ℕ) where
   no-fault : numbersFault k (numbersOf (recordOf k s)) ≡ 0
   unfolding numbersFault numbersOf
-  no-fault = rw (flag-fits k (flagsIn (layoutOf k .size) (getD s 4 0))) (by-bool (trailerThere k s) (λ t. rw t) (λ t. rw t))
+  no-fault = rw (flag-fits k (byteAt s 4 / 128 % 2)) (by-bool (hasTrailer k (byteAt s 1)) (λ t. rw t) (λ t. rw t))
 
   fields-back : fieldsFrom k (numbersOf (recordOf k s)) ≡ recordOf k s .fields
   unfolding fieldsFrom numbersOf
-  fields-back = rw (flag-back k (flagsIn (layoutOf k .size) (getD s 4 0))) (by-bool (trailerThere k s) (λ t. rw t) (λ t. rw t))
+  fields-back = rw (flag-back (hasComplete k) (byteAt s 4 / 128 % 2)) (by-bool (hasTrailer k (byteAt s 1)) (λ t. rw t) (λ t. rw t))
 
-  extensions-back : extensionsIn s (numbersOf (recordOf k s)) ≡ partOf s (recordOf k s .extensions)
+  extensions-back : extensionsIn s (numbersOf (recordOf k s)) ≡ partBytes s (recordOf k s .extensions)
   unfolding numbersOf
-  extensions-back = by-bool (trailerThere k s) (λ t. rw t) (λ t. rw (t, sub-self (picturesEnd k s)))
+  extensions-back =
+      by-bool (hasTrailer k (byteAt s 1))
+      (λ t. rw t)
+      (λ t. let n = sets-none extensionTypes s {n = 0} (picturesEnd k s + 0) (omega arith) in rw (t, n .1, sub-self (picturesEnd k s + 0)))
 
 pub numbers-back : NumbersBack
 numbers-back kind k s r q e =
@@ -99,7 +103,7 @@ read-numbered kind s room e = numbered room (readRecord kind s) e
 
 -- what stands where the numbers of a record say
 module _ (kind : ℕ) (k : Kind) (s : List ℕ) (r : Record) (q : kindOf kind ≡ Known k) (e : readRecord kind s ≡ ok r) where
-  extensions-there : extensionsIn s (numbersOf r) ≡ partOf s (r .extensions)
+  extensions-there : extensionsIn s (numbersOf r) ≡ partBytes s (r .extensions)
   extensions-there = rw (accepted k s (sym (read-known kind k s q) ∙ e)) (extensions-back k s)
 
   held : Holds kind s (fieldsFrom k (numbersOf r)) (sequencesIn s (numbersOf r)) (picturesIn s (numbersOf r)) (extensionsIn s (numbersOf r))

@@ -1,18 +1,15 @@
--- A record as 18 numbers, as include/puddockle.h lists them:
--- 0 profile, 1 compatibility, 2 level, 3 complete_representation, 4 length size, 5 to 7 sequence sets, 8 to 10 picture sets (count, start, length),
--- 11 trailer, 12 chroma format, 13 luma depth less 8, 14 chroma depth less 8, 15 to 17 the trailer's sets (count, start, length).
+-- A record as 18 numbers, in the order of `Indices`.
 --
---   numberCount              18
---   trailerNone, trailerPresent    number 11: 0 without a trailer, 2 with one. 1, absent where one belongs, is not read and is 31
 --   numbersOf r              the numbers of a record
 --   readNumbers kind s room  a record read as numbers: the refusals of reading, then 29, or the numbers
 --   ns at i                  number i
+--   hasComplete k            whether a record of kind k has a complete_representation
 --   flagMost k               the most that complete_representation may be in a record of kind k
 --   numbersFault k ns        31: too few numbers, or one that is no complete_representation or no trailer
 --   fieldsFrom k ns          the fields that numbers give; starts and lengths are not looked at
---   writeNumbers kind ns a b x room    a record written from numbers: 4, then 31, then 29, or its bytes
+--   writeNumbers kind ns sequences pictures extensions room    a record written from numbers: 4, then 31, then 29, or its bytes
 use Prim.Native.Nat.{ℕ}
-use mathlib.Core.Bool.{not, _||_}
+use mathlib.Core.Bool.{Bool, not, _||_}
 use mathlib.Core.List.{List, [], _∷_}
 use lib.ListN.{length, getD}
 use Rattle.words.specs.Tests.{_<?_, _≡?_, pick}
@@ -21,7 +18,7 @@ use Rattle.words.specs.Refusals.{_if_, _orElse_, Answer, refused, ok, _atPlace_
 use Rattle.words.specs.Buffers.{within}
 use Rattle.numbers.specs.Kinds.{kindOf, onKind}
 use Rattle.numbers.specs.declared.Kind.{Kind}
-use Rattle.records.specs.Layout.{layoutOf, bit, flagOf}
+use Rattle.records.specs.Layout.{recordLayout, bit, flagOf}
 use Rattle.records.specs.Read.{readRecord}
 use Rattle.records.specs.declared.High.{High}
 use Rattle.records.specs.declared.Trailer.{Trailer}
@@ -30,25 +27,19 @@ use Rattle.records.specs.declared.Fields.{Fields}
 use Rattle.records.specs.declared.Part.{Part}
 use Rattle.records.specs.declared.Record.{Record}
 use Rattle.record_writer.specs.Write.{writeAs}
+use Rattle.record_numbers.specs.Indices.{profile, compatibility, level, completeRepresentation, lengthSize, sequenceCount, pictureCount}
+use Rattle.record_numbers.specs.Indices.{trailer, chromaFormat, lumaDepth, chromaDepth, extensionCount}
+use Rattle.record_numbers.specs.Indices.{numberCount, trailerNone, trailerPresent}
 
 infix 60 _at_
-abbrev pub numberCount : ℕ
-numberCount = 18
-
-abbrev pub trailerNone : ℕ
-trailerNone = 0
-
-abbrev pub trailerPresent : ℕ
-trailerPresent = 2
-
--- Reading: 11 to 17, then all. Without a trailer 12 to 17 are 0.
+-- Reading: the trailer and what follows it, then all. Without a trailer what follows it is 0.
 abbrev pub trailerNumbers : Trailer → Part → List ℕ
-trailerNumbers Without x = trailerNone ∷ 0 ∷ 0 ∷ 0 ∷ 0 ∷ 0 ∷ 0 ∷ []
-trailerNumbers (With t) x = trailerPresent ∷ t .format ∷ t .luma ∷ t .chroma ∷ t .extensions ∷ x .start .0 ∷ x .len ∷ []
+trailerNumbers Without sets = trailerNone ∷ 0 ∷ 0 ∷ 0 ∷ 0 ∷ 0 ∷ 0 ∷ []
+trailerNumbers (With t) sets = trailerPresent ∷ t .format ∷ t .luma ∷ t .chroma ∷ t .extensions ∷ sets .start .0 ∷ sets .len ∷ []
 
 unfoldable pub numbersOf : Record → List ℕ
 numbersOf r =
-    r .fields .profile ∷ r .fields .compatibility ∷ r .fields .level ∷ bit (r .fields .complete) ∷ r .fields .size
+    r .fields .profile ∷ r .fields .compatibility ∷ r .fields .level ∷ bit (r .fields .complete) ∷ r .fields .«length_size»
     ∷ r .fields .sequences ∷ r .sequences .start .0 ∷ r .sequences .len
     ∷ r .fields .pictures ∷ r .pictures .start .0 ∷ r .pictures .len
     ∷ trailerNumbers (r .fields .trailer) (r .extensions)
@@ -64,36 +55,41 @@ readNumbers kind s room = within room (asNumbers (readRecord kind s))
 abbrev pub _at_ : List ℕ → ℕ → ℕ
 ns at i = getD ns i 0
 
+abbrev pub hasComplete : Kind → Bool
+hasComplete k = 0 <? recordLayout k .flags
+
 abbrev pub flagMost : Kind → ℕ
-flagMost k = pick (layoutOf k .complete) 1 0
+flagMost k = pick (hasComplete k) 1 0
 
 unfoldable pub numbersFault : Kind → List ℕ → ℕ
 numbersFault k ns =
     fieldsFitNoRecord if length ns <? numberCount orElse
-    fieldsFitNoRecord if flagMost k <? ns at 3 orElse
-    fieldsFitNoRecord if not ((ns at 11 ≡? trailerNone) || (ns at 11 ≡? trailerPresent))
+    fieldsFitNoRecord if flagMost k <? ns at completeRepresentation orElse
+    fieldsFitNoRecord if not ((ns at trailer ≡? trailerNone) || (ns at trailer ≡? trailerPresent))
 
 abbrev pub highFrom : List ℕ → High
-highFrom ns = record { format = ns at 12; luma = ns at 13; chroma = ns at 14; extensions = ns at 15 }
+highFrom ns = record { format = ns at chromaFormat; luma = ns at lumaDepth; chroma = ns at chromaDepth; extensions = ns at extensionCount }
 
 abbrev pub trailerFrom : List ℕ → Trailer
-trailerFrom ns = pick (ns at 11 ≡? trailerPresent) (With (highFrom ns)) Without
+trailerFrom ns = pick (ns at trailer ≡? trailerPresent) (With (highFrom ns)) Without
 
 unfoldable pub fieldsFrom : Kind → List ℕ → Fields
 fieldsFrom k ns =
     record {
-      profile = ns at 0;
-      compatibility = ns at 1;
-      level = ns at 2;
-      complete = flagOf (layoutOf k .complete) (ns at 3);
-      size = ns at 4;
-      sequences = ns at 5;
-      pictures = ns at 8;
+      profile = ns at profile;
+      compatibility = ns at compatibility;
+      level = ns at level;
+      complete = flagOf (hasComplete k) (ns at completeRepresentation);
+      «length_size» = ns at lengthSize;
+      sequences = ns at sequenceCount;
+      pictures = ns at pictureCount;
       trailer = trailerFrom ns;
     }
 
 unfoldable pub writeNumbersAs : Kind → List ℕ → List ℕ → List ℕ → List ℕ → Answer (List ℕ)
-writeNumbersAs k ns a b x = numbersFault k ns atPlace 0 andThen writeAs k (fieldsFrom k ns) a b x
+writeNumbersAs k ns sequences pictures extensions =
+    numbersFault k ns atPlace 0 andThen writeAs k (fieldsFrom k ns) sequences pictures extensions
 
 unfoldable pub writeNumbers : ℕ → List ℕ → List ℕ → List ℕ → List ℕ → ℕ → Answer (List ℕ)
-writeNumbers kind ns a b x room = within room (onKind (kindOf kind) (λ k. writeNumbersAs k ns a b x))
+writeNumbers kind ns sequences pictures extensions room =
+    within room (onKind (kindOf kind) (λ k. writeNumbersAs k ns sequences pictures extensions))

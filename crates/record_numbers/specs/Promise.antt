@@ -10,17 +10,18 @@ use Rattle.numbers.specs.declared.Kind.{Kind}
 use Rattle.numbers.specs.declared.MaybeKind.the-variants.{Known}
 use Rattle.records.specs.Read.{readRecord}
 use Rattle.records.specs.declared.Record.{Record}
-use Rattle.record_numbers.specs.Numbers.{numberCount, numbersOf, readNumbers, _at_, numbersFault, fieldsFrom, writeNumbers}
+use Rattle.record_numbers.specs.Indices.{sequenceStart, sequenceLength, pictureStart, pictureLength, extensionStart, extensionLength, numberCount}
+use Rattle.record_numbers.specs.Numbers.{numbersOf, readNumbers, _at_, numbersFault, fieldsFrom, writeNumbers}
 
 -- the sets of a record s, by the starts and lengths of its numbers
 abbrev pub sequencesIn : List ℕ → List ℕ → List ℕ
-sequencesIn s ns = part s (ns at 6) (ns at 7)
+sequencesIn s ns = part s (ns at sequenceStart) (ns at sequenceLength)
 
 abbrev pub picturesIn : List ℕ → List ℕ → List ℕ
-picturesIn s ns = part s (ns at 9) (ns at 10)
+picturesIn s ns = part s (ns at pictureStart) (ns at pictureLength)
 
 abbrev pub extensionsIn : List ℕ → List ℕ → List ℕ
-extensionsIn s ns = part s (ns at 16) (ns at 17)
+extensionsIn s ns = part s (ns at extensionStart) (ns at extensionLength)
 
 -- `numbers-back`: the numbers of a record that was read give its fields.
 abbrev pub NumbersBack : Type 0
@@ -35,15 +36,16 @@ WritesBack =
     writeNumbers kind ns (sequencesIn s ns) (picturesIn s ns) (extensionsIn s ns) room ≡ ok s
 
 -- `reads-back`: what was written reads back, with room for the numbers, as the fields and sets that were given.
-pub record Same (kind : ℕ) (k : Kind) (s ns a b x : List ℕ) (numbers : ℕ) : Type 0 where
+pub record Same (kind : ℕ) (k : Kind) (s ns sequenceSets pictureSets extensionSets : List ℕ) (numbers : ℕ) : Type 0 where
   pub found : List ℕ
   pub read : readNumbers kind s numbers ≡ ok found
   pub fields : fieldsFrom k found ≡ fieldsFrom k ns
-  pub sequences : sequencesIn s found ≡ a
-  pub pictures : picturesIn s found ≡ b
-  pub extensions : extensionsIn s found ≡ x
+  pub sequences : sequencesIn s found ≡ sequenceSets
+  pub pictures : picturesIn s found ≡ pictureSets
+  pub extensions : extensionsIn s found ≡ extensionSets
 
 abbrev pub ReadsBack : Type 0
 ReadsBack =
-    (kind : ℕ) (k : Kind) (s ns a b x : List ℕ) (room numbers : ℕ) → kindOf kind ≡ Known k → numberCount ≤ numbers →
-    writeNumbers kind ns a b x room ≡ ok s → Same kind k s ns a b x numbers
+    (kind : ℕ) (k : Kind) (s ns sequences pictures extensions : List ℕ) (room numbers : ℕ) →
+    kindOf kind ≡ Known k → numberCount ≤ numbers →
+    writeNumbers kind ns sequences pictures extensions room ≡ ok s → Same kind k s ns sequences pictures extensions numbers

@@ -51,14 +51,21 @@ pub fn read(kind: u32, s: &[u8], out: &mut [u64]) -> Numbered
     }
 }
 
-// A record from its numbers, with the sequence sets a, the picture sets b and the trailer's sets x, by a kind's number: 4, 31, 29; or its
+// A record from its numbers, its sequence sets, its picture sets and its trailer's sets, by a kind's number: 4, 31, 29; or its
 // bytes over the start of the buffer, and how many. After a refusal the buffer is as it was.
-pub fn write(kind: u32, numbers: &[u64], a: &[u8], b: &[u8], x: &[u8], out: &mut [u8]) -> Written
-    ensures { λ r. ⌜ Wrote (now (out .entry)) (now (out .exit)) (written.answerOf r) (writeNumbers kind (now (numbers .entry)) (now (a .entry)) (now (b .entry)) (now (x .entry)) (length (now (out .entry)))) ⌝ }
+pub fn write(
+    kind: u32,
+    numbers: &[u64],
+    sequences: &[u8],
+    pictures: &[u8],
+    extensions: &[u8],
+    out: &mut [u8],
+) -> Written
+    ensures { λ r. ⌜ Wrote (now (out .entry)) (now (out .exit)) (written.answerOf r) (writeNumbers kind (now (numbers .entry)) (now (sequences .entry)) (now (pictures .entry)) (now (extensions .entry)) (length (now (out .entry)))) ⌝ }
 {
     let known = Kind::from_number(kind);
     match known {
         MaybeKind::Unknown => writing::refused(refusals::UNKNOWN_KIND),
-        MaybeKind::Known(k) => writing::write_as(k, numbers, a, b, x, out),
+        MaybeKind::Known(k) => writing::write_as(k, numbers, sequences, pictures, extensions, out),
     }
 }

@@ -4,7 +4,8 @@ ghost use Prim.Native.Nat.{_≤_};
 ghost use lib.ListN.{length};
 ghost use Rattle.words.specs.Buffers.{overwrite};
 ghost use Rattle.records.specs.Layout.{bit};
-ghost use Rattle.record_numbers.specs.Numbers.{numberCount, trailerNumbers, numbersOf};
+ghost use Rattle.record_numbers.specs.Indices.{numberCount};
+ghost use Rattle.record_numbers.specs.Numbers.{trailerNumbers, numbersOf};
 use crate::TRAILER_NONE;
 use crate::TRAILER_PRESENT;
 use records::Flag;
@@ -63,7 +64,7 @@ pub(crate) fn numbers_of(r: Record) -> [u64; 18]
         f.compatibility as u64,
         f.level as u64,
         flag,
-        f.size as u64,
+        f.length_size as u64,
         f.sequences as u64,
         sequences_start.0 as u64,
         sequences.len as u64,

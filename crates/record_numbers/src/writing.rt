@@ -5,7 +5,8 @@ ghost use lib.ListN.{length};
 ghost use Rattle.words.specs.Buffers.{within, Wrote};
 ghost use Rattle.records.specs.Layout.{flagOf};
 ghost use Rattle.record_writer.specs.Answers.{answerOf};
-ghost use Rattle.record_numbers.specs.Numbers.{numberCount, flagMost, highFrom, trailerFrom, numbersFault, fieldsFrom, writeNumbersAs};
+ghost use Rattle.record_numbers.specs.Indices.{numberCount};
+ghost use Rattle.record_numbers.specs.Numbers.{flagMost, highFrom, trailerFrom, numbersFault, fieldsFrom, writeNumbersAs};
 use crate::NUMBER_COUNT;
 use crate::TRAILER_NONE;
 use crate::TRAILER_PRESENT;
@@ -24,8 +25,8 @@ use records::layouts;
 fn flag_most(k: Kind) -> u64
     ensures { λ r. ⌜ r ≡ flagMost k ⌝ }
 {
-    let l = layouts::layout_of(k);
-    if l.complete {
+    let l = layouts::record_layout(k);
+    if 0 < l.flags {
         return 1;
     }
     0
@@ -93,15 +94,15 @@ fn fields_from(k: Kind, numbers: &[u64]) -> Fields
     requires { ⌜ numberCount ≤ length (now numbers) ⌝ }
     ensures { λ r. ⌜ r ≡ fieldsFrom k (now (numbers .entry)) ⌝ }
 {
-    let l = layouts::layout_of(k);
-    let complete = flag_from(l.complete, numbers[3]);
+    let l = layouts::record_layout(k);
+    let complete = flag_from(0 < l.flags, numbers[3]);
     let trailer = trailer_from(numbers);
     Fields {
         profile: numbers[0] as usize,
         compatibility: numbers[1] as usize,
         level: numbers[2] as usize,
         complete,
-        size: numbers[4] as usize,
+        length_size: numbers[4] as usize,
         sequences: numbers[5] as usize,
         pictures: numbers[8] as usize,
         trailer,
@@ -121,17 +122,17 @@ pub(crate) fn refused(number: u8) -> Written
 pub(crate) fn write_as(
     k: Kind,
     numbers: &[u64],
-    a: &[u8],
-    b: &[u8],
-    x: &[u8],
+    sequences: &[u8],
+    pictures: &[u8],
+    extensions: &[u8],
     out: &mut [u8],
 ) -> Written
-    ensures { λ r. ⌜ Wrote (now (out .entry)) (now (out .exit)) (answerOf r) (within (length (now (out .entry))) (writeNumbersAs k (now (numbers .entry)) (now (a .entry)) (now (b .entry)) (now (x .entry)))) ⌝ }
+    ensures { λ r. ⌜ Wrote (now (out .entry)) (now (out .exit)) (answerOf r) (within (length (now (out .entry))) (writeNumbersAs k (now (numbers .entry)) (now (sequences .entry)) (now (pictures .entry)) (now (extensions .entry)))) ⌝ }
 {
     let fault = numbers_fault(k, numbers);
     if fault != 0 {
         return refused(fault);
     }
     let f = fields_from(k, numbers);
-    record_writer::write_as(k, f, a, b, x, out)
+    record_writer::write_as(k, f, sequences, pictures, extensions, out)
 }

@@ -3,35 +3,35 @@
 --   writes-back       an accepted record, written again, gives the same bytes
 --   reads-back        what was written reads back as what was given
 --   misfits-exactly   31 arises exactly if no accepted record has those fields and sets
---   read-refusals, write-refusals    every refusal is one of the table, at place 0
+--   read-refusals, write-refusals    every refusal is one of the named, at place 0
 use Prim.Native.Nat.{ℕ, zero, suc, _≤_, _<_}
 use mathlib.Core.Path.{_≡_, refl, ap, sym, _∙_}
 use mathlib.Core.Bool.{Bool, true, false, not}
-use mathlib.Core.List.{List}
+use mathlib.Core.List.{List, List·Memᴰ·head, List·Memᴰ·tail}
 use mathlib.Core.Logic.{_⊎_, inl, inr, ⊎-elim}
 use native.Mathlib.Omega.{arith}
 use native.Mathlib.Nat.{pos-of-ne-zero}
 use lib.ListN.{length}
 use Rattle.words.specs.Tests.{_<?_}
-use Rattle.words.specs.RefusalNumbers.{unknownKind, recordCut, bytesAfterRecord, fieldsFitNoRecord, outputTooLong}
+use Rattle.words.specs.RefusalNumbers.{unknownKind, recordRefusals, fieldsFitNoRecord, outputTooLong}
 use Rattle.words.specs.Refusals.{_if_, Answer, refused, ok, _atPlace_, _andThen_}
 use Rattle.words.specs.Bytes.{Bytes}
 use Rattle.words.specs.Buffers.{within}
 use Rattle.words.proofs.Tests.{by-bool, by-number, true-false}
-use Rattle.words.proofs.Refusals.{ok-same, ok-refused, within-some, refused-same}
+use Rattle.words.proofs.Refusals.{ok-same, ok-refused, none-or-some, refused-same}
 use Rattle.words.proofs.Buffers.{within-room, within-not}
 use Rattle.numbers.specs.Kinds.{kindOf, onKind}
 use Rattle.numbers.specs.declared.Kind.{Kind}
 use Rattle.numbers.specs.declared.MaybeKind.{MaybeKind}
 use Rattle.numbers.specs.declared.MaybeKind.the-variants.{Known, Unknown}
 use Rattle.records.specs.Read.{recordFault, recordOf, readAs, readRecord}
-use Rattle.records.specs.Spell.{spelled, placed, fits}
-use Rattle.records.specs.Answers.{partOf, respelled}
+use Rattle.records.specs.Fields.{recordBytes, placed, fits}
+use Rattle.records.specs.Answers.{partBytes, writtenAgain}
 use Rattle.records.specs.declared.Fields.{Fields}
 use Rattle.records.specs.declared.Record.{Record}
-use Rattle.records.proofs.SpellsBack.{spells-back}
-use Rattle.records.proofs.ReadsBack.{spelled-record, spelled-parts}
-use Rattle.records.proofs.Fits.{Fitting, fitting, spelled-bytes, read-fits}
+use Rattle.records.proofs.BytesBack.{bytes-back}
+use Rattle.records.proofs.ReadsBack.{bytes-record, bytes-parts}
+use Rattle.records.proofs.Fits.{Fitting, fitting, bytes-bytes, read-fits}
 use Rattle.records.proofs.Refusals.{record-refusal}
 use Rattle.record_writer.specs.Write.{writeAs, writeRecord}
 use Rattle.record_writer.specs.Promise.{Holds, WritesBack, ReadsBack, MisfitsExactly, ReadRefusals, WriteRefusals}
@@ -68,12 +68,12 @@ module _ (kind : ℕ) where
   unfolding writeRecord
   write-unknown f a b x room e = rw e
 
--- what an accepted record holds fits, and spells its bytes
-held : (kind : ℕ) (k : Kind) (s : List ℕ) (f : Fields) (a b x : List ℕ) → kindOf kind ≡ Known k → Bytes s → Holds kind s f a b x → (fits k f a b x ≡ true) × (spelled k f a b x ≡ s)
+-- what an accepted record holds fits, and makes its bytes
+held : (kind : ℕ) (k : Kind) (s : List ℕ) (f : Fields) (a b x : List ℕ) → kindOf kind ≡ Known k → Bytes s → Holds kind s f a b x → (fits k f a b x ≡ true) × (recordBytes k f a b x ≡ s)
 held kind k s f a b x q g h =
     let e = accepted-as k s (sym (read-known kind k s q) ∙ h .read) in
     let z = h .found in
-    rw (← h .fields, ← h .sequences, ← h .pictures, ← h .extensions, e .1) (read-fits k s g (e .0), spells-back k s g (e .0))
+    rw (← h .fields, ← h .sequences, ← h .pictures, ← h .extensions, e .1) (read-fits k s g (e .0), bytes-back k s g (e .0))
 
 pub writes-back : WritesBack
 writes-back kind s f a b x room g h l =
@@ -90,22 +90,22 @@ within-ok room (ok out) e =
     (λ t. ok-refused (rw t at e))
     (λ t. rw t at e)
 
--- what is written fits, and is what the fields spell
-written : (k : Kind) (f : Fields) (a b x : List ℕ) {s : List ℕ} → writeAs k f a b x ≡ ok s → (fits k f a b x ≡ true) × (spelled k f a b x ≡ s)
+-- what is written fits, and is what the fields make
+written : (k : Kind) (f : Fields) (a b x : List ℕ) {s : List ℕ} → writeAs k f a b x ≡ ok s → (fits k f a b x ≡ true) × (recordBytes k f a b x ≡ s)
 written k f a b x e =
     by-bool (fits k f a b x)
     (λ t. (t, ok-same (sym (write-fits k f a b x t) ∙ e)))
     (λ t. ok-refused (sym (write-misfit k f a b x t) ∙ e))
 
--- what fits is held by the bytes that it spells
-holds : (kind : ℕ) (k : Kind) (f : Fields) (a b x : List ℕ) → kindOf kind ≡ Known k → fits k f a b x ≡ true → Holds kind (spelled k f a b x) f a b x
+-- what fits is held by the bytes that it makes
+holds : (kind : ℕ) (k : Kind) (f : Fields) (a b x : List ℕ) → kindOf kind ≡ Known k → fits k f a b x ≡ true → Holds kind (recordBytes k f a b x) f a b x
 unfolding readAs
 holds kind k f a b x q t =
     let w = fitting k f a b x t in
-    let p = spelled-parts k f a b x (w .numbers) (w .sequences) (w .pictures) (w .extensions) (w .belongs) in
+    let p = bytes-parts k f a b x (w .numbers) (w .sequences) (w .pictures) (w .extensions) (w .belongs) in
     record {
       found = placed f a b x;
-      read = read-known kind k (spelled k f a b x) q ∙ rw (w .good, spelled-record k f a b x (w .numbers) (w .sequences) (w .pictures) (w .extensions) (w .belongs));
+      read = read-known kind k (recordBytes k f a b x) q ∙ rw (w .good, bytes-record k f a b x (w .numbers) (w .sequences) (w .pictures) (w .extensions) (w .belongs));
       fields = refl;
       sequences = p .0;
       pictures = p .1;
@@ -123,7 +123,7 @@ reads-back kind s f a b x room e =
 misfit : (room : ℕ) (k : Kind) (f : Fields) (a b x : List ℕ) → within room (writeAs k f a b x) ≡ refused fieldsFitNoRecord 0 → fits k f a b x ≡ false
 misfit room k f a b x e =
     by-bool (fits k f a b x)
-    (λ t. by-bool (room <? length (spelled k f a b x))
+    (λ t. by-bool (room <? length (recordBytes k f a b x))
     (λ l. let z : _≡_ {A = Answer (List ℕ)} (refused outputTooLong 0) (refused fieldsFitNoRecord 0) = rw (write-fits k f a b x t, l) at e in let y : outputTooLong ≡ fieldsFitNoRecord = cc in absurd (omega arith))
     (λ l. ok-refused (sym (rw (write-fits k f a b x t, l) at e))))
     (λ t. t)
@@ -132,7 +132,7 @@ pub misfits-exactly : MisfitsExactly
 misfits-exactly kind k f a b x room q ga gb gx = (
   λ e s g h. true-false (fits k f a b x) (held kind k s f a b x q g h .0) (misfit room k f a b x (sym (write-known kind k f a b x room q) ∙ e)),
   λ none. by-bool (fits k f a b x)
-      (λ t. absurd (none (spelled k f a b x) (spelled-bytes k f a b x (fitting k f a b x t .numbers) ga gb gx) (holds kind k f a b x q t)))
+      (λ t. absurd (none (recordBytes k f a b x) (bytes-bytes k f a b x (fitting k f a b x t .numbers) ga gb gx) (holds kind k f a b x q t)))
       (λ t. write-known kind k f a b x room q ∙ ap (within room) (write-misfit k f a b x t)),
 )
 
@@ -147,8 +147,8 @@ read-refusals kind s n p e =
     by-kind (kindOf kind)
     (λ k q.
     let w = at-zero (recordFault k s) (recordOf k s) (sym (read-known kind k s q) ∙ e) in
-    (w .1, inr (rw (w .0) (within-some recordCut bytesAfterRecord (record-refusal k s) (pos-of-ne-zero (w .2))))))
-    (λ q. let w = refused-same (sym (read-unknown kind s q) ∙ e) in (sym (w .1), inl (sym (w .0))))
+    (w .1, rw (w .0) (List·Memᴰ·tail (none-or-some recordRefusals (record-refusal k s) (pos-of-ne-zero (w .2))))))
+    (λ q. let w = refused-same (sym (read-unknown kind s q) ∙ e) in (sym (w .1), List·Memᴰ·head (sym (w .0))))
 
 within-refused : (room : ℕ) (v : Answer (List ℕ)) {n p : ℕ} → within room v ≡ refused n p → (v ≡ refused n p) ⊎ ((n ≡ outputTooLong) × (p ≡ 0))
 within-refused room (refused m q) e = inl e
@@ -163,7 +163,7 @@ write-refusals kind f a b x room n p e =
     (λ k q. ⊎-elim
     (λ r. by-bool (fits k f a b x)
     (λ t. ok-refused (sym (sym (write-fits k f a b x t) ∙ r)))
-    (λ t. let w = refused-same (sym (write-misfit k f a b x t) ∙ r) in (sym (w .1), inr (inl (sym (w .0))))))
-    (λ r. (r .1, inr (inr (r .0))))
+    (λ t. let w = refused-same (sym (write-misfit k f a b x t) ∙ r) in (sym (w .1), List·Memᴰ·tail (List·Memᴰ·head (sym (w .0))))))
+    (λ r. (r .1, List·Memᴰ·tail (List·Memᴰ·tail (List·Memᴰ·head (r .0)))))
     (within-refused room (writeAs k f a b x) (sym (write-known kind k f a b x room q) ∙ e)))
-    (λ q. let w = refused-same (sym (write-unknown kind f a b x room q) ∙ e) in (sym (w .1), inl (sym (w .0))))
+    (λ q. let w = refused-same (sym (write-unknown kind f a b x room q) ∙ e) in (sym (w .1), List·Memᴰ·head (sym (w .0))))

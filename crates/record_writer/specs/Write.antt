@@ -7,12 +7,15 @@ use Rattle.words.specs.Refusals.{_if_, Answer, refused, ok, _atPlace_, _andThen
 use Rattle.words.specs.Buffers.{within}
 use Rattle.numbers.specs.Kinds.{kindOf, onKind}
 use Rattle.numbers.specs.declared.Kind.{Kind}
-use Rattle.records.specs.Spell.{spelled, fits}
+use Rattle.records.specs.Fields.{recordBytes, fits}
 use Rattle.records.specs.declared.Fields.{Fields}
 
--- the record of fields f with the sequence sets a, the picture sets b and the trailer's sets x
+-- the record of fields f with its sequence sets, its picture sets and its trailer's sets
 unfoldable pub writeAs : Kind → Fields → List ℕ → List ℕ → List ℕ → Answer (List ℕ)
-writeAs k f a b x = (fieldsFitNoRecord if not (fits k f a b x)) atPlace 0 andThen ok (spelled k f a b x)
+writeAs k f sequences pictures extensions =
+    (fieldsFitNoRecord if not (fits k f sequences pictures extensions)) atPlace 0 andThen
+    ok (recordBytes k f sequences pictures extensions)
 
 unfoldable pub writeRecord : ℕ → Fields → List ℕ → List ℕ → List ℕ → ℕ → Answer (List ℕ)
-writeRecord kind f a b x room = within room (onKind (kindOf kind) (λ k. writeAs k f a b x))
+writeRecord kind f sequences pictures extensions room =
+    within room (onKind (kindOf kind) (λ k. writeAs k f sequences pictures extensions))

@@ -1,9 +1,11 @@
-// Whether fields and sets fit a record, without spelling it.
+// Whether fields and sets fit a record, without making its bytes.
 ghost use mathlib.Core.Path.{_≡_};
-ghost use mathlib.Core.Bool.{_&&_};
-ghost use Rattle.records.specs.Layout.{flagFits};
-ghost use Rattle.records.specs.Spell.{highNumbersFit, numbersFit, trailerBelongs, fits};
-ghost use Rattle.records.specs.Parts.{trailerFits};
+ghost use Prim.Native.Nat.{_≤_};
+ghost use Rattle.records.specs.Layout.{flagFits, flagsFit};
+ghost use Rattle.records.specs.Trailers.{highNumbersFit};
+ghost use Rattle.records.specs.Fields.{flagsOf, numbersFit, fits};
+ghost use Rattle.record_writer.specs.Steps.{factsOf};
+use crate::Facts;
 use numbers::Kind;
 use records::Fields;
 use records::Flag;
@@ -11,7 +13,7 @@ use records::High;
 use records::Trailer;
 use records::layouts;
 
-// complete_representation is given exactly where a record has one.
+// A flag is given exactly where a record has it.
 fn flag_fits(has: bool, flag: Flag) -> bool
     ensures { λ r. ⌜ r ≡ flagFits has flag ⌝ }
 {
@@ -20,6 +22,14 @@ fn flag_fits(has: bool, flag: Flag) -> bool
         Flag::Clear => has,
         Flag::Set => has,
     }
+}
+
+// Each flag is given exactly where a record of n flags has it.
+fn flags_fit(n: usize, f: Fields) -> bool
+    ensures { λ r. ⌜ r ≡ flagsFit n 0 (flagsOf f) ⌝ }
+{
+    let complete = f.complete;
+    flag_fits(0 < n, complete)
 }
 
 // The values of a trailer fit their bits.
@@ -38,11 +48,36 @@ fn high_fits(t: High) -> bool
     t.extensions < 256
 }
 
+// What is known of a trailer at the end of a record of a kind and a profile.
+pub(crate) fn facts_of(k: Kind, profile: usize, trailer: Trailer) -> Facts
+    ensures { λ r. ⌜ (r ≡ factsOf k profile trailer) × (r .head ≤ 4) ⌝ }
+{
+    let has = layouts::has_trailer(k, profile);
+    match trailer {
+        Trailer::Without => Facts {
+            head: 0,
+            sets: 0,
+            fits: true,
+            belongs: !has,
+        },
+        Trailer::With(t) => {
+            let fits = high_fits(t);
+            Facts {
+                head: layouts::TRAILER_HEAD,
+                sets: t.extensions,
+                fits,
+                belongs: has,
+            }
+        }
+    }
+}
+
 // The numbers fit their bits.
 fn numbers_fit(k: Kind, f: Fields) -> bool
     ensures { λ r. ⌜ r ≡ numbersFit k f ⌝ }
 {
-    let l = layouts::layout_of(k);
+    let l = layouts::record_layout(k);
+    let shape = l.length_size;
     let count = l.count;
     if 256 <= f.profile {
         return false;
@@ -53,14 +88,13 @@ fn numbers_fit(k: Kind, f: Fields) -> bool
     if 256 <= f.level {
         return false;
     }
-    let complete = f.complete;
-    if !flag_fits(l.complete, complete) {
+    if !flags_fit(l.flags, f) {
         return false;
     }
-    if f.size <= 0 {
+    if f.length_size <= 0 {
         return false;
     }
-    if 4 < f.size {
+    if shape.low < f.length_size {
         return false;
     }
     if count.low <= f.sequences {
@@ -70,51 +104,32 @@ fn numbers_fit(k: Kind, f: Fields) -> bool
         return false;
     }
     let trailer = f.trailer;
-    match trailer {
-        Trailer::Without => true,
-        Trailer::With(t) => high_fits(t),
-    }
-}
-
-// A trailer is given exactly where one belongs, and its sets are sets and exactly the count.
-fn trailer_fits(k: Kind, profile: usize, trailer: Trailer, x: &[u8]) -> bool
-    ensures { λ r. ⌜ r ≡ (trailerBelongs k profile trailer && trailerFits trailer (now (x .entry))) ⌝ }
-{
-    let has = layouts::has_trailer(k, profile);
-    match trailer {
-        Trailer::Without => {
-            if has {
-                return false;
-            }
-            x.len() == 0
-        }
-        Trailer::With(t) => {
-            if !has {
-                return false;
-            }
-            sets::are_sets(layouts::EXTENSION_TYPES, x, t.extensions)
-        }
-    }
+    let facts = facts_of(k, f.profile, trailer);
+    facts.fits
 }
 
 // Fields and sets fit a record.
-pub(crate) fn fit(k: Kind, f: Fields, a: &[u8], b: &[u8], x: &[u8]) -> bool
-    ensures { λ r. ⌜ r ≡ fits k f (now (a .entry)) (now (b .entry)) (now (x .entry)) ⌝ }
+pub(crate) fn fit(k: Kind, f: Fields, sequences: &[u8], pictures: &[u8], extensions: &[u8]) -> bool
+    ensures { λ r. ⌜ r ≡ fits k f (now (sequences .entry)) (now (pictures .entry)) (now (extensions .entry)) ⌝ }
 {
     if !numbers_fit(k, f) {
         return false;
     }
-    if f.size == 3 {
+    if f.length_size == layouts::BAD_SIZE {
         return false;
     }
-    let l = layouts::layout_of(k);
+    let l = layouts::record_layout(k);
     let types = l.sequence;
-    if !sets::are_sets(types, a, f.sequences) {
+    if !sets::are_sets(types, sequences, f.sequences) {
         return false;
     }
-    if !sets::are_sets(layouts::PICTURE_TYPES, b, f.pictures) {
+    if !sets::are_sets(layouts::PICTURE_TYPES, pictures, f.pictures) {
         return false;
     }
     let trailer = f.trailer;
-    trailer_fits(k, f.profile, trailer, x)
+    let facts = facts_of(k, f.profile, trailer);
+    if !facts.belongs {
+        return false;
+    }
+    sets::are_sets(layouts::EXTENSION_TYPES, extensions, facts.sets)
 }

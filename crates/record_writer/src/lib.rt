@@ -14,10 +14,25 @@ use numbers::Refusal;
 use numbers::refusals;
 use records::Fields;
 
+// How many bytes of a record stand neither in sets nor in a trailer: its head, and the number of picture sets.
+const FRONT: usize = 7;
+
 pub enum Written {
     Refused(Refusal),
     // how many bytes
     Count(usize),
+}
+
+// What is known of a trailer at the end of a record.
+struct Facts {
+    // how many bytes stand before its sets
+    pub head: usize,
+    // how many sets there are
+    pub sets: usize,
+    // its numbers fit their bits
+    pub fits: bool,
+    // it may end a record of that kind and profile
+    pub belongs: bool,
 }
 
 // Whether a buffer has room for a number of bytes.
@@ -35,32 +50,53 @@ fn refused(number: u8) -> Written
     })
 }
 
-// A record of a known kind: its fields, the sequence sets a, the picture sets b and the trailer's sets x.
-pub fn write_as(k: Kind, f: Fields, a: &[u8], b: &[u8], x: &[u8], out: &mut [u8]) -> Written
-    ensures { λ r. ⌜ Wrote (now (out .entry)) (now (out .exit)) (answerOf r) (within (length (now (out .entry))) (writeAs k f (now (a .entry)) (now (b .entry)) (now (x .entry)))) ⌝ }
+// A record of a known kind: its fields, its sequence sets, its picture sets and its trailer's sets.
+pub fn write_as(
+    k: Kind,
+    f: Fields,
+    sequences: &[u8],
+    pictures: &[u8],
+    extensions: &[u8],
+    out: &mut [u8],
+) -> Written
+    ensures { λ r. ⌜ Wrote (now (out .entry)) (now (out .exit)) (answerOf r) (within (length (now (out .entry))) (writeAs k f (now (sequences .entry)) (now (pictures .entry)) (now (extensions .entry)))) ⌝ }
 {
-    if !fitting::fit(k, f, a, b, x) {
+    if !fitting::fit(k, f, sequences, pictures, extensions) {
         return refused(refusals::FIELDS_FIT_NO_RECORD);
     }
     let trailer = f.trailer;
-    let head = 7 + putting::trailer_head(trailer);
-    let room = putting::room_for(out.len(), head, a.len(), b.len(), x.len());
+    let facts = fitting::facts_of(k, f.profile, trailer);
+    let head = FRONT + facts.head;
+    let room = putting::room_for(
+        out.len(),
+        head,
+        sequences.len(),
+        pictures.len(),
+        extensions.len(),
+    );
     match room {
         Room::Lacks => refused(refusals::OUTPUT_TOO_LONG),
         Room::Fits(n) => {
-            putting::put_record(k, f, a, b, x, out);
+            putting::put_record(k, f, sequences, pictures, facts.head, extensions, out);
             Written::Count(n)
         }
     }
 }
 
 // The same by a kind's number: 0 AVC, 1 SVC.
-pub fn write(kind: u32, f: Fields, a: &[u8], b: &[u8], x: &[u8], out: &mut [u8]) -> Written
-    ensures { λ r. ⌜ Wrote (now (out .entry)) (now (out .exit)) (answerOf r) (writeRecord kind f (now (a .entry)) (now (b .entry)) (now (x .entry)) (length (now (out .entry)))) ⌝ }
+pub fn write(
+    kind: u32,
+    f: Fields,
+    sequences: &[u8],
+    pictures: &[u8],
+    extensions: &[u8],
+    out: &mut [u8],
+) -> Written
+    ensures { λ r. ⌜ Wrote (now (out .entry)) (now (out .exit)) (answerOf r) (writeRecord kind f (now (sequences .entry)) (now (pictures .entry)) (now (extensions .entry)) (length (now (out .entry)))) ⌝ }
 {
     let known = Kind::from_number(kind);
     match known {
         MaybeKind::Unknown => refused(refusals::UNKNOWN_KIND),
-        MaybeKind::Known(k) => write_as(k, f, a, b, x, out),
+        MaybeKind::Known(k) => write_as(k, f, sequences, pictures, extensions, out),
     }
 }

@@ -2,7 +2,7 @@
 --
 --   fits-by-parts     `fits` is `fitsByParts`
 --   Fitting, fitting  what fits, taken apart
---   spelled-bytes     what fits spells bytes
+--   bytes-bytes       what fits makes bytes
 --   read-fits         the fields and the parts of an accepted record fit
 use Prim.Native.Nat.{ℕ, _+_, _-_, _≤_, _<_}
 use mathlib.Core.Path.{_≡_, refl, ap, sym, _∙_}
@@ -25,27 +25,28 @@ use Rattle.numbers.specs.declared.Kind.{Kind}
 use Rattle.sets.specs.Sets.{setsFault, setsEnd, exactly, setsFit}
 use Rattle.sets.specs.declared.SetTypes.{SetTypes}
 use Rattle.sets.proofs.Laws.{fit-true, fit-sets, sets-inside, sets-outside}
-use Rattle.records.specs.Layout.{layoutOf, valueIn, flagsIn, pictureTypes, extensionTypes, chromaShape, depthShape}
-use Rattle.records.specs.Read.{recordFault, lengthSize, sequenceCount, pictureCount, sequencesEnd, picturesEnd, trailerThere, trailerOf, trailerEnd, extensionsAt, recordEnd, highOf, fieldsOf, recordOf}
-use Rattle.records.specs.Spell.{spelled, trailerBytes, numbersFit, trailerNumbersFit, trailerSetsFit, trailerBelongs, fits}
-use Rattle.records.specs.Parts.{trailerFits, fitsByParts}
-use Rattle.records.specs.Answers.{partOf, respelled}
+use Rattle.records.specs.Layout.{recordLayout, valueIn, pictureTypes}
+use Rattle.records.specs.Trailers.{extensionTypes, chromaShape, depthShape, hasTrailer, highOf, ending}
+use Rattle.records.specs.Read.{recordFault, lengthSize, sequenceCount, pictureCount, sequencesEnd, picturesEnd, trailerOf, extensionsAt, recordEnd, fieldsOf, recordOf}
+use Rattle.records.specs.Fields.{recordBytes, numbersFit, fits}
+use Rattle.records.specs.Parts.{fitsByParts}
+use Rattle.records.specs.Answers.{partBytes, writtenAgain}
 use Rattle.records.specs.declared.Trailer.{Trailer}
 use Rattle.records.specs.declared.Trailer.the-variants.{Without, With}
 use Rattle.records.specs.declared.Fields.{Fields}
-use Rattle.records.proofs.Shapes.{row, value-below, plain-below, flagged-below, flag-fits, sound-chroma, sound-depth}
+use Rattle.records.proofs.Shapes.{row, value-below, byte-below, plain-below, flagged, flags-fit, sound-chroma, sound-depth}
 use Rattle.records.proofs.Parsed.{Parsed, parsed, Trailed}
-use Rattle.records.proofs.SpellsBack.{spells-back}
+use Rattle.records.proofs.BytesBack.{bytes-back}
 use Rattle.records.proofs.Numbers.{Numbers, numbers, numbers-true, high-numbers, high-true}
-use Rattle.records.proofs.ReadsBack.{trailerSetsFault, spelled-fault}
+use Rattle.records.proofs.ReadsBack.{bytes-fault}
 
 pub record Fitting (k : Kind) (f : Fields) (a b x : List ℕ) : Type 0 where
   pub numbers : Numbers k f
   pub sequences : exactly a (f .sequences) ≡ true
   pub pictures : exactly b (f .pictures) ≡ true
-  pub extensions : trailerSetsFit (f .trailer) x ≡ true
-  pub belongs : trailerBelongs k (f .profile) (f .trailer) ≡ true
-  pub good : recordFault k (spelled k f a b x) ≡ 0
+  pub extensions : exactly x (ending (f .trailer) .sets) ≡ true
+  pub belongs : ending (f .trailer) .belongs k (f .profile) ≡ true
+  pub good : recordFault k (recordBytes k f a b x) ≡ 0
 
 pub fitting : (k : Kind) (f : Fields) (a b x : List ℕ) → fits k f a b x ≡ true → Fitting k f a b x
 unfolding fits
@@ -69,28 +70,29 @@ unfolding fits all
 fits-true k f a b x w = rw (numbers-true k f (w .numbers), w .sequences, w .pictures, w .extensions, w .belongs, w .good)
 
 -- the bytes of what fits
-trailer-bytes : (t : Trailer) (x : List ℕ) → trailerNumbersFit t ≡ true → Held x → Held (trailerBytes t x)
-trailer-bytes Without x n g = tt
-trailer-bytes (With t) x n g =
+ending-bytes : (t : Trailer) (x : List ℕ) → ending t .fits ≡ true → Held x → Held (ending t .head ++ x)
+ending-bytes Without x n g = g
+ending-bytes (With t) x n g =
     let v = high-numbers t n in (
-      plain-below chromaShape sound-chroma 0 (t .format) (v .format),
+      plain-below chromaShape sound-chroma (t .format) (v .format),
       (
-        plain-below depthShape sound-depth 0 (t .luma) (v .luma),
+        plain-below depthShape sound-depth (t .luma) (v .luma),
         (
-          plain-below depthShape sound-depth 0 (t .chroma) (v .chroma),
+          plain-below depthShape sound-depth (t .chroma) (v .chroma),
           (v .extensions, g),
         ),
       ),
     )
 
-pub spelled-bytes : (k : Kind) (f : Fields) (a b x : List ℕ) → Numbers k f → Bytes a → Bytes b → Bytes x → Bytes (spelled k f a b x)
-unfolding spelled
-spelled-bytes k f a b x n ga gb gx =
-    let rest = held-append b (trailerBytes (f .trailer) x) (bytes-held b gb) (trailer-bytes (f .trailer) x (n .trailer) (bytes-held x gx)) in
-    let size = flagged-below k (f .complete) (f .size - 1) (n .flag) (omega (arith, n .some, n .most)) in
-    let count = plain-below (layoutOf k .count) (row k .count) 0 (f .sequences) (n .sequences) in
-    let sets = held-append a (f .pictures ∷ (b ++ trailerBytes (f .trailer) x)) (bytes-held a ga) (n .pictures, rest) in
-    held-bytes (spelled k f a b x) (lit< tt, (n .profile, (n .compatibility, (n .level, (size, (count, sets))))))
+pub bytes-bytes : (k : Kind) (f : Fields) (a b x : List ℕ) → Numbers k f → Bytes a → Bytes b → Bytes x → Bytes (recordBytes k f a b x)
+unfolding recordBytes
+bytes-bytes k f a b x n ga gb gx =
+    let rest = held-append b (ending (f .trailer) .head ++ x) (bytes-held b gb) (ending-bytes (f .trailer) x (n .trailer) (bytes-held x gx)) in
+    let less : f .«length_size» - 1 < recordLayout k .«length_size» .low = omega (arith, n .some, n .most) in
+    let size = flagged k (f .complete) _ (n .flags) (byte-below (recordLayout k .«length_size») (row k .«length_size») (f .«length_size» - 1) less) .below in
+    let count = plain-below (recordLayout k .count) (row k .count) (f .sequences) (n .sequences) in
+    let sets = held-append a (f .pictures ∷ (b ++ (ending (f .trailer) .head ++ x))) (bytes-held a ga) (n .pictures, rest) in
+    held-bytes (recordBytes k f a b x) (lit< tt, (n .profile, (n .compatibility, (n .level, (size, (count, sets))))))
 
 -- exact sets without a refusal
 exact-sets : (types : SetTypes) (s : List ℕ) (n : ℕ) → exactly s n ≡ true → setsFault types s n 0 ≡ 0 → setsFit types s n ≡ true
@@ -101,31 +103,23 @@ sets-exact : (types : SetTypes) (s : List ℕ) (n : ℕ) → setsFit types s n �
 unfolding setsFit
 sets-exact types s n e = let w = and-both (setsFault types s n 0 ≡? 0) (exactly s n) e in (w .1, eqb-true _ _ (w .0))
 
-trailer-in : (t : Trailer) (x : List ℕ) → trailerSetsFit t x ≡ true → trailerSetsFault t x ≡ 0 → trailerFits t x ≡ true
-trailer-in Without x i e = i
-trailer-in (With t) x i e = exact-sets extensionTypes x (t .extensions) i e
-
-trailer-out : (t : Trailer) (x : List ℕ) → trailerFits t x ≡ true → (trailerSetsFit t x ≡ true) × (trailerSetsFault t x ≡ 0)
-trailer-out Without x e = (e, refl)
-trailer-out (With t) x e = sets-exact extensionTypes x (t .extensions) e
-
 parts-of : (k : Kind) (f : Fields) (a b x : List ℕ) → fits k f a b x ≡ true → fitsByParts k f a b x ≡ true
 unfolding fitsByParts all
 parts-of k f a b x e =
     let w = fitting k f a b x e in
-    let z = sym (spelled-fault k f a b x (w .numbers) (w .sequences) (w .pictures) (w .extensions) (w .belongs)) ∙ w .good in
-    let c1 = orElse-none (badLengthSize if f .size ≡? 3 orElse 0) _ z in
-    let c2 = orElse-none (setsFault (layoutOf k .sequence) a (f .sequences) 0) _ (c1 .1) in
+    let z = sym (bytes-fault k f a b x (w .numbers) (w .sequences) (w .pictures) (w .extensions) (w .belongs)) ∙ w .good in
+    let c1 = orElse-none (badLengthSize if f .«length_size» ≡? 3 orElse 0) _ z in
+    let c2 = orElse-none (setsFault (recordLayout k .sequence) a (f .sequences) 0) _ (c1 .1) in
     let c3 = orElse-none (setsFault pictureTypes b (f .pictures) 0) _ (c2 .1) in
-    let c4 = orElse-none (trailerSetsFault (f .trailer) x) 0 (c3 .1) in
-    let c5 = orElse-none (badLengthSize if f .size ≡? 3) 0 (c1 .0) in
+    let c4 = orElse-none (setsFault extensionTypes x (ending (f .trailer) .sets) 0) 0 (c3 .1) in
+    let c5 = orElse-none (badLengthSize if f .«length_size» ≡? 3) 0 (c1 .0) in
     rw (
       numbers-true k f (w .numbers),
-      if-none _ (f .size ≡? 3) (c5 .0),
-      exact-sets (layoutOf k .sequence) a (f .sequences) (w .sequences) (c2 .0),
+      if-none _ (f .«length_size» ≡? 3) (c5 .0),
+      exact-sets (recordLayout k .sequence) a (f .sequences) (w .sequences) (c2 .0),
       exact-sets pictureTypes b (f .pictures) (w .pictures) (c3 .0),
       w .belongs,
-      trailer-in (f .trailer) x (w .extensions) (c4 .0),
+      exact-sets extensionTypes x (ending (f .trailer) .sets) (w .extensions) (c4 .0),
     )
 
 of-parts : (k : Kind) (f : Fields) (a b x : List ℕ) → fitsByParts k f a b x ≡ true → fits k f a b x ≡ true
@@ -137,9 +131,9 @@ of-parts k f a b x e =
     let c4 = all-first _ _ (c3 .1) in
     let c5 = all-first _ _ (c4 .1) in
     let n = numbers k f (c1 .0) in
-    let a' = sets-exact (layoutOf k .sequence) a (f .sequences) (c3 .0) in
+    let a' = sets-exact (recordLayout k .sequence) a (f .sequences) (c3 .0) in
     let b' = sets-exact pictureTypes b (f .pictures) (c4 .0) in
-    let x' = trailer-out (f .trailer) x (all-first _ _ (c5 .1) .0) in
+    let x' = sets-exact extensionTypes x (ending (f .trailer) .sets) (all-first _ _ (c5 .1) .0) in
     fits-true k f a b x
     (record {
       numbers = n;
@@ -147,7 +141,7 @@ of-parts k f a b x e =
       pictures = b' .0;
       extensions = x' .0;
       belongs = c5 .0;
-      good = spelled-fault k f a b x n (a' .0) (b' .0) (x' .0) (c5 .0) ∙ rw (not-true (f .size ≡? 3) (c2 .0), a' .1, b' .1, x' .1);
+      good = bytes-fault k f a b x n (a' .0) (b' .0) (x' .0) (c5 .0) ∙ rw (not-true (f .«length_size» ≡? 3) (c2 .0), a' .1, b' .1, x' .1);
     })
 
 pub fits-by-parts : (k : Kind) (f : Fields) (a b x : List ℕ) → fits k f a b x ≡ fitsByParts k f a b x
@@ -165,9 +159,9 @@ part-exact types s n a e h l g =
     eq-eqb (setsEnd (part s a (e - a)) n 0) (length (part s a (e - a))) (omega (arith, i .1))
 
 module _ (k : Kind) (s : List ℕ) (g : Bytes s) (w : Parsed k s) where
-  trailer-numbers : trailerNumbersFit (trailerOf k s) ≡ true
+  trailer-numbers : ending (trailerOf k s) .fits ≡ true
   trailer-numbers =
-      by-bool (trailerThere k s)
+      by-bool (hasTrailer k (byteAt s 1))
       (λ t. rw t (high-true (highOf s (picturesEnd k s))
       (record {
         format = value-below chromaShape (byteAt s (picturesEnd k s)) sound-chroma;
@@ -183,32 +177,29 @@ module _ (k : Kind) (s : List ℕ) (g : Bytes s) (w : Parsed k s) where
         profile = g 1;
         compatibility = g 2;
         level = g 3;
-        flag = flag-fits (layoutOf k .complete) (flagsIn (layoutOf k .size) (byteAt s 4));
+        flags = flags-fit k (byteAt s 4);
         some = omega arith;
-        most = omega (arith, value-below (layoutOf k .size) (byteAt s 4) (row k .size), row k .low);
-        sequences = value-below (layoutOf k .count) (byteAt s 5) (row k .count);
+        most = omega (arith, value-below (recordLayout k .«length_size») (byteAt s 4) (row k .«length_size»));
+        sequences = value-below (recordLayout k .count) (byteAt s 5) (row k .count);
         pictures = g (sequencesEnd k s);
         trailer = trailer-numbers;
       }
 
-  trailer-sets : trailerSetsFit (trailerOf k s) (part s (extensionsAt k s) (recordEnd k s - extensionsAt k s)) ≡ true
-  trailer-sets =
-      by-bool (trailerThere k s)
-      (λ t. rw t (part-exact extensionTypes s (byteAt s (picturesEnd k s + 3)) (picturesEnd k s + 4) (trailerEnd s (picturesEnd k s)) (w .trailed t .after) (w .trailed t .within) refl))
-      (λ t. let z : picturesEnd k s - picturesEnd k s ≡ 0 = omega arith in rw (t, z))
+  trailer-sets : exactly (part s (extensionsAt k s) (recordEnd k s - extensionsAt k s)) (ending (trailerOf k s) .sets) ≡ true
+  trailer-sets = part-exact extensionTypes s (ending (trailerOf k s) .sets) (extensionsAt k s) (recordEnd k s) (w .extensions) (omega (arith, w .end)) refl
 
-  trailer-there : trailerBelongs k (byteAt s 1) (trailerOf k s) ≡ true
-  trailer-there = by-bool (trailerThere k s) (λ t. rw (t, t)) (λ t. rw (t, t))
+  trailer-there : ending (trailerOf k s) .belongs k (byteAt s 1) ≡ true
+  trailer-there = by-bool (hasTrailer k (byteAt s 1)) (λ t. rw (t, t)) (λ t. rw (t, t))
 
   sequences-exact : exactly (part s 6 (sequencesEnd k s - 6)) (sequenceCount k s) ≡ true
   unfolding sequencesEnd
-  sequences-exact = part-exact (layoutOf k .sequence) s (sequenceCount k s) 6 (sequencesEnd k s) (w .after) (omega (arith, w .count)) refl
+  sequences-exact = part-exact (recordLayout k .sequence) s (sequenceCount k s) 6 (sequencesEnd k s) (w .after) (omega (arith, w .count)) refl
 
   pictures-exact : exactly (part s (sequencesEnd k s + 1) (picturesEnd k s - (sequencesEnd k s + 1))) (pictureCount k s) ≡ true
   unfolding picturesEnd
   pictures-exact = part-exact pictureTypes s (pictureCount k s) (sequencesEnd k s + 1) (picturesEnd k s) (omega (arith, w .later)) (w .within) refl
 
-pub read-fits : (k : Kind) (s : List ℕ) → Bytes s → recordFault k s ≡ 0 → fits k (fieldsOf k s) (partOf s (recordOf k s .sequences)) (partOf s (recordOf k s .pictures)) (partOf s (recordOf k s .extensions)) ≡ true
+pub read-fits : (k : Kind) (s : List ℕ) → Bytes s → recordFault k s ≡ 0 → fits k (fieldsOf k s) (partBytes s (recordOf k s .sequences)) (partBytes s (recordOf k s .pictures)) (partBytes s (recordOf k s .extensions)) ≡ true
 read-fits k s g e =
     let w = parsed k s e in
     fits-true k (fieldsOf k s) _ _ _
@@ -218,5 +209,5 @@ read-fits k s g e =
       pictures = pictures-exact k s g w;
       extensions = trailer-sets k s g w;
       belongs = trailer-there k s g w;
-      good = ap (recordFault k) (spells-back k s g e) ∙ e;
+      good = ap (recordFault k) (bytes-back k s g e) ∙ e;
     })

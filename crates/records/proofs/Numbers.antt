@@ -10,8 +10,9 @@ use borrow.Author.Tests.{ltb-true, leb-true, lt-ltb, le-leb}
 use Rattle.words.specs.Tests.{_<?_, _≤?_, all}
 use Rattle.words.proofs.Tests.{all-first}
 use Rattle.numbers.specs.declared.Kind.{Kind}
-use Rattle.records.specs.Layout.{layoutOf, flagFits}
-use Rattle.records.specs.Spell.{highNumbersFit, trailerNumbersFit, numbersFit}
+use Rattle.records.specs.Layout.{recordLayout, flagsFit}
+use Rattle.records.specs.Trailers.{highNumbersFit, ending}
+use Rattle.records.specs.Fields.{flagsOf, numbersFit}
 use Rattle.records.specs.declared.High.{High}
 use Rattle.records.specs.declared.Fields.{Fields}
 
@@ -37,12 +38,12 @@ pub record Numbers (k : Kind) (f : Fields) : Type 0 where
   pub profile : f .profile < 256
   pub compatibility : f .compatibility < 256
   pub level : f .level < 256
-  pub flag : flagFits (layoutOf k .complete) (f .complete) ≡ true
-  pub some : 0 < f .size
-  pub most : f .size ≤ 4
-  pub sequences : f .sequences < layoutOf k .count .low
+  pub flags : flagsFit (recordLayout k .flags) 0 (flagsOf f) ≡ true
+  pub some : 0 < f .«length_size»
+  pub most : f .«length_size» ≤ recordLayout k .«length_size» .low
+  pub sequences : f .sequences < recordLayout k .count .low
   pub pictures : f .pictures < 256
-  pub trailer : trailerNumbersFit (f .trailer) ≡ true
+  pub trailer : ending (f .trailer) .fits ≡ true
 
 pub numbers : (k : Kind) (f : Fields) → numbersFit k f ≡ true → Numbers k f
 unfolding numbersFit
@@ -59,7 +60,7 @@ numbers k f e =
       profile = ltb-true _ _ (a .0);
       compatibility = ltb-true _ _ (b .0);
       level = ltb-true _ _ (c .0);
-      flag = d .0;
+      flags = d .0;
       some = ltb-true _ _ (g .0);
       most = leb-true _ _ (h .0);
       sequences = ltb-true _ _ (i .0);
@@ -74,7 +75,7 @@ numbers-true k f n =
       lt-ltb _ _ (n .profile),
       lt-ltb _ _ (n .compatibility),
       lt-ltb _ _ (n .level),
-      n .flag,
+      n .flags,
       lt-ltb _ _ (n .some),
       le-leb _ _ (n .most),
       lt-ltb _ _ (n .sequences),

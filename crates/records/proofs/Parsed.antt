@@ -1,8 +1,9 @@
 -- An accepted record, taken apart: no test refused, and where its sets end. Assumes nothing.
 --
 --   byte-good                 a byte without a refusal is there, with its fixed bits
+--   length-size-most          a length size is at most 4
 --   Head, head-good           what the six bytes before the sequence sets are
---   Trailed, trailer-good     what the bytes of a trailer are
+--   Trailed, values-good      what the bytes of a trailer before its sets are
 --   Parsed, parsed            all of it
 use Prim.Native.Nat.{ℕ, zero, suc, _+_, _-_, _≤_, _<_}
 use mathlib.Core.Path.{_≡_, refl, ap, sym, _∙_}
@@ -20,9 +21,11 @@ use Rattle.words.proofs.Refusals.{if-none, orElse-none}
 use Rattle.numbers.specs.declared.Kind.{Kind}
 use Rattle.sets.specs.Sets.{setsFault, setsEnd}
 use Rattle.sets.proofs.Laws.{sets-within}
-use Rattle.records.specs.Layout.{layoutOf, fixedIn, valueIn, pictureTypes, extensionTypes, chromaShape, depthShape}
-use Rattle.records.specs.Read.{missing, byteFault, trailerFault, trailerEnd, lengthSize, headFault, sequenceCount, sequencesFault, sequencesEnd, pictureCount, picturesFault, picturesEnd, trailerThere, followFault, extensionsAt, recordEnd, recordFault}
+use Rattle.records.specs.Layout.{recordLayout, fixedIn, valueIn, pictureTypes, missing, byteFault}
+use Rattle.records.specs.Trailers.{extensionTypes, chromaShape, depthShape, hasTrailer, valuesFault, ending}
+use Rattle.records.specs.Read.{lengthSize, headFault, sequenceCount, sequencesFault, sequencesEnd, pictureCount, picturesFault, picturesEnd, trailerOf, followFault, extensionsAt, recordEnd, recordFault}
 use Rattle.records.specs.declared.Shape.{Shape}
+use Rattle.records.proofs.Shapes.{row, value-below}
 
 pub there : (s : List ℕ) (p : ℕ) → missing s p ≡ 0 → p < length s
 there s p e = leb-false _ _ (if-none _ _ e)
@@ -33,25 +36,29 @@ byte-good s h p e =
     let a = orElse-none (missing s p) _ e in
     (there s p (a .0), eqb-true _ _ (not-false _ (if-none _ _ (a .1))))
 
+-- whatever the bytes are
+pub length-size-most : (k : Kind) (s : List ℕ) → lengthSize k s ≤ 4
+length-size-most k s = omega (arith, value-below (recordLayout k .«length_size») (byteAt s 4) (row k .«length_size»), row k .low)
+
 pub record Head (k : Kind) (s : List ℕ) : Type 0 where
   pub version : byteAt s 0 ≡ 1
-  pub size : fixedIn (layoutOf k .size) (byteAt s 4) ≡ layoutOf k .size .fixed
+  pub «length_size» : fixedIn (recordLayout k .«length_size») (byteAt s 4) ≡ recordLayout k .«length_size» .fixed
   pub known : lengthSize k s ≡ 3 → ⊥
   pub there : 5 < length s
-  pub count : fixedIn (layoutOf k .count) (byteAt s 5) ≡ layoutOf k .count .fixed
+  pub count : fixedIn (recordLayout k .count) (byteAt s 5) ≡ recordLayout k .count .fixed
 
 pub head-good : (k : Kind) (s : List ℕ) → headFault k s ≡ 0 → Head k s
 unfolding headFault
 head-good k s e =
     let a = orElse-none (missing s 0) _ e in
     let b = orElse-none (badVersion if not (byteAt s 0 ≡? 1)) _ (a .1) in
-    let c = orElse-none (byteFault s (layoutOf k .size) 4) _ (b .1) in
+    let c = orElse-none (byteFault s (recordLayout k .«length_size») 4) _ (b .1) in
     let d = orElse-none (badLengthSize if lengthSize k s ≡? 3) _ (c .1) in
-    let f = byte-good s (layoutOf k .size) 4 (c .0) in
-    let g = byte-good s (layoutOf k .count) 5 (d .1) in
+    let f = byte-good s (recordLayout k .«length_size») 4 (c .0) in
+    let g = byte-good s (recordLayout k .count) 5 (d .1) in
     record {
       version = eqb-true _ _ (not-false _ (if-none _ _ (b .0)));
-      size = f .1;
+      «length_size» = f .1;
       known = eqb-false _ _ (if-none _ _ (d .0));
       there = g .0;
       count = g .1;
@@ -62,27 +69,18 @@ pub record Trailed (s : List ℕ) (q : ℕ) : Type 0 where
   pub chroma : fixedIn chromaShape (byteAt s q) ≡ chromaShape .fixed
   pub luma : fixedIn depthShape (byteAt s (q + 1)) ≡ depthShape .fixed
   pub depth : fixedIn depthShape (byteAt s (q + 2)) ≡ depthShape .fixed
-  pub sets : setsFault extensionTypes s (byteAt s (q + 3)) (q + 4) ≡ 0
-  pub within : trailerEnd s q ≤ length s
-  pub after : q + 4 ≤ trailerEnd s q
 
-pub trailer-good : (s : List ℕ) (q : ℕ) → trailerFault s q ≡ 0 → Trailed s q
-unfolding trailerFault
-trailer-good s q e =
+pub values-good : (s : List ℕ) (q : ℕ) → valuesFault s q ≡ 0 → Trailed s q
+unfolding valuesFault
+values-good s q e =
     let a = orElse-none (byteFault s chromaShape q) _ e in
     let b = orElse-none (byteFault s depthShape (q + 1)) _ (a .1) in
     let c = orElse-none (byteFault s depthShape (q + 2)) _ (b .1) in
-    let d = orElse-none (missing s (q + 3)) _ (c .1) in
-    let l = there s (q + 3) (d .0) in
-    let w = sets-within extensionTypes s (byteAt s (q + 3)) (q + 4) (omega arith) (d .1) in
     record {
-      there = l;
+      there = there s (q + 3) (c .1);
       chroma = byte-good s chromaShape q (a .0) .1;
       luma = byte-good s depthShape (q + 1) (b .0) .1;
       depth = byte-good s depthShape (q + 2) (c .0) .1;
-      sets = d .1;
-      within = w .1;
-      after = w .0;
     }
 
 pub record Parsed (k : Kind) (s : List ℕ) : Type 0 where
@@ -93,14 +91,14 @@ pub record Parsed (k : Kind) (s : List ℕ) : Type 0 where
   pub pictures : setsFault pictureTypes s (pictureCount k s) (sequencesEnd k s + 1) ≡ 0
   pub later : sequencesEnd k s < picturesEnd k s
   pub within : picturesEnd k s ≤ length s
-  pub trailed : trailerThere k s ≡ true → Trailed s (picturesEnd k s)
+  pub trailed : hasTrailer k (byteAt s 1) ≡ true → Trailed s (picturesEnd k s)
   pub end : recordEnd k s ≡ length s
-  pub extensions : extensionsAt k s ≤ length s
+  pub extensions : extensionsAt k s ≤ recordEnd k s
 
 -- where sets start and end
 pub heads-in : (k : Kind) (s : List ℕ) → Head k s → sequencesFault k s ≡ 0 → (6 ≤ sequencesEnd k s) × (sequencesEnd k s ≤ length s)
 unfolding sequencesEnd
-heads-in k s h e = sets-within (layoutOf k .sequence) s (sequenceCount k s) 6 (h .there) e
+heads-in k s h e = sets-within (recordLayout k .sequence) s (sequenceCount k s) 6 (h .there) e
 
 pub pictures-in : (k : Kind) (s : List ℕ) → sequencesEnd k s < length s → setsFault pictureTypes s (pictureCount k s) (sequencesEnd k s + 1) ≡ 0 → (sequencesEnd k s + 1 ≤ picturesEnd k s) × (picturesEnd k s ≤ length s)
 unfolding picturesEnd
@@ -119,7 +117,9 @@ parsed k s e =
     let l = there s (sequencesEnd k s) (m .0) in
     let j = pictures-in k s l (m .1) in
     let f : length s ≤ recordEnd k s = ltb-false _ _ (if-none _ _ (d .1)) in
-    let t : trailerThere k s ≡ true → Trailed s (picturesEnd k s) = λ q. trailer-good s (picturesEnd k s) (rw q at (d .0)) in
+    let g = orElse-none (ending (trailerOf k s) .fault s (picturesEnd k s)) _ (d .0) in
+    let t : hasTrailer k (byteAt s 1) ≡ true → Trailed s (picturesEnd k s) = λ q. values-good s (picturesEnd k s) (rw q at (g .0)) in
+    let x = sets-within extensionTypes s (ending (trailerOf k s) .sets) (extensionsAt k s) (by-bool (hasTrailer k (byteAt s 1)) (λ q. let y = t q in rw q (omega (arith, y .there))) (λ q. rw q (omega (arith, j .1)))) (g .1) in
     record {
       head = h;
       sequences = b .0;
@@ -129,12 +129,6 @@ parsed k s e =
       later = omega (arith, j .0);
       within = j .1;
       trailed = t;
-      end =
-          by-bool (trailerThere k s)
-          (λ q. let g = t q in let z : length s ≤ trailerEnd s (picturesEnd k s) = rw q at f in rw q (omega (arith, g .within)))
-          (λ q. let z : length s ≤ picturesEnd k s = rw q at f in rw q (omega (arith, j .1)));
-      extensions =
-          by-bool (trailerThere k s)
-          (λ q. let g = t q in rw q (omega (arith, g .there)))
-          (λ q. rw q (j .1));
+      end = omega (arith, x .1);
+      extensions = x .0;
     }

@@ -1,57 +1,64 @@
--- A byte as flags, fixed bits and a value, for any sound shape; and what holds of each kind's row. Assumes nothing.
+-- A byte as flags, fixed bits and a value; and what holds of each kind's row. Assumes nothing.
 --
---   spelled-byte, plain-byte               a byte with its fixed bits is spelled by its flags and its value
---   flags-back, fixed-back, value-back     a spelled byte gives back what spelled it
---   value-below, byte-below                a value is below its bits, a spelled byte below 256
---   Row, row                               the rows of `layoutOf`: a new kind is one more clause
---   flag-back, flag-bit                    complete_representation, read and spelled
+--   byte-rest, plain-byte         a byte with its fixed bits is made by its value, below its flags
+--   byte-below                    the byte of a value lies below the flags
+--   fixed-back, value-back        a byte gives back the fixed bits and the value that made it
+--   plain-rest, plain-below       the same of a byte without flags
+--   value-below, value-byte       a value is below its bits, and below 256
+--   sound-chroma, sound-depth, Row, row    every shape is sound: a new kind is one more clause
+--   Flagged, flagged, flags-made, flags-fit    the flags of the length size's byte: a new kind is one more clause in each
+--   flag-back                     a flag that fits is read back from its bit
 use Prim.Native.Nat.{ℕ, zero, suc, _+_, _-_, _*_, _/_, _%_, _≤_, _<_}
 use mathlib.Core.Path.{_≡_, refl, ap, sym, _∙_}
 use mathlib.Core.Bool.{Bool, true, false}
+use mathlib.Core.List.{List, [], _∷_}
 use native.Mathlib.Omega.{arith}
 use native.Mathlib.Nat.{div-add-mod', mul-add-div-right, mul-add-mod-self-right, div-eq-of-lt, mod-eq-of-lt, mod-lt, add-zero}
-use lib.Dec.{lit<, lit≤, eqb·suc-zero}
-use Rattle.words.proofs.Tests.{true-false}
+use lib.Dec.{lit<, lit≤}
+use borrow.Author.Tests.{eqb-true, eqb-false}
+use Rattle.words.specs.Tests.{_≡?_}
+use Rattle.words.proofs.Tests.{by-bool, true-false}
 use Rattle.numbers.specs.declared.Kind.{Kind}
 use Rattle.numbers.specs.declared.Kind.the-variants.{Avc, Svc}
-use Rattle.records.specs.Layout.{Sound, layoutOf, byteOf, flagsIn, fixedIn, valueIn, chromaShape, depthShape, bit, flagOf, flagFits}
+use Rattle.records.specs.Layout.{Sound, recordLayout, byteOf, fixedIn, valueIn, bit, flagOf, flagFits, flagIn, flagsByte, flagsFit}
+use Rattle.records.specs.Trailers.{chromaShape, depthShape}
 use Rattle.records.specs.declared.Shape.{Shape}
 use Rattle.records.specs.declared.Layout.{Layout}
 use Rattle.records.specs.declared.Flag.{Flag}
 use Rattle.records.specs.declared.Flag.the-variants.{Absent, Clear, Set}
 
-pub spelled-byte : (h : Shape) (b : ℕ) → fixedIn h b ≡ h .fixed → byteOf h (flagsIn h b) (valueIn h b) ≡ b
-spelled-byte h b e =
-    ap (λ (x : ℕ). b / h .unit * h .unit + (x * h .low + b % h .unit % h .low)) (sym e)
-    ∙ ap (λ (x : ℕ). b / h .unit * h .unit + x) (div-add-mod' (b % h .unit) (h .low))
-    ∙ div-add-mod' b (h .unit)
+pub byte-rest : (h : Shape) (b : ℕ) → fixedIn h b ≡ h .fixed → byteOf h (valueIn h b) ≡ b % h .unit
+byte-rest h b e =
+    ap (λ (x : ℕ). x * h .low + b % h .unit % h .low) (sym e)
+    ∙ div-add-mod' (b % h .unit) (h .low)
 
 -- a byte with no flags
-pub plain-byte : (h : Shape) (b : ℕ) → h .unit ≡ 256 → b < 256 → fixedIn h b ≡ h .fixed → byteOf h 0 (valueIn h b) ≡ b
-plain-byte h b u l e = ap (λ (n : ℕ). byteOf h n (valueIn h b)) (sym (rw u (div-eq-of-lt l))) ∙ spelled-byte h b e
+pub plain-byte : (h : Shape) (b : ℕ) → h .unit ≡ 256 → b < 256 → fixedIn h b ≡ h .fixed → byteOf h (valueIn h b) ≡ b
+plain-byte h b u l e = byte-rest h b e ∙ rw u (mod-eq-of-lt l)
 
-module _ (h : Shape) (g : Sound h) (flags v : ℕ) (l : v < h .low) where
-  below : h .fixed * h .low + v < h .unit
-  below = omega (arith, g .fixed)
+module _ (h : Shape) (g : Sound h) (v : ℕ) (l : v < h .low) where
+  pub byte-below : byteOf h v < h .unit
+  byte-below = omega (arith, g .fixed)
 
-  rest : byteOf h flags v % h .unit ≡ h .fixed * h .low + v
-  rest = mul-add-mod-self-right flags (h .unit) (h .fixed * h .low + v) ∙ mod-eq-of-lt below
+  pub plain-rest : byteOf h v % h .unit ≡ byteOf h v
+  plain-rest = mod-eq-of-lt byte-below
 
-  pub flags-back : flagsIn h (byteOf h flags v) ≡ flags
-  flags-back = mul-add-div-right (g .unit) flags (h .fixed * h .low + v) ∙ ap (λ (x : ℕ). flags + x) (div-eq-of-lt below) ∙ add-zero flags
+  pub plain-below : byteOf h v < 256
+  plain-below = omega (arith, g .byte, byte-below)
 
-  pub fixed-back : fixedIn h (byteOf h flags v) ≡ h .fixed
-  fixed-back = ap (λ (x : ℕ). x / h .low) rest ∙ mul-add-div-right (g .low) (h .fixed) v ∙ ap (λ (x : ℕ). h .fixed + x) (div-eq-of-lt l) ∙ add-zero (h .fixed)
+  -- a byte that is this below its flags
+  module _ (b : ℕ) (rest : b % h .unit ≡ byteOf h v) where
+    pub fixed-back : fixedIn h b ≡ h .fixed
+    fixed-back = ap (λ (x : ℕ). x / h .low) rest ∙ mul-add-div-right (g .low) (h .fixed) v ∙ ap (λ (x : ℕ). h .fixed + x) (div-eq-of-lt l) ∙ add-zero (h .fixed)
 
-  pub value-back : valueIn h (byteOf h flags v) ≡ v
-  value-back = ap (λ (x : ℕ). x % h .low) rest ∙ mul-add-mod-self-right (h .fixed) (h .low) v ∙ mod-eq-of-lt l
-
-  -- without flags it is a byte
-  pub plain-below : byteOf h 0 v < 256
-  plain-below = omega (arith, g .byte, below)
+    pub value-back : valueIn h b ≡ v
+    value-back = ap (λ (x : ℕ). x % h .low) rest ∙ mul-add-mod-self-right (h .fixed) (h .low) v ∙ mod-eq-of-lt l
 
 pub value-below : (h : Shape) (b : ℕ) → Sound h → valueIn h b < h .low
 value-below h b g = mod-lt _ (g .low)
+
+pub value-byte : (h : Shape) (b : ℕ) → Sound h → valueIn h b < 256
+value-byte h b g = omega (arith, value-below h b g, g .fixed, g .byte)
 
 sound : (h : Shape) → 0 < h .unit → 0 < h .low → h .fixed * h .low + h .low ≤ h .unit → h .unit ≤ 256 → Sound h
 sound h a b c d = record { unit = a; low = b; fixed = c; byte = d }
@@ -62,79 +69,64 @@ sound-chroma = sound chromaShape (lit< tt) (lit< tt) (lit≤ tt) (lit≤ tt)
 pub sound-depth : Sound depthShape
 sound-depth = sound depthShape (lit< tt) (lit< tt) (lit≤ tt) (lit≤ tt)
 
--- What holds of each kind's row: where there is a complete_representation, the top bit of the length size's byte is its place.
+-- What holds of each kind's row: its shapes are sound, a length size is at most 4, and no flags stand before the number of sequence sets.
 pub record Row (l : Layout) : Type 0 where
-  pub size : Sound (l .size)
+  pub «length_size» : Sound (l .«length_size»)
+  pub low : l .«length_size» .low ≡ 4
   pub count : Sound (l .count)
-  pub low : l .size .low ≡ 4
   pub unit : l .count .unit ≡ 256
-  pub some : l .complete ≡ true → l .size .unit ≡ 128
-  pub none : l .complete ≡ false → l .size .unit ≡ 256
 
-pub row : (k : Kind) → Row (layoutOf k)
+pub row : (k : Kind) → Row (recordLayout k)
 row Avc =
     record {
-      size = sound (layoutOf Avc .size) (lit< tt) (lit< tt) (lit≤ tt) (lit≤ tt);
-      count = sound (layoutOf Avc .count) (lit< tt) (lit< tt) (lit≤ tt) (lit≤ tt);
+      «length_size» = sound (recordLayout Avc .«length_size») (lit< tt) (lit< tt) (lit≤ tt) (lit≤ tt);
       low = refl;
+      count = sound (recordLayout Avc .count) (lit< tt) (lit< tt) (lit≤ tt) (lit≤ tt);
       unit = refl;
-      some = λ e. true-false false e refl;
-      none = λ e. refl;
     }
 row Svc =
     record {
-      size = sound (layoutOf Svc .size) (lit< tt) (lit< tt) (lit≤ tt) (lit≤ tt);
-      count = sound (layoutOf Svc .count) (lit< tt) (lit< tt) (lit≤ tt) (lit≤ tt);
+      «length_size» = sound (recordLayout Svc .«length_size») (lit< tt) (lit< tt) (lit≤ tt) (lit≤ tt);
       low = refl;
+      count = sound (recordLayout Svc .count) (lit< tt) (lit< tt) (lit≤ tt) (lit≤ tt);
       unit = refl;
-      some = λ e. refl;
-      none = λ e. true-false true refl e;
     }
 
--- complete_representation: a flag that fits is read back from its bit, and a byte's flag spells its bit
-pub flag-back : (c : Bool) (f : Flag) → flagFits c f ≡ true → flagOf c (bit f) ≡ f
-flag-back false Absent e = refl
-flag-back false Clear e = true-false false e refl
-flag-back false Set e = true-false false e refl
-flag-back true Absent e = true-false false e refl
-flag-back true Clear e = refl
-flag-back true Set e = refl
+-- complete_representation c before r, which lies below the flags: r is what is left, c is read back, and both fit a byte
+pub record Flagged (k : Kind) (c : Flag) (r : ℕ) : Type 0 where
+  pub rest : (flagsByte 0 (c ∷ []) + r) % recordLayout k .«length_size» .unit ≡ r
+  pub read : flagIn (recordLayout k .flags) 0 (flagsByte 0 (c ∷ []) + r) ≡ c
+  pub below : flagsByte 0 (c ∷ []) + r < 256
 
-pub flag-fits : (c : Bool) (n : ℕ) → flagFits c (flagOf c n) ≡ true
-flag-fits false n = refl
-flag-fits true zero = refl
-flag-fits true (suc n) = rw (eqb·suc-zero n)
+pub flagged : (k : Kind) (c : Flag) (r : ℕ) → flagsFit (recordLayout k .flags) 0 (c ∷ []) ≡ true → r < recordLayout k .«length_size» .unit → Flagged k c r
+unfolding flagsByte flagsFit
+flagged Avc Absent r e l = record { rest = omega arith; read = refl; below = omega arith }
+flagged Avc Clear r e l = true-false false e refl
+flagged Avc Set r e l = true-false false e refl
+flagged Svc Absent r e l = true-false false e refl
+flagged Svc Clear r e l = record { rest = omega arith; read = (let z : (0 + r) / 128 % 2 ≡ 0 = omega arith in rw z); below = omega arith }
+flagged Svc Set r e l = record { rest = omega arith; read = (let z : (128 + r) / 128 % 2 ≡ 1 = omega arith in rw z); below = omega arith }
 
-flag-bit-at : (c : Bool) (n : ℕ) → (c ≡ true → n < 2) → (c ≡ false → n ≡ 0) → bit (flagOf c n) ≡ n
-flag-bit-at false n f g = sym (g refl)
-flag-bit-at true zero f g = refl
-flag-bit-at true (suc zero) f g = refl
-flag-bit-at true (suc (suc n)) f g = absurd (let h = f refl in omega arith)
+-- a byte is made by the flags that are read from it, and what lies below them
+pub flags-made : (k : Kind) (b : ℕ) → b < 256 → flagsByte 0 (flagIn (recordLayout k .flags) 0 b ∷ []) + b % recordLayout k .«length_size» .unit ≡ b
+unfolding flagsByte
+flags-made Avc b h = omega arith
+flags-made Svc b h =
+    by-bool (b / 128 % 2 ≡? 0)
+    (λ t. let z = eqb-true (b / 128 % 2) 0 t in rw t (omega arith))
+    (λ t. let z = eqb-false (b / 128 % 2) 0 t in rw t (omega arith))
 
-pub flag-bit : (k : Kind) (b : ℕ) → b < 256 → bit (flagOf (layoutOf k .complete) (flagsIn (layoutOf k .size) b)) ≡ flagsIn (layoutOf k .size) b
-flag-bit k b h =
-    flag-bit-at (layoutOf k .complete) (flagsIn (layoutOf k .size) b)
-    (λ e. rw (row k .some e) (omega arith))
-    (λ e. rw (row k .none e) (omega arith))
+pub flags-fit : (k : Kind) (b : ℕ) → flagsFit (recordLayout k .flags) 0 (flagIn (recordLayout k .flags) 0 b ∷ []) ≡ true
+unfolding flagsFit
+flags-fit Avc b = refl
+flags-fit Svc b = by-bool (b / 128 % 2 ≡? 0) (λ t. rw t) (λ t. rw t)
 
--- a spelled byte with a flag that fits
-bit-below : (c : Bool) (f : Flag) → flagFits c f ≡ true → (c ≡ true → bit f ≤ 1) × (c ≡ false → bit f ≡ 0)
-bit-below false Absent e = (λ i. omega arith, λ i. refl)
-bit-below false Clear e = true-false false e refl
-bit-below false Set e = true-false false e refl
-bit-below true Absent e = true-false false e refl
-bit-below true Clear e = (λ i. omega arith, λ i. refl)
-bit-below true Set e = (λ i. omega arith, λ i. true-false true refl i)
+-- one flag, without its byte
+pub flag-back : (c : Bool) (n : ℕ) → flagOf c (bit (flagOf c n)) ≡ flagOf c n
+flag-back false n = refl
+flag-back true n = by-bool (n ≡? 0) (λ t. rw t) (λ t. rw t)
 
-flagged-at : (h : Shape) (c : Bool) (f : Flag) (v : ℕ) → Sound h → (c ≡ true → h .unit ≡ 128) → (c ≡ false → h .unit ≡ 256) → flagFits c f ≡ true → v < h .low → byteOf h (bit f) v < 256
-flagged-at h true f v g a b e l =
-    let z = bit-below true f e .0 refl in
-    let u = a refl in
-    let m = below h g 0 v l in
-    rw u (omega (arith, m, u))
-flagged-at h false f v g a b e l =
-    let z : bit f ≡ 0 = bit-below false f e .1 refl in
-    rw z (plain-below h g 0 v l)
-
-pub flagged-below : (k : Kind) (f : Flag) (v : ℕ) → flagFits (layoutOf k .complete) f ≡ true → v < 4 → byteOf (layoutOf k .size) (bit f) v < 256
-flagged-below k f v e l = flagged-at (layoutOf k .size) (layoutOf k .complete) f v (row k .size) (row k .some) (row k .none) e (rw (row k .low) l)
+-- what one flag counts in its byte
+pub flags-one : (c : Flag) → flagsByte 0 (c ∷ []) ≡ bit c * 128
+unfolding flagsByte
+flags-one c = add-zero (bit c * 128)

@@ -1,16 +1,26 @@
--- The layout of a decoder configuration record (5.2.4.1.1, A.5.2.2; 01, 'Configuration records'), shared by reading and writing.
--- A byte of a record is flags, fixed bits and a value, from the top. What the kinds differ in is one row of `layoutOf` each.
+-- The bytes of a decoder configuration record (5.2.4.1.1, A.5.2.2; 01, 'Configuration records'), shared by reading and writing.
+-- A byte is flags, fixed bits and a value, from the top. What the kinds differ in is one row of `recordLayout` each.
 --
---   flagsIn h b, fixedIn h b, valueIn h b    the parts of the byte b by the shape h
---   byteOf h flags v                         the byte of flags and a value
---   layoutOf k                               the row of kind k
---   pictureTypes, extensionTypes             the types of picture sets and of sequence set extensions
---   chromaShape, depthShape                  the bytes of a trailer's values
---   hasTrailer k profile                     whether a trailer belongs there
---   bit f, flagOf has flags, flagFits has f  complete_representation as a bit, as it is read, and whether it fits
-use Prim.Native.Nat.{ℕ, _+_, _*_, _/_, _%_, _<_, _≤_}
-use mathlib.Core.Bool.{Bool, true, false, _||_, _&&_}
-use Rattle.words.specs.Tests.{_≡?_, pick}
+--   version, versionAt .. countAt, headSize    the bytes before the sequence sets
+--   badSize                                    the length size that no record may state
+--   n ones v bits, n zeros v bits              a byte of n fixed bits and a value of v bits; what stands above them are flags
+--   fixedIn h b, valueIn h b                   the fixed bits and the value of the byte b by the shape h
+--   byteOf h v, isByte v                       the byte of a value, without flags; whether a number fits a byte
+--   Sound h                                    what holds of every shape
+--   recordLayout k                             the row of kind k
+--   pictureTypes                               the types of picture sets
+--   bit f, flagOf has n, flagFits has f        a flag as a bit, as it is read, and whether it fits
+--   flagIn n i b                               flag i, from 0, of a byte that begins with n flags
+--   flagsByte i fs, flagsFit n i fs            flags from i on: what they count in a byte, and whether a byte of n flags has them
+--   missing s p, byteFault s h p               the refusal of a byte that must be there, and of one with fixed bits
+use Prim.Native.Nat.{ℕ, _+_, _-_, _*_, _/_, _%_, _^_, _<_, _≤_}
+use mathlib.Core.Bool.{Bool, true, false, _&&_, not}
+use mathlib.Core.List.{List, [], _∷_}
+use lib.ListN.{length}
+use Rattle.words.specs.Tests.{_<?_, _≤?_, _≡?_, pick}
+use Rattle.words.specs.RefusalNumbers.{recordCut, wrongFixedBits}
+use Rattle.words.specs.Refusals.{_if_, _orElse_}
+use Rattle.words.specs.Bytes.{byteAt}
 use Rattle.numbers.specs.declared.Kind.{Kind}
 use Rattle.numbers.specs.declared.Kind.the-variants.{Avc, Svc}
 use Rattle.sets.specs.declared.SetTypes.{SetTypes}
@@ -19,19 +29,54 @@ use Rattle.records.specs.declared.Layout.{Layout}
 use Rattle.records.specs.declared.Flag.{Flag}
 use Rattle.records.specs.declared.Flag.the-variants.{Absent, Clear, Set}
 
--- the flags, the fixed bits and the value of a byte
-abbrev pub flagsIn : Shape → ℕ → ℕ
-flagsIn h b = b / h .unit
+infix 60 _ones_bits _zeros_bits
+-- The bytes before the sequence sets, one each: version, profile, compatibility, level, length size, number of sequence sets.
+abbrev pub version : ℕ
+version = 1
 
+abbrev pub versionAt : ℕ
+versionAt = 0
+
+abbrev pub profileAt : ℕ
+profileAt = 1
+
+abbrev pub compatibilityAt : ℕ
+compatibilityAt = 2
+
+abbrev pub levelAt : ℕ
+levelAt = 3
+
+abbrev pub lengthSizeAt : ℕ
+lengthSizeAt = 4
+
+abbrev pub countAt : ℕ
+countAt = 5
+
+abbrev pub headSize : ℕ
+headSize = 6
+
+abbrev pub badSize : ℕ
+badSize = 3
+
+-- A byte by its bits: so many fixed bits, all 1 or all 0, then those of a value. The numbers of a shape follow from them.
+abbrev pub _ones_bits : ℕ → ℕ → Shape
+n ones v bits = record { unit = 2 ^ (n + v); fixed = 2 ^ n - 1; low = 2 ^ v }
+
+abbrev pub _zeros_bits : ℕ → ℕ → Shape
+n zeros v bits = record { unit = 2 ^ (n + v); fixed = 0; low = 2 ^ v }
+
+-- the fixed bits and the value of a byte, and the byte of a value
 abbrev pub fixedIn : Shape → ℕ → ℕ
 fixedIn h b = b % h .unit / h .low
 
 abbrev pub valueIn : Shape → ℕ → ℕ
 valueIn h b = b % h .unit % h .low
 
--- the byte of flags and a value
-abbrev pub byteOf : Shape → ℕ → ℕ → ℕ
-byteOf h flags v = flags * h .unit + (h .fixed * h .low + v)
+abbrev pub byteOf : Shape → ℕ → ℕ
+byteOf h v = h .fixed * h .low + v
+
+abbrev pub isByte : ℕ → Bool
+isByte v = v <? 2 ^ 8
 
 -- fixed bits and value lie below the flags
 pub record Sound (h : Shape) : Type 0 where
@@ -40,22 +85,22 @@ pub record Sound (h : Shape) : Type 0 where
   pub fixed : h .fixed * h .low + h .low ≤ h .unit
   pub byte : h .unit ≤ 256
 
--- The length size less one stands after six 1 bits (63), or after complete_representation, whose bit counts 128, and five 1 bits (31); the number
--- of sequence sets after three 1 bits (7), or after one 0 bit.
-abbrev pub layoutOf : Kind → Layout
-layoutOf Avc =
+-- What the kinds differ in: the byte of the length size less one and how many flags it begins with, the byte of the number of sequence
+-- sets, the types of these, and whether the high profiles have a trailer.
+abbrev pub recordLayout : Kind → Layout
+recordLayout Avc =
     record {
-      size = record { unit = 256; fixed = 63; low = 4 };
-      count = record { unit = 256; fixed = 7; low = 32 };
-      complete = false;
+      flags = 0;
+      «length_size» = 6 ones 2 bits;
+      count = 3 ones 5 bits;
       sequence = record { one = 7; other = 7 };
       trailer = true;
     }
-layoutOf Svc =
+recordLayout Svc =
     record {
-      size = record { unit = 128; fixed = 31; low = 4 };
-      count = record { unit = 256; fixed = 0; low = 128 };
-      complete = true;
+      flags = 1;
+      «length_size» = 5 ones 2 bits;
+      count = 1 zeros 7 bits;
       sequence = record { one = 7; other = 15 };
       trailer = false;
     }
@@ -63,33 +108,15 @@ layoutOf Svc =
 abbrev pub pictureTypes : SetTypes
 pictureTypes = record { one = 8; other = 8 }
 
-abbrev pub extensionTypes : SetTypes
-extensionTypes = record { one = 13; other = 13 }
-
--- a trailer's bytes: six 1 bits and chroma_format; five 1 bits and a depth less 8, twice
-abbrev pub chromaShape : Shape
-chromaShape = record { unit = 256; fixed = 63; low = 4 }
-
-abbrev pub depthShape : Shape
-depthShape = record { unit = 256; fixed = 31; low = 8 }
-
--- the profiles whose AVC record has a trailer
-abbrev pub isHigh : ℕ → Bool
-isHigh profile = (profile ≡? 100) || (profile ≡? 110) || (profile ≡? 122) || (profile ≡? 144)
-
--- whether a trailer belongs to a record of a kind and a profile
-abbrev pub hasTrailer : Kind → ℕ → Bool
-hasTrailer k profile = layoutOf k .trailer && isHigh profile
-
--- complete_representation: as a flag of a byte, and in a kind that has it or not
+-- A flag: as a bit; as it is read from one, where a record has it; and whether it is given exactly where a record has it.
 abbrev pub bit : Flag → ℕ
 bit Absent = 0
 bit Clear = 0
 bit Set = 1
 
 abbrev pub flagOf : Bool → ℕ → Flag
-flagOf false flags = Absent
-flagOf true flags = pick (flags ≡? 0) Clear Set
+flagOf false n = Absent
+flagOf true n = pick (n ≡? 0) Clear Set
 
 abbrev pub flagFits : Bool → Flag → Bool
 flagFits false Absent = true
@@ -98,3 +125,24 @@ flagFits false Set = false
 flagFits true Absent = false
 flagFits true Clear = true
 flagFits true Set = true
+
+-- Flags of a byte, the first on top: flag i counts 128, 64, ..; a byte of n flags has the first n.
+abbrev pub flagIn : ℕ → ℕ → ℕ → Flag
+flagIn n i b = flagOf (i <? n) (b / 2 ^ (7 - i) % 2)
+
+unfoldable pub flagsByte : ℕ → List Flag → ℕ
+flagsByte i [] = 0
+flagsByte i (f ∷ fs) = bit f * 2 ^ (7 - i) + flagsByte (i + 1) fs
+
+unfoldable pub flagsFit : ℕ → ℕ → List Flag → Bool
+flagsFit n i [] = true
+flagsFit n i (f ∷ fs) = flagFits (i <? n) f && flagsFit n (i + 1) fs
+
+module _ (s : List ℕ) where
+  -- 8: the byte at p is not there
+  abbrev pub missing : ℕ → ℕ
+  missing p = recordCut if length s ≤? p
+
+  -- a byte of a shape: it is there (8), with its fixed bits (10)
+  unfoldable pub byteFault : Shape → ℕ → ℕ
+  byteFault h p = missing p orElse wrongFixedBits if not (fixedIn h (byteAt s p) ≡? h .fixed)

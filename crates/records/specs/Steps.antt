@@ -1,26 +1,16 @@
 -- What the steps of the reader promise one another.
-use Prim.Native.Nat.{ℕ, _+_}
+use Prim.Native.Nat.{ℕ}
 use mathlib.Core.Path.{_≡_}
 use mathlib.Core.List.{List}
-use Rattle.words.specs.Refusals.{_orElse_}
 use Rattle.sets.specs.declared.Walk.{Walk}
 use Rattle.numbers.specs.declared.Kind.{Kind}
-use Rattle.records.specs.Layout.{chromaShape, depthShape}
-use Rattle.records.specs.Read.{missing, byteFault, followFault, trailerOf, extensionsAt, recordEnd}
+use Rattle.records.specs.Read.{followFault, trailerOf, extensionsAt, recordEnd}
 use Rattle.records.specs.declared.Follow.{Follow}
 
 -- a walk has found this refusal and, if it is none, this end
 pub record Walked (w : Walk) (fault end : ℕ) : Type 0 where
   pub refusal : w .fault ≡ fault
   pub place : w .fault ≡ 0 → w .end ≡ end
-
--- the four bytes of a trailer before its sets
-unfoldable pub valuesFault : List ℕ → ℕ → ℕ
-valuesFault s q =
-    byteFault s chromaShape q orElse
-    byteFault s depthShape (q + 1) orElse
-    byteFault s depthShape (q + 2) orElse
-    missing s (q + 3)
 
 -- what follows the picture sets of s
 pub record Followed (k : Kind) (s : List ℕ) (w : Follow) : Type 0 where

@@ -1,10 +1,35 @@
 // What the bytes of a record hold, and what the kinds differ in.
 ghost use mathlib.Core.Path.{_≡_};
-ghost use Rattle.records.specs.Layout.{layoutOf, hasTrailer};
+ghost use Rattle.records.specs.Layout.{recordLayout};
+ghost use Rattle.records.specs.Trailers.{hasTrailer};
 use crate::Layout;
 use crate::Shape;
 use numbers::Kind;
 use sets::SetTypes;
+
+// A record's version, where the other bytes before the sequence sets stand, and how many these are.
+pub const VERSION: u8 = 1;
+
+pub const PROFILE_AT: usize = 1;
+
+pub const COMPATIBILITY_AT: usize = 2;
+
+pub const LEVEL_AT: usize = 3;
+
+pub const LENGTH_SIZE_AT: usize = 4;
+
+pub const COUNT_AT: usize = 5;
+
+pub const HEAD: usize = 6;
+
+// How many bytes a trailer has before its sets.
+pub const TRAILER_HEAD: usize = 4;
+
+// The length size that no record may state.
+pub const BAD_SIZE: usize = 3;
+
+// What complete_representation, the first flag, counts in its byte.
+pub const COMPLETE: u8 = 128;
 
 pub const PICTURE_TYPES: SetTypes = SetTypes { one: 8, other: 8 };
 
@@ -25,12 +50,13 @@ pub const DEPTH: Shape = Shape {
 };
 
 // The row of a kind.
-pub fn layout_of(k: Kind) -> Layout
-    ensures { λ r. ⌜ r ≡ layoutOf k ⌝ }
+pub fn record_layout(k: Kind) -> Layout
+    ensures { λ r. ⌜ r ≡ recordLayout k ⌝ }
 {
     match k {
         Kind::Avc => Layout {
-            size: Shape {
+            flags: 0,
+            length_size: Shape {
                 unit: 256,
                 fixed: 63,
                 low: 4,
@@ -40,12 +66,12 @@ pub fn layout_of(k: Kind) -> Layout
                 fixed: 7,
                 low: 32,
             },
-            complete: false,
             sequence: SetTypes { one: 7, other: 7 },
             trailer: true,
         },
         Kind::Svc => Layout {
-            size: Shape {
+            flags: 1,
+            length_size: Shape {
                 unit: 128,
                 fixed: 31,
                 low: 4,
@@ -55,7 +81,6 @@ pub fn layout_of(k: Kind) -> Layout
                 fixed: 0,
                 low: 128,
             },
-            complete: true,
             sequence: SetTypes { one: 7, other: 15 },
             trailer: false,
         },
@@ -66,7 +91,7 @@ pub fn layout_of(k: Kind) -> Layout
 pub fn has_trailer(k: Kind, profile: usize) -> bool
     ensures { λ r. ⌜ r ≡ hasTrailer k profile ⌝ }
 {
-    let l = layout_of(k);
+    let l = record_layout(k);
     if !l.trailer {
         return false;
     }

@@ -4,7 +4,7 @@ mod steps;
 
 ghost use mathlib.Core.Path.{_≡_};
 ghost use Rattle.records.specs.Answers.{answerOf};
-ghost use Rattle.records.specs.Read.{sequencesEnd, picturesEnd, recordFault, readAs, readRecord};
+ghost use Rattle.records.specs.Read.{lengthSize, sequencesEnd, picturesEnd, recordFault, readAs, readRecord};
 ghost use Rattle.records.specs.Steps.{Followed};
 use numbers::ByteOffset;
 use numbers::Kind;
@@ -25,12 +25,12 @@ pub struct Shape {
 
 // What the kinds of record differ in: a kind is one row.
 pub struct Layout {
+    // how many flags stand at the top of the byte with the length size
+    pub flags: usize,
     // the byte with the length size less one
-    pub size: Shape,
+    pub length_size: Shape,
     // the byte with the number of sequence sets
     pub count: Shape,
-    // whether there is a complete_representation
-    pub complete: bool,
     // the types of a sequence set
     pub sequence: SetTypes,
     // whether the high profiles have a trailer
@@ -70,7 +70,7 @@ pub struct Fields {
     // complete_representation
     pub complete: Flag,
     // the length size, L: 1, 2 or 4
-    pub size: usize,
+    pub length_size: usize,
     // how many sets of each kind there are
     pub sequences: usize,
     pub pictures: usize,
@@ -123,8 +123,8 @@ fn accepted(k: Kind, s: &[u8], p: usize, q: usize, follow: Follow) -> Reading
     Reading::Accepted(Record {
         fields,
         sequences: Part {
-            start: ByteOffset(6),
-            len: p - 6,
+            start: ByteOffset(layouts::HEAD),
+            len: p - layouts::HEAD,
         },
         pictures: Part {
             start: ByteOffset(p + 1),
@@ -163,6 +163,16 @@ pub fn read_as(k: Kind, s: &[u8]) -> Reading
         return refused(refusals::BYTES_AFTER_RECORD);
     }
     accepted(k, s, p, q, follow)
+}
+
+// The length size that the bytes of a record of a known kind state, whatever else they hold; a byte that is not there counts as 0.
+pub fn length_size(k: Kind, s: &[u8]) -> usize
+    ensures { λ r. ⌜ r ≡ lengthSize k (now (s .entry)) ⌝ }
+{
+    let l = layouts::record_layout(k);
+    let shape = l.length_size;
+    let less_one = steps::value_in(shape, numbers::byte(s, layouts::LENGTH_SIZE_AT));
+    less_one + 1
 }
 
 // The record that the bytes are, by a kind's number: 0 AVC, 1 SVC.

@@ -5,9 +5,10 @@ ghost use lib.ListN.{length};
 ghost use Rattle.words.specs.Refusals.{_orElse_};
 ghost use Rattle.words.specs.Bytes.{byteAt};
 ghost use Rattle.sets.specs.Sets.{setsFault, setsEnd};
-ghost use Rattle.records.specs.Layout.{Sound, layoutOf, flagsIn, valueIn, flagOf, pictureTypes};
-ghost use Rattle.records.specs.Read.{missing, byteFault, trailerFault, trailerEnd, highOf, headFault, sequencesFault, sequencesEnd, picturesEnd, fieldsOf, trailerOf};
-ghost use Rattle.records.specs.Steps.{Walked, valuesFault, Followed};
+ghost use Rattle.records.specs.Layout.{Sound, recordLayout, valueIn, flagOf, pictureTypes, missing, byteFault};
+ghost use Rattle.records.specs.Trailers.{extensionTypes, valuesFault, highOf};
+ghost use Rattle.records.specs.Read.{headFault, sequencesFault, sequencesEnd, picturesEnd, fieldsOf, trailerOf};
+ghost use Rattle.records.specs.Steps.{Walked, Followed};
 use crate::Fields;
 use crate::Flag;
 use crate::Follow;
@@ -45,23 +46,23 @@ pub(crate) fn byte_fault(s: &[u8], h: Shape, at: usize) -> u8
 pub(crate) fn head_fault(k: Kind, s: &[u8]) -> u8
     ensures { λ r. ⌜ r ≡ headFault k (now (s .entry)) ⌝ }
 {
-    let l = layouts::layout_of(k);
-    let size = l.size;
+    let l = layouts::record_layout(k);
+    let shape = l.length_size;
     let count = l.count;
     if s.len() <= 0 {
         return refusals::RECORD_CUT;
     }
-    if s[0] != 1 {
+    if s[0] != layouts::VERSION {
         return refusals::BAD_VERSION;
     }
-    let fifth = byte_fault(s, size, 4);
+    let fifth = byte_fault(s, shape, layouts::LENGTH_SIZE_AT);
     if fifth != 0 {
         return fifth;
     }
-    if value_in(size, s[4]) + 1 == 3 {
+    if value_in(shape, s[layouts::LENGTH_SIZE_AT]) + 1 == layouts::BAD_SIZE {
         return refusals::BAD_LENGTH_SIZE;
     }
-    byte_fault(s, count, 5)
+    byte_fault(s, count, layouts::COUNT_AT)
 }
 
 // The sequence sets, after the six bytes.
@@ -69,11 +70,11 @@ pub(crate) fn walk_sequences(k: Kind, s: &[u8]) -> Walk
     requires { ⌜ 5 < length (now s) ⌝ }
     ensures { λ r. ⌜ Walked r (sequencesFault k (now (s .entry))) (sequencesEnd k (now (s .entry))) ⌝ }
 {
-    let l = layouts::layout_of(k);
+    let l = layouts::record_layout(k);
     let count = l.count;
     let types = l.sequence;
-    let n = value_in(count, s[5]);
-    sets::walk_sets(types, s, n, 6)
+    let n = value_in(count, s[layouts::COUNT_AT]);
+    sets::walk_sets(types, s, n, layouts::HEAD)
 }
 
 // The number of picture sets at a place, and the sets.
@@ -116,14 +117,14 @@ fn values_fault(s: &[u8], at: usize) -> u8
 // A trailer at a place.
 pub(crate) fn walk_trailer(s: &[u8], at: usize) -> Walk
     requires { ⌜ at ≤ length (now s) ⌝ }
-    ensures { λ r. ⌜ Walked r (trailerFault (now (s .entry)) at) (trailerEnd (now (s .entry)) at) ⌝ }
+    ensures { λ r. ⌜ Walked r (valuesFault (now (s .entry)) at orElse setsFault extensionTypes (now (s .entry)) (byteAt (now (s .entry)) (at + 3)) (at + 4)) (setsEnd (now (s .entry)) (byteAt (now (s .entry)) (at + 3)) (at + 4)) ⌝ }
 {
     let fault = values_fault(s, at);
     if fault != 0 {
         return Walk { fault, end: 0 };
     }
     let n = s[at + 3] as usize;
-    sets::walk_sets(layouts::EXTENSION_TYPES, s, n, at + 4)
+    sets::walk_sets(layouts::EXTENSION_TYPES, s, n, at + layouts::TRAILER_HEAD)
 }
 
 // The values of a trailer at a place.
@@ -148,7 +149,7 @@ pub(crate) fn follow_of(k: Kind, s: &[u8], at: usize) -> Follow
     requires { ⌜ (1 < length (now s)) × (at ≤ length (now s)) × (at ≡ picturesEnd k (now s)) ⌝ }
     ensures { λ r. ⌜ Followed k (now (s .entry)) r ⌝ }
 {
-    if !layouts::has_trailer(k, s[1] as usize) {
+    if !layouts::has_trailer(k, s[layouts::PROFILE_AT] as usize) {
         return Follow {
             fault: 0,
             trailer: Trailer::Without,
@@ -169,19 +170,19 @@ pub(crate) fn follow_of(k: Kind, s: &[u8], at: usize) -> Follow
     Follow {
         fault: 0,
         trailer: Trailer::With(high),
-        start: at + 4,
+        start: at + layouts::TRAILER_HEAD,
         end: w.end,
     }
 }
 
-// complete_representation, where a record has one.
-fn flag_of(has: bool, flags: usize) -> Flag
-    ensures { λ r. ⌜ r ≡ flagOf has flags ⌝ }
+// A flag by its bit, where a record has it.
+fn flag_of(has: bool, bit: u8) -> Flag
+    ensures { λ r. ⌜ r ≡ flagOf has bit ⌝ }
 {
     if !has {
         return Flag::Absent;
     }
-    if flags == 0 {
+    if bit == 0 {
         return Flag::Clear;
     }
     Flag::Set
@@ -192,18 +193,21 @@ pub(crate) fn fields_of(k: Kind, s: &[u8], at: usize, trailer: Trailer) -> Field
     requires { ⌜ (5 < length (now s)) × (at < length (now s)) × (at ≡ sequencesEnd k (now s)) × (trailer ≡ trailerOf k (now s)) ⌝ }
     ensures { λ r. ⌜ r ≡ fieldsOf k (now (s .entry)) ⌝ }
 {
-    let l = layouts::layout_of(k);
-    let size = l.size;
+    let l = layouts::record_layout(k);
+    let shape = l.length_size;
     let count = l.count;
-    let complete = flag_of(l.complete, s[4] as usize / size.unit);
-    let less_one = value_in(size, s[4]);
-    let sequences = value_in(count, s[5]);
+    let complete = flag_of(
+        0 < l.flags,
+        s[layouts::LENGTH_SIZE_AT] / layouts::COMPLETE % 2,
+    );
+    let less_one = value_in(shape, s[layouts::LENGTH_SIZE_AT]);
+    let sequences = value_in(count, s[layouts::COUNT_AT]);
     Fields {
-        profile: s[1] as usize,
-        compatibility: s[2] as usize,
-        level: s[3] as usize,
+        profile: s[layouts::PROFILE_AT] as usize,
+        compatibility: s[layouts::COMPATIBILITY_AT] as usize,
+        level: s[layouts::LEVEL_AT] as usize,
         complete,
-        size: less_one + 1,
+        length_size: less_one + 1,
         sequences,
         pictures: s[at] as usize,
         trailer,

@@ -1,14 +1,16 @@
 -- Parameter sets in bytes s, each a unit after its 2-byte length (5.2.4.1; 01, 'Configuration records').
 --
+--   setLengthSize         how many bytes the length before a set has
 --   setEnd s p            where the set at p ends
 --   setsEnd s n p         where n sets from p on end
+--   headerAt s p          the first byte of the unit of the set at p
 --   oneOf types t         whether the unit type t is one of the types
 --   setFault types s p    the refusal of the set at p: 8 or 12
 --   setsFault types s n p the first refusal of n sets from p on
 --   exactly s n           s is n sets, cut by their lengths, and nothing else
 --   setsFit types s n     the same, and none of them is refused
 --   walkOf types s n p    what a walk over the sets answers
-use Prim.Native.Nat.{ℕ, _+_, _%_}
+use Prim.Native.Nat.{ℕ, _+_, _%_, _^_}
 use mathlib.Core.List.{List}
 use mathlib.Core.Bool.{Bool, true, false, _||_, _&&_, not}
 use lib.ListN.{length}
@@ -23,24 +25,31 @@ use Rattle.sets.specs.declared.Walk.{Walk}
 abbrev pub oneOf : SetTypes → ℕ → Bool
 oneOf types t = (t ≡? types .one) || (t ≡? types .other)
 
+abbrev pub setLengthSize : ℕ
+setLengthSize = 2
+
 module _ (s : List ℕ) where
   abbrev pub setEnd : ℕ → ℕ
-  setEnd p = p + 2 + big s p 2
+  setEnd p = p + setLengthSize + big s p setLengthSize
 
   abbrev pub setsEnd : ℕ → ℕ → ℕ
   setsEnd n p = skip setEnd n p
 
+  abbrev pub headerAt : ℕ → ℕ
+  headerAt p = byteAt s (p + setLengthSize)
+
   unfoldable pub exactly : ℕ → Bool
   exactly n = setsEnd n 0 ≡? length s
 
--- An empty set is 12 even where its bytes end; else all its bytes must be there before 12 is judged.
+-- An empty set is 12 even where its bytes end; else all its bytes must be there before 12 is judged: the top bit of the header is 1, or the
+-- type, its low five bits, is none of the types.
 unfoldable pub setFault : SetTypes → List ℕ → ℕ → ℕ
 setFault types s p =
-    recordCut if length s <? p + 2 orElse
-    badSet if big s p 2 ≡? 0 orElse
+    recordCut if length s <? p + setLengthSize orElse
+    badSet if big s p setLengthSize ≡? 0 orElse
     recordCut if length s <? setEnd s p orElse
-    badSet if 128 ≤? byteAt s (p + 2) orElse
-    badSet if not (oneOf types (byteAt s (p + 2) % 32))
+    badSet if 2 ^ 7 ≤? headerAt s p orElse
+    badSet if not (oneOf types (headerAt s p % 2 ^ 5))
 
 abbrev pub setsFault : SetTypes → List ℕ → ℕ → ℕ → ℕ
 setsFault types s n p = firstOf (setFault types s) (entries (setEnd s) n p)

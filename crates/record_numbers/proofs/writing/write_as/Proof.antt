@@ -16,7 +16,7 @@ refused-requires c κs = search needs
 
 returns : tie.Need-returns
 returns c = let a = c .before .before .before .before .before .before .before .before .args in
-    rw (c .refused .ensures) (refuse (ap (within (length (a .out .now))) (fault-refuses (a .k) (a .numbers .now) (a .a .now) (a .b .now) (a .x .now) _ (c .before .before .numbers-fault .ensures) (c .before .if1 .taken))))
+    rw (c .refused .ensures) (refuse (ap (within (length (a .out .now))) (fault-refuses (a .k) (a .numbers .now) (a .sequences .now) (a .pictures .now) (a .extensions .now) _ (c .before .before .numbers-fault .ensures) (c .before .if1 .taken))))
 
 fields-from-requires : tie.Need-fields-from-requires
 fields-from-requires c κs = let a = c .before .before .before .before .before .before .before .args in fault-enough (a .k) (a .numbers .now) (sym (c .before .numbers-fault .ensures) ∙ c .if1 .left)
@@ -29,7 +29,7 @@ same-length c = search needs
 
 returns-2 : tie.Need-returns-2
 returns-2 c = let a = c .before .before .before .before .before .before .before .before .before .before .before .before .args in
-    rw (fault-none (a .k) (a .numbers .now) (a .a .now) (a .b .now) (a .x .now) (sym (c .before .before .before .before .before .before .numbers-fault .ensures) ∙ c .before .before .before .before .before .if1 .left), ← c .before .before .before .before .fields-from .ensures) (c .before .before .write-as .ensures)
+    rw (fault-none (a .k) (a .numbers .now) (a .sequences .now) (a .pictures .now) (a .extensions .now) (sym (c .before .before .before .before .before .before .numbers-fault .ensures) ∙ c .before .before .before .before .before .if1 .left), ← c .before .before .before .before .fields-from .ensures) (c .before .before .write-as .ensures)
 
 pub write-as-spec : {M : Type 1} → statement M
 write-as-spec =

@@ -37,7 +37,7 @@ same-length c = search needs
 returns : tie.Need-returns
 returns c =
     let a = c .before .before .before .before .before .before .before .before .before .before .before .before .before .before .before .before .before .before .args in
-    c .before .before .put-bytes3 .ensures ∙ rw (c .before .before .before .before .before .before .before .put-bytes2 .ensures, c .before .before .before .before .before .before .before .before .before .before .before .put-bytes .ensures, c .before .before .before .before .before .before .before .before .before .before .before .before .before .before .before .head-bytes .ensures) (front-written (a .out .now) (a .k) (a .f) (a .a .now) (c .before .before .before .before .before .before .before .before .before .before .before .before .before .before .before .before .before .before .pre .1))
+    c .before .before .put-bytes3 .ensures ∙ rw (c .before .before .before .before .before .before .before .put-bytes2 .ensures, c .before .before .before .before .before .before .before .before .before .before .before .put-bytes .ensures, c .before .before .before .before .before .before .before .before .before .before .before .before .before .before .before .head-bytes .ensures) (front-written (a .out .now) (a .k) (a .f) (a .sequences .now) (c .before .before .before .before .before .before .before .before .before .before .before .before .before .before .before .before .before .before .pre .1))
 
 pub put-front-spec : {M : Type 1} → statement M
 put-front-spec =

@@ -1,22 +1,23 @@
--- The front, the picture sets and the trailer, one after the other. Assumes nothing.
+-- The front, the picture sets, the trailer and its sets, one after the other. Assumes nothing.
 use borrow.Author.Needs.{needs}
 use native.Mathlib.Omega.{arith}
 use mathlib.Core.Path.{_≡_, _∙_}
 use Prim.Native.Nat.{_+_}
 use lib.ListN.{length}
-use Rattle.record_writer.proofs.putting.put_record.Statement.{statement}
 use Rattle.records.proofs.Numbers.{numbers-true}
 use Rattle.records.proofs.Fits.{Fitting, fitting}
-use Rattle.record_writer.proofs.Laws.{spelled-length, record-written}
-use Rattle.records.specs.Spell.{spelled, trailerBytes}
+use Rattle.records.specs.Trailers.{ending}
+use Rattle.records.specs.Fields.{recordBytes}
+use Rattle.record_writer.proofs.Laws.{bytes-length, record-written}
+use Rattle.record_writer.proofs.putting.put_record.Statement.{statement}
 use Rattle.record_writer.proofs.putting.put_record.Tie as tie
 
 -- how long the record is, and that it fits
-long : (c : tie.Start) → length (spelled (c .args .k) (c .args .f) (c .args .a .now) (c .args .b .now) (c .args .x .now)) ≡ 7 + length (c .args .a .now) + length (c .args .b .now) + length (trailerBytes (c .args .f .trailer) (c .args .x .now))
-long c = spelled-length (c .args .k) (c .args .f) (c .args .a .now) (c .args .b .now) (c .args .x .now)
+long : (c : tie.Start) → length (recordBytes (c .args .k) (c .args .f) (c .args .sequences .now) (c .args .pictures .now) (c .args .extensions .now)) ≡ 7 + length (ending (c .args .f .trailer) .head) + length (c .args .sequences .now) + length (c .args .pictures .now) + length (c .args .extensions .now)
+long c = bytes-length (c .args .k) (c .args .f) (c .args .sequences .now) (c .args .pictures .now) (c .args .extensions .now)
 
-fit : (c : tie.Start) → Fitting (c .args .k) (c .args .f) (c .args .a .now) (c .args .b .now) (c .args .x .now)
-fit c = fitting (c .args .k) (c .args .f) (c .args .a .now) (c .args .b .now) (c .args .x .now) (c .pre .0)
+fit : (c : tie.Start) → Fitting (c .args .k) (c .args .f) (c .args .sequences .now) (c .args .pictures .now) (c .args .extensions .now)
+fit c = fitting (c .args .k) (c .args .f) (c .args .sequences .now) (c .args .pictures .now) (c .args .extensions .now) (c .pre .0)
 
 add-at : tie.Need-add-at
 add-at c = search needs
@@ -25,24 +26,31 @@ add-at-2 : tie.Need-add-at-2
 add-at-2 c = search needs
 
 add-end : tie.Need-add-end
-add-end c = omega (arith, long (c .before .before .before .before), c .before .before .before .before .pre .1)
+add-end c = omega (arith, long (c .before .before .before .before), c .before .before .before .before .pre .2)
 
 put-front-requires : tie.Need-put-front-requires
-put-front-requires c κs = (numbers-true _ _ (fit (c .before .before .before .before .before) .numbers), omega (arith, long (c .before .before .before .before .before), c .before .before .before .before .before .pre .1))
+put-front-requires c κs = (numbers-true _ _ (fit (c .before .before .before .before .before) .numbers), omega (arith, long (c .before .before .before .before .before), c .before .before .before .before .before .pre .2))
 
 put-bytes-requires : tie.Need-put-bytes-requires
 put-bytes-requires c κs = search needs
 
 put-trailer-requires : tie.Need-put-trailer-requires
-put-trailer-requires c κs = (fit (c .before .before .before .before .before .before .before .before .before .before .before .before .before) .numbers .trailer, omega (arith, long (c .before .before .before .before .before .before .before .before .before .before .before .before .before), c .before .before .before .before .before .before .before .before .before .before .before .before .before .pre .1, c .before .before .before .before .before .before .before .put-front .kept .0, c .before .before .before .put-bytes .kept .0))
+put-trailer-requires c κs = (fit (c .before .before .before .before .before .before .before .before .before .before .before .before .before) .numbers .trailer, omega (arith, long (c .before .before .before .before .before .before .before .before .before .before .before .before .before), c .before .before .before .before .before .before .before .before .before .before .before .before .before .pre .2, c .before .before .before .before .before .before .before .put-front .kept .0, c .before .before .before .put-bytes .kept .0))
+
+add-put-bytes : tie.Need-add-put-bytes
+add-put-bytes c = omega (arith, long (c .before .before .before .before .before .before .before .before .before .before .before .before .before .before .before .before .before), c .before .before .before .before .before .before .before .before .before .before .before .before .before .before .before .before .before .pre .1, c .before .before .before .before .before .before .before .before .before .before .before .before .before .before .before .before .before .pre .2)
+
+put-bytes-requires-2 : tie.Need-put-bytes-requires-2
+put-bytes-requires-2 c κs = search needs
 
 same-length : tie.Need-same-length
 same-length c = search needs
 
 returns : tie.Need-returns
 returns c =
-    let a = c .before .before .before .before .before .before .before .before .before .before .before .before .before .before .before .before .args in
-    c .before .before .put-trailer .ensures ∙ rw (c .before .before .before .before .before .before .put-bytes .ensures, c .before .before .before .before .before .before .before .before .before .before .put-front .ensures) (record-written (a .out .now) (a .k) (a .f) (a .a .now) (a .b .now) (a .x .now) (c .before .before .before .before .before .before .before .before .before .before .before .before .before .before .before .before .pre .1))
+    let a = c .before .before .before .before .before .before .before .before .before .before .before .before .before .before .before .before .before .before .before .before .args in
+    c .before .before .put-bytes2 .ensures
+    ∙ rw (c .before .before .before .before .before .before .before .before .before .before .before .before .before .before .before .before .before .before .before .before .pre .1, c .before .before .before .before .before .before .put-trailer .ensures, c .before .before .before .before .before .before .before .before .before .before .put-bytes .ensures, c .before .before .before .before .before .before .before .before .before .before .before .before .before .before .put-front .ensures) (record-written (a .out .now) (a .k) (a .f) (a .sequences .now) (a .pictures .now) (a .extensions .now) (c .before .before .before .before .before .before .before .before .before .before .before .before .before .before .before .before .before .before .before .before .pre .2))
 
 pub put-record-spec : {M : Type 1} → statement M
 put-record-spec =
@@ -54,5 +62,7 @@ put-record-spec =
     put-front-requires
     put-bytes-requires
     put-trailer-requires
+    add-put-bytes
+    put-bytes-requires-2
     same-length
     returns)

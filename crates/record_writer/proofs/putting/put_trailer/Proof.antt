@@ -1,13 +1,10 @@
--- No trailer writes nothing; else its values and its sets, one after the other. Assumes nothing.
+-- No trailer writes nothing; else its values. Assumes nothing.
 use borrow.Author.Needs.{needs}
 use native.Mathlib.Omega.{arith}
 use mathlib.Core.Path.{_∙_}
-use Prim.Native.Nat.{_+_}
-use lib.ListN.{length-append}
+use Rattle.records.specs.Trailers.{highBytes}
+use Rattle.words.proofs.Buffers.{write-none, put-fits}
 use Rattle.record_writer.proofs.putting.put_trailer.Statement.{statement}
-use Rattle.records.specs.Spell.{highHead}
-use Rattle.words.proofs.Buffers.{write-none, put-fits, write-write, write-length}
-use Rattle.words.specs.Buffers.{writeAt}
 use Rattle.record_writer.proofs.putting.put_trailer.Tie as tie
 
 enum-told : tie.Need-enum-told
@@ -17,19 +14,13 @@ enum-known-t : tie.Need-enum-known-t
 enum-known-t c = search needs
 
 high-bytes-requires : tie.Need-high-bytes-requires
-high-bytes-requires c κs = rw (c .before .t .given .1) at (c .before .before .before .before .before .pre .0)
+high-bytes-requires c κs = rw (c .before .t .given .1) at (c .before .before .before .before .pre .0)
 
 slice-aggregate-put-bytes : tie.Need-slice-aggregate-put-bytes
 slice-aggregate-put-bytes c = search needs
 
 put-bytes-requires : tie.Need-put-bytes-requires
 put-bytes-requires c κs = search needs
-
-add-put-bytes : tie.Need-add-put-bytes
-add-put-bytes c = search needs
-
-put-bytes-requires-2 : tie.Need-put-bytes-requires-2
-put-bytes-requires-2 c κs = search needs
 
 returns : tie.Need-returns
 returns c = rw (c .enum-told .given .1) (write-none _ _)
@@ -39,13 +30,11 @@ same-length c = search needs
 
 returns-2 : tie.Need-returns-2
 returns-2 c =
-    let a = c .before .before .before .before .before .before .before .before .before .before .before .before .before .before .before .args in
-    let h = c .before .before .before .before .before .before .before .before .before .before .before .t .given .0 .0 in
-    let r = rw (c .before .before .before .before .before .before .before .before .before .before .before .t .given .1) at (c .before .before .before .before .before .before .before .before .before .before .before .before .before .before .before .pre .1) in
-    let n = length-append (highHead h) (a .x .now) in
-    let w = write-length (a .out .now) (a .at) (highHead h) (omega arith) in
-    c .before .before .put-bytes2 .ensures
-    ∙ rw (c .before .before .before .before .before .before .put-bytes .ensures, c .before .before .before .before .before .before .before .before .before .high-bytes .ensures, c .before .before .before .before .before .before .before .before .before .before .before .t .given .1, put-fits (a .out .now) (a .at) (highHead h) (omega arith), put-fits (writeAt (a .out .now) (a .at) (highHead h)) (a .at + 4) (a .x .now) (omega arith)) (write-write (a .out .now) (a .at) (highHead h) (a .x .now) (omega arith))
+    let a = c .before .before .before .before .before .before .before .before .before .before .args in
+    let h = c .before .before .before .before .before .before .before .t .given .0 .0 in
+    let r = rw (c .before .before .before .before .before .before .before .t .given .1) at (c .before .before .before .before .before .before .before .before .before .before .pre .1) in
+    c .before .before .put-bytes .ensures
+    ∙ rw (c .before .before .before .before .before .high-bytes .ensures, c .before .before .before .before .before .before .before .t .given .1) (put-fits (a .out .now) (a .at) (highBytes h) (omega arith))
 
 pub put-trailer-spec : {M : Type 1} → statement M
 put-trailer-spec =
@@ -56,8 +45,6 @@ put-trailer-spec =
     high-bytes-requires
     slice-aggregate-put-bytes
     put-bytes-requires
-    add-put-bytes
-    put-bytes-requires-2
     returns
     same-length
     returns-2)

@@ -7,16 +7,16 @@ use borrow.Author.Tests.{lt-ltb, le-ltb}
 use Rattle.record_writer.proofs.putting.room_for.Tie as tie
 
 returns : tie.Need-returns
-returns c = let a = c .before .args in rw (lt-ltb (a .room) (a .head + a .a + a .b + a .x) (omega arith))
+returns c = let a = c .before .args in rw (lt-ltb (a .room) (a .head + a .sequences + a .pictures + a .extensions) (omega arith))
 
 returns-2 : tie.Need-returns-2
-returns-2 c = let a = c .before .before .args in rw (lt-ltb (a .room) (a .head + a .a + a .b + a .x) (omega arith))
+returns-2 c = let a = c .before .before .args in rw (lt-ltb (a .room) (a .head + a .sequences + a .pictures + a .extensions) (omega arith))
 
 sub-if3 : tie.Need-sub-if3
 sub-if3 c = search needs
 
 returns-3 : tie.Need-returns-3
-returns-3 c = let a = c .before .before .before .args in rw (lt-ltb (a .room) (a .head + a .a + a .b + a .x) (omega arith))
+returns-3 c = let a = c .before .before .before .args in rw (lt-ltb (a .room) (a .head + a .sequences + a .pictures + a .extensions) (omega arith))
 
 sub-if4 : tie.Need-sub-if4
 sub-if4 c = search needs
@@ -25,7 +25,7 @@ sub-if4-2 : tie.Need-sub-if4-2
 sub-if4-2 c = search needs
 
 returns-4 : tie.Need-returns-4
-returns-4 c = let a = c .before .before .before .before .args in rw (lt-ltb (a .room) (a .head + a .a + a .b + a .x) (omega arith))
+returns-4 c = let a = c .before .before .before .before .args in rw (lt-ltb (a .room) (a .head + a .sequences + a .pictures + a .extensions) (omega arith))
 
 add-t7 : tie.Need-add-t7
 add-t7 c = search needs
@@ -37,7 +37,7 @@ add-t9 : tie.Need-add-t9
 add-t9 c = search needs
 
 returns-5 : tie.Need-returns-5
-returns-5 c = let a = c .before .before .before .before .args in rw (le-ltb (a .room) (a .head + a .a + a .b + a .x) (omega arith))
+returns-5 c = let a = c .before .before .before .before .args in rw (le-ltb (a .room) (a .head + a .sequences + a .pictures + a .extensions) (omega arith))
 
 pub room-for-spec : {M : Type 1} → statement M
 room-for-spec =

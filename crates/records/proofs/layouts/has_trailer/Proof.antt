@@ -5,18 +5,18 @@ use Rattle.records.proofs.layouts.has_trailer.Statement.{statement}
 use mathlib.Core.Bool.{true, false}
 use borrow.Author.Tests.{not-true, not-false}
 use Rattle.words.proofs.Tests.{tests}
-use Rattle.records.specs.Layout.{layoutOf}
+use Rattle.records.specs.Layout.{recordLayout}
 use Rattle.records.proofs.layouts.has_trailer.Tie as tie
 
 -- the kind has trailers
-row-has : (c : tie.Else1) → layoutOf (c .before .before .before .args .k) .trailer ≡ true
-row-has c = ap (λ l. l .trailer) (sym (c .before .before .layout-of .ensures)) ∙ not-false _ (c .if1 .left)
+row-has : (c : tie.Else1) → recordLayout (c .before .before .before .args .k) .trailer ≡ true
+row-has c = ap (λ l. l .trailer) (sym (c .before .before .record-layout .ensures)) ∙ not-false _ (c .if1 .left)
 
-layout-of-requires : tie.Need-layout-of-requires
-layout-of-requires c κs = search needs
+record-layout-requires : tie.Need-record-layout-requires
+record-layout-requires c κs = search needs
 
 returns : tie.Need-returns
-returns c = let e : layoutOf (c .before .before .before .args .k) .trailer ≡ false = ap (λ l. l .trailer) (sym (c .before .before .layout-of .ensures)) ∙ not-true _ (c .if1 .taken) in rw e
+returns c = let e : recordLayout (c .before .before .before .args .k) .trailer ≡ false = ap (λ l. l .trailer) (sym (c .before .before .record-layout .ensures)) ∙ not-true _ (c .if1 .taken) in rw e
 
 returns-2 : tie.Need-returns-2
 returns-2 c = rw (row-has (c .before)) (search tests)
@@ -32,4 +32,4 @@ returns-5 c = rw (row-has (c .before .before .before)) (search tests)
 
 pub has-trailer-spec : {M : Type 1} → statement M
 has-trailer-spec =
-    tie.close (tie.spec layout-of-requires returns returns-2 returns-3 returns-4 returns-5)
+    tie.close (tie.spec record-layout-requires returns returns-2 returns-3 returns-4 returns-5)

@@ -8,8 +8,9 @@ use Rattle.records.proofs.steps.follow_of.Statement.{statement}
 use mathlib.Core.Bool.{true}
 use borrow.Author.Tests.{not-true, not-false}
 use Rattle.words.specs.Bytes.{byteAt}
-use Rattle.records.specs.Layout.{hasTrailer}
-use Rattle.records.proofs.Parsed.{trailer-good}
+use Rattle.words.proofs.Refusals.{orElse-none}
+use Rattle.records.specs.Trailers.{hasTrailer, valuesFault}
+use Rattle.records.proofs.Parsed.{values-good}
 use Rattle.records.proofs.Walked.{follow-none, follow-refused, follow-with}
 use Rattle.records.proofs.steps.follow_of.Tie as tie
 
@@ -19,7 +20,9 @@ belongs c = sym (c .before .has-trailer .ensures) ∙ not-false _ (c .if1 .left)
 
 -- it is there
 there : (c : tie.Else2) → c .before .before .before .before .before .before .before .args .at + 3 < length (c .before .before .before .before .before .before .before .args .s .now)
-there c = trailer-good (c .before .before .before .before .before .before .before .args .s .now) (c .before .before .before .before .before .before .before .args .at) (sym (c .before .before .walk-trailer .ensures .refusal) ∙ c .if2 .left) .there
+there c =
+    let a = c .before .before .before .before .before .before .before .args in
+    values-good (a .s .now) (a .at) (orElse-none (valuesFault (a .s .now) (a .at)) _ (sym (c .before .before .walk-trailer .ensures .refusal) ∙ c .if2 .left) .0) .there
 
 shared-slice-read-has-trailer : tie.Need-shared-slice-read-has-trailer
 shared-slice-read-has-trailer c = search needs
@@ -46,7 +49,7 @@ add-t9 : tie.Need-add-t9
 add-t9 c = let l = there (c .before) in omega arith
 
 returns-3 : tie.Need-returns-3
-returns-3 c = follow-with (c .before .before .before .before .before .before .before .before .args .k) (c .before .before .before .before .before .before .before .before .args .s .now) (c .before .before .before .before .before .before .before .before .args .at) (c .before .before .before .before .before .before .before .before .pre .2) (c .before .before .before .walk-trailer .result) (c .high-of .result) (belongs (c .before .before .before .before)) (c .before .before .before .walk-trailer .ensures) (c .before .if2 .left) (c .high-of .ensures)
+returns-3 c = follow-with (c .before .before .before .before .before .before .before .before .args .k) (c .before .before .before .before .before .before .before .before .args .s .now) (c .before .before .before .before .before .before .before .before .args .at) (c .before .before .before .before .before .before .before .before .pre .2) (c .before .before .before .walk-trailer .result) (belongs (c .before .before .before .before)) (c .before .before .before .walk-trailer .ensures) (c .high-of .result) (c .before .if2 .left) (c .high-of .ensures)
 
 pub follow-of-spec : {M : Type 1} → statement M
 follow-of-spec =

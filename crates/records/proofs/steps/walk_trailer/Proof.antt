@@ -6,20 +6,20 @@ use Prim.Native.Nat.{_+_, _<_}
 use lib.ListN.{length}
 use Rattle.records.proofs.steps.walk_trailer.Statement.{statement}
 use Rattle.words.specs.Bytes.{byteAt}
-use Rattle.records.specs.Layout.{extensionTypes}
-use Rattle.records.specs.Steps.{valuesFault}
-use Rattle.records.proofs.Walked.{walked, cut-walk, values-then, values-there}
+use Rattle.records.specs.Trailers.{extensionTypes, valuesFault}
+use Rattle.records.proofs.Parsed.{values-good}
+use Rattle.records.proofs.Walked.{walked, cut-walk}
 use Rattle.records.proofs.steps.walk_trailer.Tie as tie
 
 -- the number of sets is there
 count-there : (c : tie.Else1) → c .before .before .before .args .at + 3 < length (c .before .before .before .args .s .now)
-count-there c = values-there (c .before .before .before .args .s .now) (c .before .before .before .args .at) (sym (c .before .values-fault .ensures) ∙ c .if1 .left)
+count-there c = values-good (c .before .before .before .args .s .now) (c .before .before .before .args .at) (sym (c .before .values-fault .ensures) ∙ c .if1 .left) .there
 
 values-fault-requires : tie.Need-values-fault-requires
 values-fault-requires c κs = search needs
 
 returns : tie.Need-returns
-returns c = rw (values-then (c .before .before .before .args .s .now) (c .before .before .before .args .at)) (cut-walk _ (c .before .values-fault .ensures) (c .if1 .taken))
+returns c = cut-walk _ (c .before .values-fault .ensures) (c .if1 .taken)
 
 add-n : tie.Need-add-n
 add-n c = let l = count-there c in omega arith
@@ -40,7 +40,7 @@ returns-2 : tie.Need-returns-2
 returns-2 c =
     let a = c .before .before .before .before .before .args in
     let e : valuesFault (a .s .now) (a .at) ≡ 0 = sym (c .before .before .before .values-fault .ensures) ∙ c .before .before .if1 .left in
-    rw (values-then (a .s .now) (a .at), e) (walked extensionTypes (a .s .now) (byteAt (a .s .now) (a .at + 3)) (a .at + 4) _ (c .walk-sets .ensures))
+    rw e (walked extensionTypes (a .s .now) (byteAt (a .s .now) (a .at + 3)) (a .at + 4) _ (c .walk-sets .ensures))
 
 pub walk-trailer-spec : {M : Type 1} → statement M
 walk-trailer-spec =

@@ -1,7 +1,7 @@
 -- Each kind's row, by its variant. Assumes nothing.
 use borrow.Author.Needs.{needs}
-use Rattle.records.proofs.layouts.layout_of.Statement.{statement}
-use Rattle.records.proofs.layouts.layout_of.Tie as tie
+use Rattle.records.proofs.layouts.record_layout.Statement.{statement}
+use Rattle.records.proofs.layouts.record_layout.Tie as tie
 
 enum-told : tie.Need-enum-told
 enum-told c = search needs
@@ -15,5 +15,5 @@ returns c = rw (c .enum-told .given .1)
 returns-2 : tie.Need-returns-2
 returns-2 c = rw (c .enum-told2 .given .1)
 
-pub layout-of-spec : {M : Type 1} → statement M
-layout-of-spec = tie.close (tie.spec enum-told enum-told-2 returns returns-2)
+pub record-layout-spec : {M : Type 1} → statement M
+record-layout-spec = tie.close (tie.spec enum-told enum-told-2 returns returns-2)
