@@ -6,7 +6,7 @@
 --   samples-tile        the samples lie in section four without gaps, each once, in order, those of length 0 too; the bundle ends there
 --   sum-exact           the fourth count is the sum of the lengths, as whole numbers
 --   bytes-replaced      a sample's bytes replaced by as many others: accepted still, with these bytes replaced in the recording and nothing else
---   refusals-within     every refusal is 1 to 13, at a place in the bundle or at its end
+--   refusals-within     every refusal is one of the bundle's, at a place in the bundle or at its end
 --   one-or-other        a bundle is refused, or means its recording
 use Prim.Native.Nat.{ℕ, zero, suc, _+_, _-_, _≤_, _<_}
 use mathlib.Core.Path.{_≡_, refl, ap, sym, _∙_, subst}
@@ -24,12 +24,12 @@ use Rattle.bundles.specs.Limits.{bundleMost, trackMost, referenceMost, s
 use Rattle.bundles.specs.Recordings.{Layout, Recording, Reference, Entry, noTrack, sampleCount, contentOf, replaced}
 use Rattle.bundles.specs.References.{references, referenceOn, referencePlaces}
 use Rattle.bundles.specs.Samples.{lengths, bytesAt}
-use Rattle.bundles.specs.Bundles.{bundleVerdict, layoutOf, contentsAt, recordingOf, meaning, contentAt}
+use Rattle.bundles.specs.Bundles.{bundleVerdict, BundleRefusal, layoutOf, contentsAt, recordingOf, meaning, contentAt}
 use Rattle.bundles.proofs.Sections.{Accepted, accepted, track-count, reference-count, sample-count, lengths-count, reference-good}
 use Rattle.bundles.proofs.Order.{InOrder, entries-rise, entries-there}
 use Rattle.bundles.proofs.Tiling.{cuts-count, cuts-sizes, cuts-all, cuts-at}
 use Rattle.bundles.proofs.Replacing.{replace}
-use Rattle.bundles.proofs.Refusals.{Within, refused-within}
+use Rattle.bundles.proofs.Refusals.{refused-within}
 
 -- an accepted bundle, section by section, and its recording
 pub means : (b : List ℕ) {r : Recording} → meaning b ≡ ok r → (bundleVerdict b ≡ ok tt) × (recordingOf b ≡ r)
@@ -138,7 +138,7 @@ pub bytes-replaced :
 bytes-replaced = replace
 
 -- refusals
-pub refusals-within : (b : List ℕ) (n p : ℕ) → bundleVerdict b ≡ refused n p → Within b n p
+pub refusals-within : (b : List ℕ) (n p : ℕ) → bundleVerdict b ≡ refused n p → BundleRefusal b n p
 refusals-within = refused-within
 
 pub one-or-other : (b : List ℕ) → ((n : ℕ) × (p : ℕ) × (bundleVerdict b ≡ refused n p) × (meaning b ≡ refused n p)) ⊎ ((bundleVerdict b ≡ ok tt) × (meaning b ≡ ok (recordingOf b)))

@@ -1,13 +1,13 @@
--- Section four of a bundle b: sample bytes (01, 'The bundle', 4), and the whole: refusals 1 to 13 front to back, or the recording that it means.
+-- Section four of a bundle b: sample bytes (01, 'The bundle', 4), and the whole: its first refusal front to back, or the recording that it means.
 -- The count in 4 bytes, equal to the sum of the lengths; samples lie without gaps; the bundle ends there.
-use Prim.Native.Nat.{ℕ, _+_, _-_}
+use Prim.Native.Nat.{ℕ, _+_, _-_, _≤_}
 use mathlib.Core.List.{List}
 use mathlib.Core.Bool.{not}
 use lib.ListN.{length, take}
 use Rattle.words.specs.Tests.{_<?_, _≡?_}
-use Rattle.words.specs.RefusalNumbers.{bundleTooLong, badByteCount}
+use Rattle.words.specs.RefusalNumbers.{bundleTooLong, badByteCount, bundleRefusals}
 use Rattle.words.specs.Refusals.{_if_, _orElse_, Answer, ok, Verdict, _andThen_, _atPlace_}
-use Rattle.words.specs.Lists.{sum}
+use Rattle.words.specs.Lists.{sum, _∈_}
 use Rattle.words.specs.Bytes.{big, cuts}
 use Rattle.bundles.specs.Limits.{bundleMost, cut}
 use Rattle.bundles.specs.Recordings.{Layout, Recording}
@@ -30,9 +30,14 @@ module _ (b : List ℕ) where
   abbrev pub lengthVerdict : Verdict
   lengthVerdict = (bundleTooLong if bundleMost <? length b) atPlace 0
 
-  -- Refusals 1 to 13, section by section.
+  -- The first refusal, section by section.
   unfoldable pub bundleVerdict : Verdict
   bundleVerdict = lengthVerdict andThen tracksVerdict b andThen referencesVerdict b andThen samplesVerdict b andThen bytesVerdict
+
+  -- A refusal of the bundle: its number is one of the bundle's, its place lies in the bundle or at its end.
+  pub record BundleRefusal (n p : ℕ) : Type 0 where
+    pub number : n ∈ bundleRefusals
+    pub place : p ≤ length b
 
   -- What the bundle means.
   unfoldable pub layoutOf : Layout
