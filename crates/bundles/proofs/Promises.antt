@@ -23,8 +23,8 @@ use Rattle.numbers.specs.Sizes.{inBytes}
 use Rattle.bundles.specs.Limits.{bundleMost, trackMost, referenceMost, sampleMost}
 use Rattle.bundles.specs.Recordings.{Layout, Recording, Reference, Entry, noTrack, sampleCount, contentOf, replaced}
 use Rattle.bundles.specs.References.{references, referenceOn, referencePlaces}
-use Rattle.bundles.specs.Samples.{lengths, bytesAt}
-use Rattle.bundles.specs.Bundles.{bundleVerdict, BundleRefusal, layoutOf, contentsAt, recordingOf, meaning, contentAt}
+use Rattle.bundles.specs.Samples.{lengths, byteCountAt}
+use Rattle.bundles.specs.Bundles.{bundleVerdict, BundleRefusal, layoutOf, contentsAt, recordingOf, meaning, contentAt, SamplesTile}
 use Rattle.bundles.proofs.Sections.{Accepted, accepted, track-count, reference-count, sample-count, lengths-count, reference-good}
 use Rattle.bundles.proofs.Order.{InOrder, entries-rise, entries-there}
 use Rattle.bundles.proofs.Tiling.{cuts-count, cuts-sizes, cuts-all, cuts-at}
@@ -101,13 +101,7 @@ pub samples-ordered : (b : List ℕ) (r : Recording) → meaning b ≡ ok r → 
 samples-ordered b r e = let m = means b e in subst Ordered (layout-of b (m .1)) (ordered-here b (accepted b (m .0)))
 
 -- samples: bytes
-pub record Tiles (b : List ℕ) (contents : List (List ℕ)) : Type 0 where
-  pub joined : each (λ c. c) contents ≡ drop (contentsAt b) b
-  pub sizes : map (λ c. length c) contents ≡ lengths b
-  pub count : length contents ≡ length (lengths b)
-  pub placed : (n : ℕ) → n < length contents → getD contents n [] ≡ part b (contentAt b (suc n)) (getD (lengths b) n 0)
-
-tiles-here : (b : List ℕ) → Accepted b → Tiles b (cuts b (lengths b) (contentsAt b))
+tiles-here : (b : List ℕ) → Accepted b → SamplesTile b (cuts b (lengths b) (contentsAt b))
 unfolding contentAt
 tiles-here b a =
     record {
@@ -119,8 +113,8 @@ tiles-here b a =
           rw s (cuts-at b (lengths b) (contentsAt b) n (rw (cuts-count b (lengths b) (contentsAt b)) at h));
     }
 
-pub samples-tile : (b : List ℕ) (r : Recording) → meaning b ≡ ok r → Tiles b (r .contents)
-samples-tile b r e = let m = means b e in subst (Tiles b) (contents-of b (m .1)) (tiles-here b (accepted b (m .0)))
+pub samples-tile : (b : List ℕ) (r : Recording) → meaning b ≡ ok r → SamplesTile b (r .contents)
+samples-tile b r e = let m = means b e in subst (SamplesTile b) (contents-of b (m .1)) (tiles-here b (accepted b (m .0)))
 
 -- as many samples as section three says
 pub samples-all : (b : List ℕ) (r : Recording) → meaning b ≡ ok r → length (r .contents) ≡ sampleCount (r .layout)
@@ -128,7 +122,7 @@ samples-all b r e =
     let m = means b e in
     subst (λ (y : Layout). length (r .contents) ≡ sampleCount y) (layout-of b (m .1)) (samples-tile b r e .count ∙ lengths-count b ∙ sym (unfold layoutOf in sample-count b))
 
-pub sum-exact : (b : List ℕ) (r : Recording) → meaning b ≡ ok r → (big b (bytesAt b) 4 ≡ sum (lengths b)) × (contentsAt b + sum (lengths b) ≡ length b)
+pub sum-exact : (b : List ℕ) (r : Recording) → meaning b ≡ ok r → (big b (byteCountAt b) 4 ≡ sum (lengths b)) × (contentsAt b + sum (lengths b) ≡ length b)
 sum-exact b r e = let a = accepted b (means b e .0) in (a .bytes .count, a .bytes .end)
 
 pub bytes-replaced :

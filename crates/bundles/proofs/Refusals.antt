@@ -24,13 +24,16 @@ use Rattle.numbers.specs.declared.MaybeKind.{MaybeKind}
 use Rattle.numbers.specs.declared.MaybeKind.the-variants.{Known, Unknown}
 use Rattle.records.specs.Read.{recordFault}
 use Rattle.records.proofs.Refusals.{record-refusal}
-use Rattle.bundles.specs.Limits.{countFault, cut, bundleMost, trackMost, referenceMost, sampleMost}
-use Rattle.bundles.specs.Tracks.{recordFaultAs, recordSize, kindAt, recordAt, trackCount, trackEnd, trackFault, tracksVerdict, referencesAt}
+use Rattle.bundles.specs.Limits.{countFault, cut, bundleMost, trackLeast, trackMost, referenceMost, sampleMost}
+use Rattle.bundles.specs.Fields.{trackCountSize, trackHeadSize, referenceCountSize, referenceSize, sampleCountSize, entrySize, byteCountSize}
+use Rattle.bundles.specs.Recordings.{Entry}
+use Rattle.bundles.specs.Tracks.{recordFaultAs, tracksAt, recordLength, kindAt, recordAt, trackCount, trackEnd, trackFault, tracksVerdict, referencesAt}
 use Rattle.bundles.specs.References.{from, to, noSuchTrack, lengthSizeOn, referenceCount, referenceFault, referencesVerdict, samplesAt}
-use Rattle.bundles.specs.Samples.{track, time, entryCount, entriesAt, orderFault, entryFault, samplesVerdict, bytesAt}
-use Rattle.bundles.specs.Bundles.{endFault, bytesVerdict, lengthVerdict, bundleVerdict, BundleRefusal}
+use Rattle.bundles.specs.Samples.{track, entryCount, entriesAt, entryAt, entryOn, orderFault, entryFault, entryNumbers, samplesVerdict, byteCountAt}
+use Rattle.bundles.specs.Bundles.{byteCount, endFault, bytesVerdict, lengthVerdict, bundleVerdict, BundleRefusal}
 use Rattle.words.proofs.Entries.{walk-keeps-here}
-use Rattle.bundles.proofs.Sections.{count-good, track-good, reference-good, entry-good, tracks-good, references-good, samples-good}
+use Rattle.bundles.proofs.Passing.{first-earlier}
+use Rattle.bundles.proofs.Sections.{count-good, track-good, reference-good, entries-inside, tracks-good, references-good, samples-good}
 
 -- bridge: drop when record-refusal says NoneOr
 record-among : (n : ℕ) → 8 ≤ n → n ≤ 13 → n ∈ recordRefusals
@@ -110,62 +113,65 @@ module _ (b : List ℕ) where
   track-of : (p : ℕ) → OfBundle (trackFault b p)
   unfolding trackFault some
   track-of p =
-      chain bundleCut (length b <? p + 3) refl
-      (chain bundleCut (length b <? p + 3 + recordSize b p) refl
+      chain bundleCut (length b <? p + trackHeadSize) refl
+      (chain bundleCut (length b <? p + trackHeadSize + recordLength b p) refl
       (recordAs-of (kindAt b p) (recordAt b p)))
 
   reference-of : (p : ℕ) → OfBundle (referenceFault b p)
   unfolding referenceFault some
   reference-of p =
-      chain bundleCut (length b <? p + 2) refl
+      chain bundleCut (length b <? p + referenceSize) refl
       (chain badReference (noSuchTrack b (from b p)) refl
       (chain badReference (noSuchTrack b (to b p)) refl
       (chain badReference (from b p ≡? to b p) refl
       (test badReference (not (lengthSizeOn b (from b p) ≡? lengthSizeOn b (to b p))) refl))))
 
-  order-of : (q p : ℕ) → OfBundle (orderFault b q p)
+  order-of : (e f : Entry) → OfBundle (orderFault e f)
   unfolding orderFault some
-  order-of q p =
-      chain badTrackOrTime (track b p <? track b q) refl
-      (test badTrackOrTime ((track b p ≡? track b q) && (time b p ≤? time b q)) refl)
+  order-of e f =
+      chain badTrackOrTime ((f .track) <? (e .track)) refl
+      (test badTrackOrTime (((f .track) ≡? (e .track)) && ((f .time) ≤? (e .time))) refl)
 
-  entry-of : (p : ℕ) → OfBundle (entryFault b p)
+  entry-of : (n : ℕ) → OfBundle (entryFault b n)
   unfolding entryFault some
-  entry-of p =
-      chain bundleCut (length b <? p + 13) refl
-      (chain badTrackOrTime (noSuchTrack b (track b p)) refl
-      (none-or-pick bundleRefusals (p <? entriesAt b + 13) 0 (orderFault b (p - 13) p) (inl refl) (order-of _ _)))
+  entry-of n =
+      chain bundleCut (length b <? entryAt b n + entrySize) refl
+      (chain badTrackOrTime (noSuchTrack b (track b (entryAt b n))) refl
+      (none-or-pick bundleRefusals (n ≡? 1) 0 _ (inl refl) (order-of (entryOn b (entryAt b (n - 1))) (entryOn b (entryAt b n)))))
 
   end-of : (p total : ℕ) → OfBundle (endFault b p total)
   unfolding endFault some
   end-of p total =
-      chain bundleCut (length b <? p + 4) refl
-      (chain badByteCount (not (big b p 4 ≡? total)) refl
-      (chain bundleCut (length b <? p + 4 + big b p 4) refl
-      (test badByteCount (p + 4 + big b p 4 <? length b) refl)))
+      chain bundleCut (length b <? p + byteCountSize) refl
+      (chain badByteCount (not (byteCount b p ≡? total)) refl
+      (chain bundleCut (length b <? p + byteCountSize + byteCount b p) refl
+      (test badByteCount (p + byteCountSize + byteCount b p <? length b) refl)))
 
   tracks-within : {n p : ℕ} → tracksVerdict b ≡ refused n p → BundleRefusal b n p
   unfolding tracksVerdict
   tracks-within {n} {p} e = ⊎-elim
       (λ h. here-within (count-of _ _ _ _) (omega arith) h)
-      (λ h. walk-within (trackEnd b) (trackFault b) track-of (λ q f. track-good b q f .inside) (trackCount b) 1 n p (count-good b 0 1 1 trackMost (at-ok _ _ (h .0)) .inside) (h .1))
-      (and-refused (countFault b 0 1 1 trackMost atPlace 0) _ e)
+      (λ h. walk-within (trackEnd b) (trackFault b) track-of (λ q f. track-good b q f .inside) (trackCount b) (tracksAt b) n p (count-good b 0 trackCountSize trackLeast trackMost (at-ok _ _ (h .0)) .inside) (h .1))
+      (and-refused (countFault b 0 trackCountSize trackLeast trackMost atPlace 0) _ e)
 
   references-within : referencesAt b ≤ length b → {n p : ℕ} → referencesVerdict b ≡ refused n p → BundleRefusal b n p
   unfolding referencesVerdict
   references-within g {n} {p} e = ⊎-elim
       (λ h. here-within (count-of _ _ _ _) g h)
-      (λ h. walk-within (λ q. q + 2) (referenceFault b) reference-of (λ q f. reference-good b q f .inside) (referenceCount b) (referencesAt b + 1) n p (count-good b (referencesAt b) 1 0 referenceMost (at-ok _ _ (h .0)) .inside) (h .1))
-      (and-refused (countFault b (referencesAt b) 1 0 referenceMost atPlace referencesAt b) _ e)
+      (λ h. walk-within (λ q. q + referenceSize) (referenceFault b) reference-of (λ q f. reference-good b q f .inside) (referenceCount b) (referencesAt b + referenceCountSize) n p (count-good b (referencesAt b) referenceCountSize 0 referenceMost (at-ok _ _ (h .0)) .inside) (h .1))
+      (and-refused (countFault b (referencesAt b) referenceCountSize 0 referenceMost atPlace referencesAt b) _ e)
 
+  -- the first entry that is refused: those before it are not, so it stands in the bundle
   samples-within : samplesAt b ≤ length b → {n p : ℕ} → samplesVerdict b ≡ refused n p → BundleRefusal b n p
   unfolding samplesVerdict
   samples-within g {n} {p} e = ⊎-elim
       (λ h. here-within (count-of _ _ _ _) g h)
-      (λ h. walk-within (λ q. q + 13) (entryFault b) entry-of (λ q f. entry-good b q f .inside) (entryCount b) (entriesAt b) n p (count-good b (samplesAt b) 2 0 sampleMost (at-ok _ _ (h .0)) .inside) (h .1))
-      (and-refused (countFault b (samplesAt b) 2 0 sampleMost atPlace samplesAt b) _ e)
+      (λ h.
+      let w = first-earlier (entryFault b) (entryAt b) (entryCount b) n p (h .1) in
+      here-within (entry-of (w .number)) (entries-inside b (count-good b (samplesAt b) sampleCountSize 0 sampleMost (at-ok _ _ (h .0)) .inside) (w .number - 1) (λ z. w .before (w .number - 1) z (let q = w .some in omega arith))) (w .refused))
+      (and-refused (countFault b (samplesAt b) sampleCountSize 0 sampleMost atPlace samplesAt b) _ e)
 
-  bytes-within : bytesAt b ≤ length b → {n p : ℕ} → bytesVerdict b ≡ refused n p → BundleRefusal b n p
+  bytes-within : byteCountAt b ≤ length b → {n p : ℕ} → bytesVerdict b ≡ refused n p → BundleRefusal b n p
   unfolding bytesVerdict
   bytes-within g e = here-within (end-of _ _) g e
 

@@ -7,9 +7,10 @@ ghost use Rattle.words.specs.Tests.{_<?_, _≡?_, pick};
 ghost use Rattle.words.specs.Lists.{nth};
 ghost use Rattle.numbers.specs.Kinds.{kindOf};
 ghost use Rattle.numbers.specs.Sizes.{lengthSizeOf};
+ghost use Rattle.bundles.specs.Limits.{trackMost, referenceMost, sampleMost};
 ghost use Rattle.bundles.specs.Recordings.{noTrack, noReference, sampleCount, trackOf, timeOf, referencesFrom, contentOf};
 ghost use Rattle.bundles.specs.Tracks.{knownKind, knownSize};
-ghost use Rattle.tables.specs.Tables.{inside, sampleCell, startIn, flagIn, flagged, cell, trackTotal, referenceTotal, sampleTotal, ownerIn, afterIn, rangeIn, layoutIn, recordingIn};
+ghost use Rattle.tables.specs.Tables.{columns, sampleRow, inside, sampleCell, startIn, flagIn, flagged, cell, trackTotal, referenceTotal, sampleTotal, ownerIn, afterIn, rangeIn, layoutIn, recordingIn};
 use numbers::ByteOffset;
 use numbers::Kind;
 use numbers::LengthSize;
@@ -18,15 +19,19 @@ use numbers::MaybeLengthSize;
 use numbers::SampleNumber;
 use numbers::TrackNumber;
 
+// Rows of four numbers: the counts, the tracks, the references, the samples. Track k stands in row TRACK_ROW + k, and so on, from 1.
+pub const COLUMNS: usize = 4;
+
+pub const COUNTS_ROW: usize = 0;
+
+pub const TRACK_ROW: usize = COUNTS_ROW;
+
+pub const REFERENCE_ROW: usize = TRACK_ROW + bundles::TRACK_MOST;
+
+pub const SAMPLE_ROW: usize = REFERENCE_ROW + bundles::REFERENCE_MOST;
+
 // As many numbers are enough for the table of any bundle.
-pub const TABLE_SIZE: usize = 16708;
-
-// Rows of four numbers: row 0 has the counts, row k track k, row 16 + i reference i, row 80 + n sample n.
-const COUNTS_ROW: usize = 0;
-
-const REFERENCE_ROW: usize = 16;
-
-const SAMPLE_ROW: usize = 80;
+pub const TABLE_SIZE: usize = (SAMPLE_ROW + bundles::SAMPLE_MOST + 1) * COLUMNS;
 
 // The columns of the counts.
 const TRACKS: usize = 0;
@@ -64,38 +69,38 @@ pub struct SampleRange {
 
 // A number of the table, 0 past its end.
 fn cell(t: &[u64], row: usize, column: usize) -> usize
-    requires { ⌜ (row ≤ 4176) × (column < 4) ⌝ }
+    requires { ⌜ (row ≤ sampleRow sampleMost) × (column < columns) ⌝ }
     ensures { λ r. ⌜ r ≡ cell (now (t .entry)) row column ⌝ }
 {
-    let at = row * 4 + column;
+    let at = row * COLUMNS + column;
     if at < t.len() {
         return t[at] as usize;
     }
     0
 }
 
-// The number of tracks, at most 16.
+// The number of tracks, at most as many as there may be.
 fn track_total(t: &[u64]) -> usize
-    ensures { λ r. ⌜ (r ≡ trackTotal (now (t .entry))) × (r ≤ 16) ⌝ }
+    ensures { λ r. ⌜ (r ≡ trackTotal (now (t .entry))) × (r ≤ trackMost) ⌝ }
 {
     let n = cell(t, COUNTS_ROW, TRACKS);
-    if n <= 16 { n } else { 16 }
+    if n <= bundles::TRACK_MOST { n } else { bundles::TRACK_MOST }
 }
 
-// The number of references, at most 64.
+// The number of references, at most as many as there may be.
 fn reference_total(t: &[u64]) -> usize
-    ensures { λ r. ⌜ (r ≡ referenceTotal (now (t .entry))) × (r ≤ 64) ⌝ }
+    ensures { λ r. ⌜ (r ≡ referenceTotal (now (t .entry))) × (r ≤ referenceMost) ⌝ }
 {
     let n = cell(t, COUNTS_ROW, REFERENCES);
-    if n <= 64 { n } else { 64 }
+    if n <= bundles::REFERENCE_MOST { n } else { bundles::REFERENCE_MOST }
 }
 
-// The number of samples, at most 4,096.
+// The number of samples, at most as many as there may be.
 fn sample_total(t: &[u64]) -> usize
-    ensures { λ r. ⌜ (r ≡ sampleTotal (now (t .entry))) × (r ≤ 4096) ⌝ }
+    ensures { λ r. ⌜ (r ≡ sampleTotal (now (t .entry))) × (r ≤ sampleMost) ⌝ }
 {
     let n = cell(t, COUNTS_ROW, SAMPLES);
-    if n <= 4096 { n } else { 4096 }
+    if n <= bundles::SAMPLE_MOST { n } else { bundles::SAMPLE_MOST }
 }
 
 // The kind of a number, AVC where it says none.
@@ -144,7 +149,7 @@ pub fn track_kind(t: &[u64], k: TrackNumber) -> Kind
     if track_total(t) < n {
         return Kind::Avc;
     }
-    kind_of(cell(t, n, KIND))
+    kind_of(cell(t, TRACK_ROW + n, KIND))
 }
 
 // The length size of a track; 1 where there is no such track.
@@ -158,7 +163,7 @@ pub fn track_length_size(t: &[u64], k: TrackNumber) -> LengthSize
     if track_total(t) < n {
         return LengthSize::One;
     }
-    size_of(cell(t, n, SIZE))
+    size_of(cell(t, TRACK_ROW + n, SIZE))
 }
 
 // Track k where it has fewer than n samples before it, else the one that was found.
@@ -176,7 +181,7 @@ fn owner(t: &[u64], n: usize) -> usize
     let mut found: usize = 0;
     let mut k: usize = 0;
     while k < total {
-        let before = cell(t, k + 1, BEFORE);
+        let before = cell(t, TRACK_ROW + (k + 1), BEFORE);
         found = later(before, n, k + 1, found);
         k += 1;
     }
@@ -245,7 +250,7 @@ pub fn sample_bytes<'a>(b: &'a [u8], t: &[u64], n: SampleNumber) -> &'a [u8]
 
 // A number of the row of a sample; 0 where there is no such sample.
 fn sample_cell(t: &[u64], n: SampleNumber, column: usize) -> usize
-    requires { ⌜ column < 4 ⌝ }
+    requires { ⌜ column < columns ⌝ }
     ensures { λ r. ⌜ r ≡ sampleCell (now (t .entry)) (n .0) column ⌝ }
 {
     let m = n.0;
@@ -285,7 +290,7 @@ fn after(t: &[u64], k: usize) -> usize
     let mut end = sample_total(t);
     let mut j: usize = 0;
     while j < total {
-        let before = cell(t, j + 1, BEFORE);
+        let before = cell(t, TRACK_ROW + (j + 1), BEFORE);
         end = lower(k, j + 1, before, end);
         j += 1;
     }
@@ -309,14 +314,14 @@ pub fn sample_range(t: &[u64], k: TrackNumber) -> SampleRange
             after: 0,
         };
     }
-    let before = cell(t, n, BEFORE);
+    let before = cell(t, TRACK_ROW + n, BEFORE);
     let after = after(t, n);
     SampleRange { before, after }
 }
 
 // One more where a reference comes from track k.
 fn one_more(from: usize, k: usize, count: usize) -> usize
-    requires { ⌜ count ≤ 4096 ⌝ }
+    requires { ⌜ count < referenceMost ⌝ }
     ensures { λ r. ⌜ (r ≡ pick (from ≡? k) (count + 1) count) × (r ≤ count + 1) ⌝ }
 {
     if from == k { count + 1 } else { count }
@@ -378,7 +383,7 @@ pub fn set_flag(t: &mut [u64], n: SampleNumber, v: u64)
     if sample_total(t) < m {
         return;
     }
-    let at = (SAMPLE_ROW + m) * 4 + FLAG;
+    let at = (SAMPLE_ROW + m) * COLUMNS + FLAG;
     if at < t.len() {
         t[at] = v;
     }
