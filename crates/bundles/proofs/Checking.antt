@@ -5,6 +5,7 @@
 --   size-some, size-most, known-size     L as a number, and as a length size
 --   read-refused, read-accepted     what a record's answer says
 --   good-size                       L of a track entry without a refusal
+--   track-at                        a track by its number
 --   Kept, kept-start, kept-next, kept-sizes    the length sizes of the tracks so far
 --   total-start, total-next         the sum of the lengths so far
 use Prim.Native.Nat.{ℕ, zero, suc, _+_, _-_, _*_, _%_, _≤_, _<_}
@@ -116,7 +117,7 @@ kept-next b sizes i p v w h e f =
           (getD-set-same sizes (i + 1) v 0 h ∙ f ∙ ap (sizeAt b) e);
     }
 
-track-at : (b : List ℕ) (i : ℕ) → i < trackCount b → nth (tracks b) (i + 1) noTrack ≡ trackOn b (skip (trackEnd b) i (tracksAt b))
+pub track-at : (b : List ℕ) (i : ℕ) → i < trackCount b → nth (tracks b) (i + 1) noTrack ≡ trackOn b (skip (trackEnd b) i (tracksAt b))
 unfolding nth tracks
 track-at b i h =
     let l = entries-length (trackEnd b) (trackCount b) (tracksAt b) in

@@ -59,7 +59,9 @@ first-earlier fault place (suc n) m p e =
     record { number = w .number; some = w .some; most = (let l = w .most in omega arith); before = w .before; refused = w .refused })
     (λ g.
     record {
-      number = suc n; some = omega arith; most = omega arith;
+      number = suc n;
+      some = omega arith;
+      most = omega arith;
       before = λ k h l. at-ok _ _ (first-ok (λ k. fault k atPlace place k) (upto n) g (upto-mem n k h (omega arith)));
       refused = sym (first-snoc (λ k. fault k atPlace place k) (upto n) (suc n) g) ∙ e;
     })

@@ -2,6 +2,7 @@
 -- The idea: everything but the samples is read below `contentsAt`, where the two bundles agree. Assumes nothing.
 --
 --   verdict-same, layout-same, lengths-same    two bundles of one length that agree below `contentsAt`
+--   length-is                                  the length of a sample, as its entry says
 --   replace                                    one sample's bytes replaced, length kept
 use Prim.Native.Nat.{ℕ, zero, suc, _+_, _-_, _*_, _≤_, _<_}
 use mathlib.Core.Path.{_≡_, refl, ap, ap₂, sym, _∙_}
@@ -223,7 +224,7 @@ count-is : (b : List ℕ) → sampleCount (recordingOf b .layout) ≡ length (le
 unfolding recordingOf layoutOf
 count-is b = sample-count b ∙ sym (lengths-count b)
 
-length-is : (b : List ℕ) (n : ℕ) → bundleVerdict b ≡ ok tt → n < length (lengths b) → length (contentOf (recordingOf b) (suc n)) ≡ getD (lengths b) n 0
+pub length-is : (b : List ℕ) (n : ℕ) → bundleVerdict b ≡ ok tt → n < length (lengths b) → length (contentOf (recordingOf b) (suc n)) ≡ getD (lengths b) n 0
 unfolding recordingOf nth
 length-is b n e h = cuts-lengths b (lengths b) (contentsAt b) n (let a = accepted b e .bytes .end in omega arith) h
 

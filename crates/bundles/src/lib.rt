@@ -280,7 +280,11 @@ fn read_track(b: &[u8], at: usize) -> TrackRead
             end: at,
         };
     }
-    let n = numbers::number(b, at + fields::RECORD_LENGTH_OFFSET, fields::RECORD_LENGTH_SIZE);
+    let n = numbers::number(
+        b,
+        at + fields::RECORD_LENGTH_OFFSET,
+        fields::RECORD_LENGTH_SIZE,
+    );
     let start = at + fields::TRACK_HEAD_SIZE;
     if cut(b, start, n) {
         return TrackRead {
@@ -348,7 +352,11 @@ fn check_contents(b: &[u8], at: usize) -> Checked
         Section::Refused(r) => Checked::Refused(r),
         Section::Ended(total) => {
             let n = numbers::number(b, at, fields::SAMPLE_COUNT_SIZE);
-            check_bytes(b, at + fields::SAMPLE_COUNT_SIZE + n * fields::ENTRY_SIZE, total)
+            check_bytes(
+                b,
+                at + fields::SAMPLE_COUNT_SIZE + n * fields::ENTRY_SIZE,
+                total,
+            )
         },
     }
 }

@@ -18,7 +18,7 @@ use Rattle.words.specs.Lists.{upto, lastThat}
 use Rattle.words.proofs.Tests.{by-bool}
 use Rattle.words.proofs.Lists.{map-cong, upto-from}
 use Rattle.bundles.specs.Recordings.{Layout, Recording}
-use Rattle.tables.specs.Tables.{atMost, sampleRow, cell, trackTotal, referenceTotal, sampleTotal, trackIn, referenceIn, beforeIn, ownerIn, entryIn, layoutIn, contentIn, recordingIn, sampleCell, flagIn, flagged}
+use Rattle.tables.specs.Tables.{columns, countsRow, trackRow, referenceRow, sampleRow, tracksColumn, referencesColumn, samplesColumn, kindColumn, sizeColumn, beforeColumn, fromColumn, toColumn, timeColumn, startColumn, lengthColumn, flagColumn, cell, trackTotal, referenceTotal, sampleTotal, trackIn, referenceIn, beforeIn, ownerIn, entryIn, layoutIn, contentIn, recordingIn, sampleCell, flagIn, flagged}
 use Rattle.words.proofs.Rows.{lastThat-cong}
 
 pub set-beyond : (l : List ℕ) (i a : ℕ) → length l ≤ i → set l i a ≡ l
@@ -28,26 +28,26 @@ set-beyond (x ∷ l) (suc i) a h = ap (λ r. x ∷ r) (set-beyond l i a (omega a
 
 module _ (t : List ℕ) (n v : ℕ) where
   abbrev marked : List ℕ
-  marked = set t (sampleRow n * 4 + 3) v
+  marked = set t (sampleRow n * columns + flagColumn) v
 
-  pub cell-kept : (r c : ℕ) → c < 4 → (r ≡ sampleRow n → c ≡ 3 → ⊥) → cell marked r c ≡ cell t r c
+  pub cell-kept : (r c : ℕ) → c < columns → (r ≡ sampleRow n → c ≡ flagColumn → ⊥) → cell marked r c ≡ cell t r c
   unfolding cell
-  cell-kept r c h o = getD-set-other t (sampleRow n * 4 + 3) (r * 4 + c) v 0 (λ e. o (omega arith) (omega arith))
+  cell-kept r c h o = getD-set-other t (sampleRow n * columns + flagColumn) (r * columns + c) v 0 (λ e. o (omega arith) (omega arith))
 
-  other : (r c : ℕ) → c < 3 → cell marked r c ≡ cell t r c
+  other : (r c : ℕ) → c < flagColumn → cell marked r c ≡ cell t r c
   other r c h = cell-kept r c (omega arith) (λ e f. omega arith)
 
   track-total : trackTotal marked ≡ trackTotal t
-  track-total = rw (other 0 0 (omega arith))
+  track-total = rw (other countsRow tracksColumn (omega arith))
 
   reference-total : referenceTotal marked ≡ referenceTotal t
-  reference-total = rw (other 0 1 (omega arith))
+  reference-total = rw (other countsRow referencesColumn (omega arith))
 
   sample-total : sampleTotal marked ≡ sampleTotal t
-  sample-total = rw (other 0 2 (omega arith))
+  sample-total = rw (other countsRow samplesColumn (omega arith))
 
   owner-same : (m : ℕ) → ownerIn marked m ≡ ownerIn t m
-  owner-same m = rw track-total (lastThat-cong (λ k. beforeIn marked k <? m) (λ k. beforeIn t k <? m) (upto (trackTotal t)) (λ k q. rw (other k 2 (omega arith))))
+  owner-same m = rw track-total (lastThat-cong (λ k. beforeIn marked k <? m) (λ k. beforeIn t k <? m) (upto (trackTotal t)) (λ k q. rw (other (trackRow k) beforeColumn (omega arith))))
 
   marked-layout : layoutIn marked ≡ layoutIn t
   unfolding layoutIn
@@ -56,9 +56,9 @@ module _ (t : List ℕ) (n v : ℕ) where
         track-total,
         reference-total,
         sample-total,
-        map-cong (trackIn marked) (trackIn t) (upto (trackTotal t)) (λ k m. rw (other k 0 (omega arith), other k 1 (omega arith))),
-        map-cong (referenceIn marked) (referenceIn t) (upto (referenceTotal t)) (λ i m. rw (other (16 + i) 0 (omega arith), other (16 + i) 1 (omega arith))),
-        map-cong (entryIn marked) (entryIn t) (upto (sampleTotal t)) (λ m q. rw (owner-same m, other (sampleRow m) 0 (omega arith))),
+        map-cong (trackIn marked) (trackIn t) (upto (trackTotal t)) (λ k m. rw (other (trackRow k) kindColumn (omega arith), other (trackRow k) sizeColumn (omega arith))),
+        map-cong (referenceIn marked) (referenceIn t) (upto (referenceTotal t)) (λ i m. rw (other (referenceRow i) fromColumn (omega arith), other (referenceRow i) toColumn (omega arith))),
+        map-cong (entryIn marked) (entryIn t) (upto (sampleTotal t)) (λ m q. rw (owner-same m, other (sampleRow m) timeColumn (omega arith))),
       )
 
   marked-recording : (b : List ℕ) → recordingIn b marked ≡ recordingIn b t
@@ -67,7 +67,7 @@ module _ (t : List ℕ) (n v : ℕ) where
       rw (
         marked-layout,
         sample-total,
-        map-cong (contentIn b marked) (contentIn b t) (upto (sampleTotal t)) (λ m q. rw (other (sampleRow m) 1 (omega arith), other (sampleRow m) 2 (omega arith))),
+        map-cong (contentIn b marked) (contentIn b t) (upto (sampleTotal t)) (λ m q. rw (other (sampleRow m) startColumn (omega arith), other (sampleRow m) lengthColumn (omega arith))),
       )
 
   -- the table itself, or with a flag set
@@ -82,11 +82,11 @@ pub flagged-recording : (b t : List ℕ) (n v : ℕ) → recordingIn b (flagged 
 flagged-recording b t n v = flagged-case t n v (λ x. recordingIn b x ≡ recordingIn b t) refl (marked-recording t n v b)
 
 -- the flag that was set
-pub flag-set : (t : List ℕ) (n v : ℕ) → 0 < n → n ≤ sampleTotal t → sampleRow n * 4 + 3 < length t → flagIn (flagged t n v) n ≡ v
+pub flag-set : (t : List ℕ) (n v : ℕ) → 0 < n → n ≤ sampleTotal t → sampleRow n * columns + flagColumn < length t → flagIn (flagged t n v) n ≡ v
 unfolding flagged sampleCell
 flag-set t n v h l r =
-    rw (ne-eqb n 0 (λ z. omega arith), le-ltb (sampleTotal t) n l, sample-total t n v, le-ltb (sampleTotal t) n l) (unfold cell in getD-set-same t (sampleRow n * 4 + 3) v 0 r)
+    rw (ne-eqb n 0 (λ z. omega arith), le-ltb (sampleTotal t) n l, sample-total t n v, le-ltb (sampleTotal t) n l) (unfold cell in getD-set-same t (sampleRow n * columns + flagColumn) v 0 r)
 
 -- every other flag stays
 pub flag-kept : (t : List ℕ) (n m v : ℕ) → (m ≡ n → ⊥) → flagIn (flagged t n v) m ≡ flagIn t m
-flag-kept t n m v h = flagged-case t n v (λ x. flagIn x m ≡ flagIn t m) refl (unfold sampleCell in rw (sample-total t n v, cell-kept t n v (sampleRow m) 3 (omega arith) (λ e f. h (omega arith))))
+flag-kept t n m v h = flagged-case t n v (λ x. flagIn x m ≡ flagIn t m) refl (unfold sampleCell in rw (sample-total t n v, cell-kept t n v (sampleRow m) flagColumn (omega arith) (λ e f. h (omega arith))))

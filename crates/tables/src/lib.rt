@@ -19,14 +19,12 @@ use numbers::MaybeLengthSize;
 use numbers::SampleNumber;
 use numbers::TrackNumber;
 
-// Rows of four numbers: the counts, the tracks, the references, the samples. Track k stands in row TRACK_ROW + k, and so on, from 1.
+// Rows of four numbers: row 0 has the counts, row k track k, row REFERENCE_ROW + i reference i, row SAMPLE_ROW + n sample n.
 pub const COLUMNS: usize = 4;
 
 pub const COUNTS_ROW: usize = 0;
 
-pub const TRACK_ROW: usize = COUNTS_ROW;
-
-pub const REFERENCE_ROW: usize = TRACK_ROW + bundles::TRACK_MOST;
+pub const REFERENCE_ROW: usize = bundles::TRACK_MOST;
 
 pub const SAMPLE_ROW: usize = REFERENCE_ROW + bundles::REFERENCE_MOST;
 
@@ -84,7 +82,11 @@ fn track_total(t: &[u64]) -> usize
     ensures { λ r. ⌜ (r ≡ trackTotal (now (t .entry))) × (r ≤ trackMost) ⌝ }
 {
     let n = cell(t, COUNTS_ROW, TRACKS);
-    if n <= bundles::TRACK_MOST { n } else { bundles::TRACK_MOST }
+    if n <= bundles::TRACK_MOST {
+        n
+    } else {
+        bundles::TRACK_MOST
+    }
 }
 
 // The number of references, at most as many as there may be.
@@ -92,7 +94,11 @@ fn reference_total(t: &[u64]) -> usize
     ensures { λ r. ⌜ (r ≡ referenceTotal (now (t .entry))) × (r ≤ referenceMost) ⌝ }
 {
     let n = cell(t, COUNTS_ROW, REFERENCES);
-    if n <= bundles::REFERENCE_MOST { n } else { bundles::REFERENCE_MOST }
+    if n <= bundles::REFERENCE_MOST {
+        n
+    } else {
+        bundles::REFERENCE_MOST
+    }
 }
 
 // The number of samples, at most as many as there may be.
@@ -100,7 +106,11 @@ fn sample_total(t: &[u64]) -> usize
     ensures { λ r. ⌜ (r ≡ sampleTotal (now (t .entry))) × (r ≤ sampleMost) ⌝ }
 {
     let n = cell(t, COUNTS_ROW, SAMPLES);
-    if n <= bundles::SAMPLE_MOST { n } else { bundles::SAMPLE_MOST }
+    if n <= bundles::SAMPLE_MOST {
+        n
+    } else {
+        bundles::SAMPLE_MOST
+    }
 }
 
 // The kind of a number, AVC where it says none.
@@ -149,7 +159,7 @@ pub fn track_kind(t: &[u64], k: TrackNumber) -> Kind
     if track_total(t) < n {
         return Kind::Avc;
     }
-    kind_of(cell(t, TRACK_ROW + n, KIND))
+    kind_of(cell(t, n, KIND))
 }
 
 // The length size of a track; 1 where there is no such track.
@@ -163,7 +173,7 @@ pub fn track_length_size(t: &[u64], k: TrackNumber) -> LengthSize
     if track_total(t) < n {
         return LengthSize::One;
     }
-    size_of(cell(t, TRACK_ROW + n, SIZE))
+    size_of(cell(t, n, SIZE))
 }
 
 // Track k where it has fewer than n samples before it, else the one that was found.
@@ -181,7 +191,7 @@ fn owner(t: &[u64], n: usize) -> usize
     let mut found: usize = 0;
     let mut k: usize = 0;
     while k < total {
-        let before = cell(t, TRACK_ROW + (k + 1), BEFORE);
+        let before = cell(t, k + 1, BEFORE);
         found = later(before, n, k + 1, found);
         k += 1;
     }
@@ -290,7 +300,7 @@ fn after(t: &[u64], k: usize) -> usize
     let mut end = sample_total(t);
     let mut j: usize = 0;
     while j < total {
-        let before = cell(t, TRACK_ROW + (j + 1), BEFORE);
+        let before = cell(t, j + 1, BEFORE);
         end = lower(k, j + 1, before, end);
         j += 1;
     }
@@ -314,7 +324,7 @@ pub fn sample_range(t: &[u64], k: TrackNumber) -> SampleRange
             after: 0,
         };
     }
-    let before = cell(t, TRACK_ROW + n, BEFORE);
+    let before = cell(t, n, BEFORE);
     let after = after(t, n);
     SampleRange { before, after }
 }

@@ -3,6 +3,7 @@ use borrow.Author.Needs.{needs}
 use native.Mathlib.Omega.{arith}
 use mathlib.Core.Path.{sym, _∙_}
 use Rattle.tables.proofs.reference_total.Statement.{statement}
+use Rattle.bundles.specs.Limits.{referenceMost}
 use Rattle.tables.specs.Tables.{cell}
 use Rattle.tables.proofs.Layouts.{total-fits, total-most}
 use Rattle.tables.proofs.reference_total.Tie as tie
@@ -11,10 +12,10 @@ cell-requires : tie.Need-cell-requires
 cell-requires c κs = search needs
 
 returns : tie.Need-returns
-returns c = (c .before .cell .ensures ∙ sym (total-fits 64 (cell _ _ _) (rw (← c .before .cell .ensures) (c .if1 .taken))), c .if1 .taken)
+returns c = (c .before .cell .ensures ∙ sym (total-fits referenceMost (cell _ _ _) (rw (← c .before .cell .ensures) (c .if1 .taken))), c .if1 .taken)
 
 returns-2 : tie.Need-returns-2
-returns-2 c = (sym (total-most 64 (cell _ _ _) (rw (← c .before .cell .ensures) (c .if1 .left))), omega arith)
+returns-2 c = (sym (total-most referenceMost (cell _ _ _) (rw (← c .before .cell .ensures) (c .if1 .left))), omega arith)
 
 pub reference-total-spec : {M : Type 1} → statement M
 reference-total-spec = tie.close (tie.spec cell-requires returns returns-2)
