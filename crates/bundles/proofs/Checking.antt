@@ -37,7 +37,7 @@ use Rattle.bundles.specs.Recordings.{Track, noTrack}
 use Rattle.bundles.specs.Tracks.{trackCount, tracksAt, trackEnd, kindAt, recordAt, recordFaultAs, knownKind, knownSize, sizeAt, trackFault, trackOn, trackPlaces, tracks}
 use Rattle.bundles.specs.References.{lengthSizeOn}
 use Rattle.bundles.specs.Samples.{entryAt, lengthAt}
-use Rattle.bundles.specs.Steps.{Sizes}
+use Rattle.bundles.specs.Steps.{LengthSizes}
 use Rattle.words.proofs.Entries.{entries-length, entries-at, entries-mem, map-append, map-at, sum-append}
 use Rattle.words.proofs.Rows.{upto-more}
 use Rattle.bundles.proofs.Sections.{Tracks, track-good}
@@ -123,7 +123,7 @@ track-at b i h =
     let l = entries-length (trackEnd b) (trackCount b) (tracksAt b) in
     rw (add-one i) (map-at (trackOn b) (trackPlaces b) i 0 noTrack (omega arith) ∙ ap (trackOn b) (entries-at (trackEnd b) (trackCount b) (tracksAt b) i h))
 
-pub kept-sizes : (b sizes : List ℕ) → Tracks b → Kept b (trackCount b) sizes → Sizes b sizes
+pub kept-sizes : (b sizes : List ℕ) → Tracks b → Kept b (trackCount b) sizes → LengthSizes b sizes
 kept-sizes b sizes t w =
     record {
       at = λ k h l.

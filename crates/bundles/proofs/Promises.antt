@@ -47,7 +47,7 @@ limits-here : (b : List ℕ) → Accepted b → LimitsKept b (layoutOf b)
 unfolding layoutOf
 limits-here b a =
     record {
-      bytes = a .size;
+      bytes = a .short;
       tracks = rw (track-count b) (a .tracks .count .some, a .tracks .count .few);
       references = rw (reference-count b) (a .references .count .few);
       samples = rw (sample-count b) (a .samples .count .few);
@@ -106,7 +106,7 @@ unfolding contentAt
 tiles-here b a =
     record {
       joined = cuts-all b (lengths b) (contentsAt b) (a .bytes .end);
-      sizes = cuts-sizes b (lengths b) (contentsAt b) (let z = a .bytes .end in omega arith);
+      contentLengths = cuts-sizes b (lengths b) (contentsAt b) (let z = a .bytes .end in omega arith);
       count = cuts-count b (lengths b) (contentsAt b);
       placed = λ n h.
           let s : suc n - 1 ≡ n = omega arith in

@@ -221,7 +221,7 @@ module _ (b : List ℕ) where
 
   -- the whole
   pub record Accepted : Type 0 where
-    pub size : length b ≤ bundleMost
+    pub short : length b ≤ bundleMost
     pub tracks : Tracks
     pub references : References
     pub samples : Samples
@@ -235,7 +235,7 @@ module _ (b : List ℕ) where
       let e3 = and-ok (referencesVerdict b) _ (e2 .1) in
       let e4 = and-ok (samplesVerdict b) _ (e3 .1) in
       record {
-        size = ltb-false _ _ (if-none 0 _ (at-ok _ 0 (e1 .0)));
+        short = ltb-false _ _ (if-none 0 _ (at-ok _ 0 (e1 .0)));
         tracks = tracks-good (e2 .0);
         references = references-good (e3 .0);
         samples = samples-good (e4 .0);

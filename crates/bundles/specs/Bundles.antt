@@ -65,6 +65,6 @@ module _ (b : List ℕ) where
   -- The samples' bytes lie in section four without gaps, each once, in order, those of length 0 too, up to the bundle's end.
   pub record SamplesTile (contents : List (List ℕ)) : Type 0 where
     pub joined : each (λ c. c) contents ≡ drop contentsAt b
-    pub sizes : map (λ c. length c) contents ≡ lengths b
+    pub contentLengths : map (λ c. length c) contents ≡ lengths b
     pub count : length contents ≡ length (lengths b)
     pub placed : (n : ℕ) → n < length contents → getD contents n [] ≡ part b (contentAt (suc n)) (getD (lengths b) n 0)

@@ -13,7 +13,7 @@ ghost use Rattle.bundles.specs.References.{noSuchTrack, referenceFault, 
 ghost use Rattle.bundles.specs.Samples.{entryAt, time, lengthAt, entryOn, orderFault, entryFault, lengths, samplesVerdict};
 ghost use Rattle.bundles.specs.Bundles.{endFault, bytesVerdict, bundleVerdict};
 ghost use Rattle.bundles.specs.Answers.{answerOf};
-ghost use Rattle.bundles.specs.Steps.{Sizes, ReadTrack, TracksChecked, sectionOf};
+ghost use Rattle.bundles.specs.Steps.{LengthSizes, ReadTrack, TracksChecked, sectionOf};
 use numbers::ByteOffset;
 use numbers::Kind;
 use numbers::MaybeKind;
@@ -160,7 +160,7 @@ fn end_fault(b: &[u8], at: usize, total: usize) -> u8
 
 // The refusal of the reference at a place: 2, 5, or 0 for none.
 fn reference_fault(b: &[u8], sizes: &[u8], at: usize) -> u8
-    requires { ⌜ Sizes (now b) (now sizes) ⌝ }
+    requires { ⌜ LengthSizes (now b) (now sizes) ⌝ }
     ensures { λ r. ⌜ r ≡ referenceFault (now (b .entry)) at ⌝ }
 {
     if cut(b, at, fields::REFERENCE_SIZE) {
@@ -202,7 +202,7 @@ fn entry_fault(b: &[u8], n: usize, at: usize) -> u8
 
 // Section two, at its place.
 fn check_references(b: &[u8], sizes: &[u8], at: usize) -> Section
-    requires { ⌜ (at ≡ referencesAt (now b)) × Sizes (now b) (now sizes) ⌝ }
+    requires { ⌜ (at ≡ referencesAt (now b)) × LengthSizes (now b) (now sizes) ⌝ }
     ensures { λ r. ⌜ sectionOf r ≡ (referencesVerdict (now (b .entry)) andThen ok (samplesAt (now (b .entry)))) ⌝ }
 {
     let fault = count_fault(b, at, fields::REFERENCE_COUNT_SIZE, 0, REFERENCE_MOST);
@@ -363,7 +363,7 @@ fn check_contents(b: &[u8], at: usize) -> Checked
 
 // Sections two to four, at their place.
 fn check_after_tracks(b: &[u8], sizes: &[u8], at: usize) -> Checked
-    requires { ⌜ (at ≡ referencesAt (now b)) × Sizes (now b) (now sizes) ⌝ }
+    requires { ⌜ (at ≡ referencesAt (now b)) × LengthSizes (now b) (now sizes) ⌝ }
     ensures { λ r. ⌜ answerOf r ≡ (referencesVerdict (now (b .entry)) andThen samplesVerdict (now (b .entry)) andThen bytesVerdict (now (b .entry))) ⌝ }
 {
     match check_references(b, sizes, at) {

@@ -6,13 +6,13 @@
 --   table-lays-out     and says its layout
 --   table-ranges       and each track's samples
 --   table-starts       and where each sample starts in the bundle
---   table-unflagged    its flags are 0
+--   table-kept-counts    its kept counts are 0
 --   table-refused, table-no-room    a refused bundle and a table without room leave it as it was
 --   table-room         `tableMost` numbers are enough for every accepted bundle
 --   says-refused, says-done, never-short    what the answer of filling says; with so many numbers it is never that there is no room
 --   table-short, table-accepted, table-means    a table that was filled: the bundle is not too long, is accepted, and the table gives its recording
 --   any-range          in any table, a track's range is the track's samples in the layout that the table says
---   any-flag           in any table, a flag that is set changes nothing that the table says or gives
+--   any-kept-count           in any table, a count that is kept changes nothing that the table says or gives
 use Prim.Native.Nat.{ℕ, suc, _+_, _-_, _≤_, _<_}
 use mathlib.Core.Path.{_≡_, refl, ap, sym, _∙_}
 use mathlib.Core.List.{List, []}
@@ -33,9 +33,9 @@ use Rattle.bundles.specs.Bundles.{bundleVerdict, recordingOf, meaning, contents
 use Rattle.bundles.specs.Readers.{firstLayout}
 use Rattle.bundles.proofs.Promises.{means, limits-kept, samples-ordered, samples-tile, samples-all, sum-exact}
 use Rattle.bundles.proofs.Checking.{refused-there}
-use Rattle.tables.specs.Tables.{tableMost, layoutIn, recordingIn, rangeIn, numbersIn, startIn, inside, flagIn, flagged}
+use Rattle.tables.specs.Tables.{tableMost, layoutIn, recordingIn, rangeIn, numbersIn, startIn, inside, keptCountIn, withKeptCount}
 use Rattle.tables.proofs.Ranges.{range-samples}
-use Rattle.tables.proofs.Flags.{flagged-layout, flagged-recording}
+use Rattle.tables.proofs.KeptCounts.{kept-count-layout, kept-count-recording}
 use Rattle.filling.specs.declared.Filled.the-variants.{Refused, NoRoom, Done}
 use Rattle.filling.specs.Filling.{needed, filling, tableAfter}
 use Rattle.filling.proofs.Recording.{Tabled}
@@ -79,8 +79,8 @@ module _ (b t : List ℕ) (r : Recording) (means-r : meaning b ≡ ok r) (done :
   pub table-starts : (n : ℕ) → 0 < n → n ≤ sampleCount (r .layout) → startIn (tableAfter firstLayout b t) n ≡ contentAt b n
   table-starts = any.table-starts firstLayout b t r means-r (tabled b r means-r) done
 
-  pub table-unflagged : (n : ℕ) → flagIn (tableAfter firstLayout b t) n ≡ 0
-  table-unflagged = any.table-unflagged firstLayout b t r means-r (tabled b r means-r) done
+  pub table-kept-counts : (n : ℕ) → keptCountIn (tableAfter firstLayout b t) n ≡ 0
+  table-kept-counts = any.table-kept-counts firstLayout b t r means-r (tabled b r means-r) done
 
 -- the table as it was
 pub table-refused : (b t : List ℕ) (n p : ℕ) → bundleVerdict b ≡ refused n p → tableAfter firstLayout b t ≡ t
@@ -111,8 +111,8 @@ never-short b room n h e = any.short-answer (meaning b) room n (λ r g. let f = 
 pub any-range : (t : List ℕ) (k : ℕ) → 0 < k → samplesIn (layoutIn t) k ≡ numbersIn (rangeIn t k)
 any-range = range-samples
 
-pub any-flag : (b t : List ℕ) (n v : ℕ) → (layoutIn (flagged t n v) ≡ layoutIn t) × (recordingIn b (flagged t n v) ≡ recordingIn b t)
-any-flag b t n v = (flagged-layout t n v, flagged-recording b t n v)
+pub any-kept-count : (b t : List ℕ) (n v : ℕ) → (layoutIn (withKeptCount t n v) ≡ layoutIn t) × (recordingIn b (withKeptCount t n v) ≡ recordingIn b t)
+any-kept-count b t n v = (kept-count-layout t n v, kept-count-recording b t n v)
 
 -- a table that was filled: the bundle is accepted, the table gives its recording
 module _ (b t : List ℕ) (done : filling firstLayout b (length t) ≡ Done) where

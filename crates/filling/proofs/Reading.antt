@@ -1,6 +1,6 @@
 -- A table that was filled from a bundle, by any reader of bundles. Assumes nothing.
 --
---   table-recording, table-lays-out, table-ranges, table-starts, table-unflagged    what the table says, for a recording that a table holds
+--   table-recording, table-lays-out, table-ranges, table-starts, table-kept-counts    what the table says, for a recording that a table holds
 --   no-room, refused-answer, done-answer, short-answer    what the answer says
 use Prim.Native.Nat.{ℕ, zero, suc, _+_, _-_, _*_, _≤_, _<_}
 use mathlib.Core.Path.{_≡_, refl, ap, sym, _∙_}
@@ -17,7 +17,7 @@ use Rattle.words.proofs.Tests.{by-bool}
 use Rattle.numbers.specs.declared.Refusal.{Refusal}
 use Rattle.bundles.specs.Recordings.{Layout, Recording, sampleCount, samplesIn}
 use Rattle.bundles.specs.Readers.{Reader}
-use Rattle.tables.specs.Tables.{columns, startColumn, flagColumn, cell, sampleTotal, sampleRow, layoutIn, recordingIn, rangeIn, numbersIn, sampleCell, startIn, flagIn}
+use Rattle.tables.specs.Tables.{columns, startColumn, keptCountColumn, cell, sampleTotal, sampleRow, layoutIn, recordingIn, rangeIn, numbersIn, sampleCell, startIn, keptCountIn}
 use Rattle.tables.proofs.Ranges.{range-samples}
 use Rattle.filling.specs.declared.Filled.{Filled}
 use Rattle.filling.specs.declared.Filled.the-variants.{Refused, NoRoom, Done}
@@ -57,10 +57,10 @@ module _ (reader : Reader) (b t : List ℕ) (r : Recording) (means-r : reader .m
   abbrev x : List ℕ
   x = filled b t r (reader .contentAt b) h room
 
-  flag-cell : (n : ℕ) → 0 < n → n ≤ sampleCount (r .layout) → cell x (sampleRow n) flagColumn ≡ 0
-  flag-cell n g l =
+  kept-cell : (n : ℕ) → 0 < n → n ≤ sampleCount (r .layout) → cell x (sampleRow n) keptCountColumn ≡ 0
+  kept-cell n g l =
       let e : n - 1 + 1 ≡ n = omega arith in
-      rw e at (sample-cell b t r (reader .contentAt b) h room (n - 1) flagColumn (omega arith) (omega arith))
+      rw e at (sample-cell b t r (reader .contentAt b) h room (n - 1) keptCountColumn (omega arith) (omega arith))
 
   start-cell : (n : ℕ) → 0 < n → n ≤ sampleCount (r .layout) → cell x (sampleRow n) startColumn ≡ reader .contentAt b n
   start-cell n g l =
@@ -76,16 +76,16 @@ module _ (reader : Reader) (b t : List ℕ) (r : Recording) (means-r : reader .m
   pub table-starts : (n : ℕ) → 0 < n → n ≤ sampleCount (r .layout) → startIn (tableAfter reader b t) n ≡ reader .contentAt b n
   table-starts n g l = rw (written, filled-is b t r (reader .contentAt b) h room) (starts n g l)
 
-  unflagged : (n : ℕ) → flagIn x n ≡ 0
+  kept-none : (n : ℕ) → keptCountIn x n ≡ 0
   unfolding sampleCell
-  unflagged n =
+  kept-none n =
       let s = sample-total b t r (reader .contentAt b) h room in
       by-bool (eqb n 0) (λ q. rw q) (λ q. rw q
       (by-bool (ltb (sampleTotal x) n) (λ z. rw z)
-      (λ z. rw z (let l = ltb-false (sampleTotal x) n z in flag-cell n (pos-of-ne-zero (eqb-false n 0 q)) (omega arith)))))
+      (λ z. rw z (let l = ltb-false (sampleTotal x) n z in kept-cell n (pos-of-ne-zero (eqb-false n 0 q)) (omega arith)))))
 
-  pub table-unflagged : (n : ℕ) → flagIn (tableAfter reader b t) n ≡ 0
-  table-unflagged n = rw (written, filled-is b t r (reader .contentAt b) h room) (unflagged n)
+  pub table-kept-counts : (n : ℕ) → keptCountIn (tableAfter reader b t) n ≡ 0
+  table-kept-counts n = rw (written, filled-is b t r (reader .contentAt b) h room) (kept-none n)
 
 -- the table as it was
 pub no-room : (a : Answer Recording) (starts : ℕ → ℕ) (n : ℕ) (t : List ℕ) → fillAnswer a (length t) ≡ NoRoom n → fillTable a starts t ≡ t

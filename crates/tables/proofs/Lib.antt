@@ -4,9 +4,9 @@
 --   Ranges      the samples of a track are a range
 --   References  the references of a track, found one after the other
 --   Numbers     a kind and its number
---   Flags       a flag set without a change to what a table says
+--   KeptCounts  a count kept for a sample, without a change to what a table says
 pub mod Layouts
 pub mod Ranges
 pub mod References
-pub mod Flags
+pub mod KeptCounts
 pub mod Numbers

@@ -12,8 +12,8 @@
 --   numbersIn r               their numbers
 --   sampleCell t n column     a number of the row of sample n
 --   startIn t n               where the bytes of sample n start
---   flagIn t n                the flag of sample n
---   flagged t n v             the table with that flag set
+--   keptCountIn t n           the count kept for sample n
+--   withKeptCount t n v       the table with that count set
 use Prim.Native.Nat.{ℕ, zero, suc, _+_, _-_, _*_}
 use mathlib.Core.List.{List, [], _∷_, map}
 use mathlib.Core.Bool.{Bool, _&&_}
@@ -86,7 +86,7 @@ fromColumn = 0
 abbrev pub toColumn : ℕ
 toColumn = 1
 
--- of a sample: its decode time, where its bytes start in the bundle, how many they are, and a flag for the crates above
+-- of a sample: its decode time, where its bytes start in the bundle, how many they are, and a count that the crates above keep for it
 abbrev pub timeColumn : ℕ
 timeColumn = 0
 
@@ -96,8 +96,8 @@ startColumn = 1
 abbrev pub lengthColumn : ℕ
 lengthColumn = 2
 
-abbrev pub flagColumn : ℕ
-flagColumn = 3
+abbrev pub keptCountColumn : ℕ
+keptCountColumn = 3
 
 abbrev pub atMost : ℕ → ℕ → ℕ
 atMost most n = pick (n ≤? most) n most
@@ -168,12 +168,12 @@ module _ (t : List ℕ) where
   abbrev pub startIn : ℕ → ℕ
   startIn n = sampleCell n startColumn
 
-  abbrev pub flagIn : ℕ → ℕ
-  flagIn n = sampleCell n flagColumn
+  abbrev pub keptCountIn : ℕ → ℕ
+  keptCountIn n = sampleCell n keptCountColumn
 
--- the flag of sample n set to v; a table without that number stays as it was
-unfoldable pub flagged : List ℕ → ℕ → ℕ → List ℕ
-flagged t n v = pick (n ≡? 0) t (pick (sampleTotal t <? n) t (set t (sampleRow n * columns + flagColumn) v))
+-- the count kept for sample n set to v; a table without that number stays as it was
+unfoldable pub withKeptCount : List ℕ → ℕ → ℕ → List ℕ
+withKeptCount t n v = pick (n ≡? 0) t (pick (sampleTotal t <? n) t (set t (sampleRow n * columns + keptCountColumn) v))
 
 -- n bytes of b from p on, or none where they do not lie in b
 unfoldable pub inside : List ℕ → ℕ → ℕ → List ℕ

@@ -10,7 +10,7 @@ ghost use Rattle.numbers.specs.Sizes.{lengthSizeOf};
 ghost use Rattle.bundles.specs.Limits.{trackMost, referenceMost, sampleMost};
 ghost use Rattle.bundles.specs.Recordings.{noTrack, noReference, sampleCount, trackOf, timeOf, referencesFrom, contentOf};
 ghost use Rattle.bundles.specs.Tracks.{knownKind, knownSize};
-ghost use Rattle.tables.specs.Tables.{columns, sampleRow, inside, sampleCell, startIn, flagIn, flagged, cell, trackTotal, referenceTotal, sampleTotal, ownerIn, afterIn, rangeIn, layoutIn, recordingIn};
+ghost use Rattle.tables.specs.Tables.{columns, sampleRow, inside, sampleCell, startIn, keptCountIn, withKeptCount, cell, trackTotal, referenceTotal, sampleTotal, ownerIn, afterIn, rangeIn, layoutIn, recordingIn};
 use numbers::ByteOffset;
 use numbers::Kind;
 use numbers::LengthSize;
@@ -50,14 +50,14 @@ const FROM: usize = 0;
 
 const TO: usize = 1;
 
-// The columns of a sample: its decode time, where its bytes start, how many they are, and a flag for the crates above.
+// The columns of a sample: its decode time, where its bytes start, how many they are, and a count that the crates above keep for it.
 const TIME: usize = 0;
 
 const START: usize = 1;
 
 const LENGTH: usize = 2;
 
-const FLAG: usize = 3;
+const KEPT_COUNT: usize = 3;
 
 // The samples of a track: those numbered after `before`, up to `after`; none where `after` is not the greater.
 pub struct SampleRange {
@@ -375,16 +375,16 @@ pub fn reference(t: &[u64], k: TrackNumber, index: usize) -> TrackNumber
     TrackNumber(0)
 }
 
-// The flag of a sample; 0 where there is no such sample.
-pub fn flag(t: &[u64], n: SampleNumber) -> u64
-    ensures { λ r. ⌜ r ≡ flagIn (now (t .entry)) (n .0) ⌝ }
+// The count kept for a sample; 0 where there is no such sample.
+pub fn kept_count(t: &[u64], n: SampleNumber) -> u64
+    ensures { λ r. ⌜ r ≡ keptCountIn (now (t .entry)) (n .0) ⌝ }
 {
-    sample_cell(t, n, FLAG) as u64
+    sample_cell(t, n, KEPT_COUNT) as u64
 }
 
-// Sets the flag of a sample, where there is one.
-pub fn set_flag(t: &mut [u64], n: SampleNumber, v: u64)
-    ensures { λ _. ⌜ now (t .exit) ≡ flagged (now (t .entry)) (n .0) v ⌝ }
+// Keeps a count for a sample, where there is one.
+pub fn keep_count(t: &mut [u64], n: SampleNumber, v: u64)
+    ensures { λ _. ⌜ now (t .exit) ≡ withKeptCount (now (t .entry)) (n .0) v ⌝ }
 {
     let m = n.0;
     if m == 0 {
@@ -393,7 +393,7 @@ pub fn set_flag(t: &mut [u64], n: SampleNumber, v: u64)
     if sample_total(t) < m {
         return;
     }
-    let at = (SAMPLE_ROW + m) * COLUMNS + FLAG;
+    let at = (SAMPLE_ROW + m) * COLUMNS + KEPT_COUNT;
     if at < t.len() {
         t[at] = v;
     }

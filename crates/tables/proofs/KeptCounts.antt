@@ -1,9 +1,9 @@
--- Flags: one is set without a change to what the table says. Assumes nothing.
+-- A count kept for a sample, without a change to what the table says. Assumes nothing.
 --
 --   set-beyond                   nothing is set past the end
 --   cell-kept                    every other number stays
---   flagged-layout, flagged-recording    the table says and gives the same
---   flag-set, flag-kept          the flag that was set, and every other
+--   kept-count-layout, kept-count-recording    the table says and gives the same
+--   kept-count-set, kept-count-other          the count that was kept, and every other
 use Prim.Native.Nat.{ℕ, zero, suc, _+_, _*_, _≤_, _<_}
 use mathlib.Core.Path.{_≡_, refl, ap, ap₂, sym, _∙_}
 use mathlib.Core.Bool.{Bool, true, false}
@@ -18,7 +18,7 @@ use Rattle.words.specs.Lists.{upto, lastThat}
 use Rattle.words.proofs.Tests.{by-bool}
 use Rattle.words.proofs.Lists.{map-cong, upto-from}
 use Rattle.bundles.specs.Recordings.{Layout, Recording}
-use Rattle.tables.specs.Tables.{columns, countsRow, trackRow, referenceRow, sampleRow, tracksColumn, referencesColumn, samplesColumn, kindColumn, sizeColumn, beforeColumn, fromColumn, toColumn, timeColumn, startColumn, lengthColumn, flagColumn, cell, trackTotal, referenceTotal, sampleTotal, trackIn, referenceIn, beforeIn, ownerIn, entryIn, layoutIn, contentIn, recordingIn, sampleCell, flagIn, flagged}
+use Rattle.tables.specs.Tables.{columns, countsRow, trackRow, referenceRow, sampleRow, tracksColumn, referencesColumn, samplesColumn, kindColumn, sizeColumn, beforeColumn, fromColumn, toColumn, timeColumn, startColumn, lengthColumn, keptCountColumn, cell, trackTotal, referenceTotal, sampleTotal, trackIn, referenceIn, beforeIn, ownerIn, entryIn, layoutIn, contentIn, recordingIn, sampleCell, keptCountIn, withKeptCount}
 use Rattle.words.proofs.Rows.{lastThat-cong}
 
 pub set-beyond : (l : List ℕ) (i a : ℕ) → length l ≤ i → set l i a ≡ l
@@ -28,13 +28,13 @@ set-beyond (x ∷ l) (suc i) a h = ap (λ r. x ∷ r) (set-beyond l i a (omega a
 
 module _ (t : List ℕ) (n v : ℕ) where
   abbrev marked : List ℕ
-  marked = set t (sampleRow n * columns + flagColumn) v
+  marked = set t (sampleRow n * columns + keptCountColumn) v
 
-  pub cell-kept : (r c : ℕ) → c < columns → (r ≡ sampleRow n → c ≡ flagColumn → ⊥) → cell marked r c ≡ cell t r c
+  pub cell-kept : (r c : ℕ) → c < columns → (r ≡ sampleRow n → c ≡ keptCountColumn → ⊥) → cell marked r c ≡ cell t r c
   unfolding cell
-  cell-kept r c h o = getD-set-other t (sampleRow n * columns + flagColumn) (r * columns + c) v 0 (λ e. o (omega arith) (omega arith))
+  cell-kept r c h o = getD-set-other t (sampleRow n * columns + keptCountColumn) (r * columns + c) v 0 (λ e. o (omega arith) (omega arith))
 
-  other : (r c : ℕ) → c < flagColumn → cell marked r c ≡ cell t r c
+  other : (r c : ℕ) → c < keptCountColumn → cell marked r c ≡ cell t r c
   other r c h = cell-kept r c (omega arith) (λ e f. omega arith)
 
   track-total : trackTotal marked ≡ trackTotal t
@@ -70,23 +70,23 @@ module _ (t : List ℕ) (n v : ℕ) where
         map-cong (contentIn b marked) (contentIn b t) (upto (sampleTotal t)) (λ m q. rw (other (sampleRow m) startColumn (omega arith), other (sampleRow m) lengthColumn (omega arith))),
       )
 
-  -- the table itself, or with a flag set
-  pub flagged-case : (P : List ℕ → Type 0) → P t → P marked → P (flagged t n v)
-  unfolding flagged
-  flagged-case P g h = by-bool (eqb n 0) (λ q. rw q g) (λ q. rw q (by-bool (ltb (sampleTotal t) n) (λ r. rw r g) (λ r. rw r h)))
+  -- the table itself, or with a count kept
+  pub kept-count-case : (P : List ℕ → Type 0) → P t → P marked → P (withKeptCount t n v)
+  unfolding withKeptCount
+  kept-count-case P g h = by-bool (eqb n 0) (λ q. rw q g) (λ q. rw q (by-bool (ltb (sampleTotal t) n) (λ r. rw r g) (λ r. rw r h)))
 
-pub flagged-layout : (t : List ℕ) (n v : ℕ) → layoutIn (flagged t n v) ≡ layoutIn t
-flagged-layout t n v = flagged-case t n v (λ x. layoutIn x ≡ layoutIn t) refl (marked-layout t n v)
+pub kept-count-layout : (t : List ℕ) (n v : ℕ) → layoutIn (withKeptCount t n v) ≡ layoutIn t
+kept-count-layout t n v = kept-count-case t n v (λ x. layoutIn x ≡ layoutIn t) refl (marked-layout t n v)
 
-pub flagged-recording : (b t : List ℕ) (n v : ℕ) → recordingIn b (flagged t n v) ≡ recordingIn b t
-flagged-recording b t n v = flagged-case t n v (λ x. recordingIn b x ≡ recordingIn b t) refl (marked-recording t n v b)
+pub kept-count-recording : (b t : List ℕ) (n v : ℕ) → recordingIn b (withKeptCount t n v) ≡ recordingIn b t
+kept-count-recording b t n v = kept-count-case t n v (λ x. recordingIn b x ≡ recordingIn b t) refl (marked-recording t n v b)
 
--- the flag that was set
-pub flag-set : (t : List ℕ) (n v : ℕ) → 0 < n → n ≤ sampleTotal t → sampleRow n * columns + flagColumn < length t → flagIn (flagged t n v) n ≡ v
-unfolding flagged sampleCell
-flag-set t n v h l r =
-    rw (ne-eqb n 0 (λ z. omega arith), le-ltb (sampleTotal t) n l, sample-total t n v, le-ltb (sampleTotal t) n l) (unfold cell in getD-set-same t (sampleRow n * columns + flagColumn) v 0 r)
+-- the count that was kept
+pub kept-count-set : (t : List ℕ) (n v : ℕ) → 0 < n → n ≤ sampleTotal t → sampleRow n * columns + keptCountColumn < length t → keptCountIn (withKeptCount t n v) n ≡ v
+unfolding withKeptCount sampleCell
+kept-count-set t n v h l r =
+    rw (ne-eqb n 0 (λ z. omega arith), le-ltb (sampleTotal t) n l, sample-total t n v, le-ltb (sampleTotal t) n l) (unfold cell in getD-set-same t (sampleRow n * columns + keptCountColumn) v 0 r)
 
--- every other flag stays
-pub flag-kept : (t : List ℕ) (n m v : ℕ) → (m ≡ n → ⊥) → flagIn (flagged t n v) m ≡ flagIn t m
-flag-kept t n m v h = flagged-case t n v (λ x. flagIn x m ≡ flagIn t m) refl (unfold sampleCell in rw (sample-total t n v, cell-kept t n v (sampleRow m) flagColumn (omega arith) (λ e f. h (omega arith))))
+-- every other count stays
+pub kept-count-other : (t : List ℕ) (n m v : ℕ) → (m ≡ n → ⊥) → keptCountIn (withKeptCount t n v) m ≡ keptCountIn t m
+kept-count-other t n m v h = kept-count-case t n v (λ x. keptCountIn x m ≡ keptCountIn t m) refl (unfold sampleCell in rw (sample-total t n v, cell-kept t n v (sampleRow m) keptCountColumn (omega arith) (λ e f. h (omega arith))))
