@@ -1,5 +1,5 @@
--- The table of a recording: which numbers are written over a lent table t. All others stay as they were. The recording is what a reader makes
--- of a bundle, with where in the bundle each sample's bytes start.
+-- The table of a recording: which numbers are written over a lent table t. All others stay as they were. The recording is what a reader
+-- makes of a bundle, with where in the bundle each sample's bytes start.
 --
 --   writeRows t row cells n    the rows of 1 to n over t, the first of them at a row
 --   countCells y               the counts

@@ -1,7 +1,7 @@
--- A table of numbers t, by which a sample's track, time and bytes and a track's kind, length size, references and samples are reached without
--- walking the bundle again. Rows of four numbers: the counts, then the tracks, the references and the samples, each with as many rows as its
--- limit says. A number past the table's end reads as 0, and a count beyond its limit as the limit. So every table says a layout, and together
--- with any bytes it gives a recording: a sample whose bytes do not lie in the bundle has none.
+-- A table of numbers t, by which a sample's track, time and bytes and a track's kind, length size, references and samples are reached
+-- without walking the bundle again. Rows of four numbers: the counts, then the tracks, the references and the samples, each with as many
+-- rows as its limit says. A number past the table's end reads as 0, and a count beyond its limit as the limit. So every table says a
+-- layout, and together with any bytes it gives a recording: a sample whose bytes do not lie in the bundle has none.
 --
 --   countsRow, trackRow k, referenceRow i, sampleRow n    the rows
 --   tableSize n, tableMost    how many numbers a table for n samples needs, and the most

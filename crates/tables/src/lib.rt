@@ -10,7 +10,7 @@ ghost use Rattle.numbers.specs.Sizes.{lengthSizeOf};
 ghost use Rattle.bundles.specs.Limits.{trackMost, referenceMost, sampleMost};
 ghost use Rattle.bundles.specs.Recordings.{noTrack, noReference, sampleCount, trackOf, timeOf, referencesFrom, contentOf};
 ghost use Rattle.bundles.specs.Tracks.{knownKind, knownSize};
-ghost use Rattle.tables.specs.Tables.{columns, sampleRow, inside, sampleCell, startIn, keptCountIn, withKeptCount, cell, trackTotal, referenceTotal, sampleTotal, ownerIn, afterIn, rangeIn, layoutIn, recordingIn};
+ghost use Rattle.tables.specs.Tables.{columns, sampleRow, atMost, inside, sampleCell, startIn, keptCountIn, withKeptCount, cell, trackTotal, referenceTotal, sampleTotal, ownerIn, afterIn, rangeIn, layoutIn, recordingIn};
 use numbers::ByteOffset;
 use numbers::Kind;
 use numbers::LengthSize;
@@ -77,40 +77,32 @@ fn cell(t: &[u64], row: usize, column: usize) -> usize
     0
 }
 
+// A number, or the most where it is beyond it.
+fn at_most(n: usize, most: usize) -> usize
+    ensures { λ r. ⌜ (r ≡ atMost most n) × (r ≤ most) ⌝ }
+{
+    if n <= most { n } else { most }
+}
+
 // The number of tracks, at most as many as there may be.
 fn track_total(t: &[u64]) -> usize
     ensures { λ r. ⌜ (r ≡ trackTotal (now (t .entry))) × (r ≤ trackMost) ⌝ }
 {
-    let n = cell(t, COUNTS_ROW, TRACKS);
-    if n <= bundles::TRACK_MOST {
-        n
-    } else {
-        bundles::TRACK_MOST
-    }
+    at_most(cell(t, COUNTS_ROW, TRACKS), bundles::TRACK_MOST)
 }
 
 // The number of references, at most as many as there may be.
 fn reference_total(t: &[u64]) -> usize
     ensures { λ r. ⌜ (r ≡ referenceTotal (now (t .entry))) × (r ≤ referenceMost) ⌝ }
 {
-    let n = cell(t, COUNTS_ROW, REFERENCES);
-    if n <= bundles::REFERENCE_MOST {
-        n
-    } else {
-        bundles::REFERENCE_MOST
-    }
+    at_most(cell(t, COUNTS_ROW, REFERENCES), bundles::REFERENCE_MOST)
 }
 
 // The number of samples, at most as many as there may be.
 fn sample_total(t: &[u64]) -> usize
     ensures { λ r. ⌜ (r ≡ sampleTotal (now (t .entry))) × (r ≤ sampleMost) ⌝ }
 {
-    let n = cell(t, COUNTS_ROW, SAMPLES);
-    if n <= bundles::SAMPLE_MOST {
-        n
-    } else {
-        bundles::SAMPLE_MOST
-    }
+    at_most(cell(t, COUNTS_ROW, SAMPLES), bundles::SAMPLE_MOST)
 }
 
 // The kind of a number, AVC where it says none.
