@@ -5,6 +5,7 @@
 --   size-some, size-most, known-size     L as a number, and as a length size
 --   read-refused, read-accepted     what a record's answer says
 --   good-size                       L of a track entry without a refusal
+--   track-at                        a track by its number
 --   Kept, kept-start, kept-next, kept-sizes    the length sizes of the tracks so far
 --   total-start, total-next         the sum of the lengths so far
 use Prim.Native.Nat.{ℕ, zero, suc, _+_, _-_, _*_, _%_, _≤_, _<_}
@@ -17,8 +18,8 @@ use borrow.Author.Count.{below-more}
 use lib.ListN.{length, getD, set}
 use lib.Seq.{getD-set-same, getD-set-other}
 use Rattle.words.specs.Refusals.{Answer, refused, ok, Verdict, _andThen_, _atPlace_, first}
-use Rattle.words.specs.Lists.{nth, sum}
-use Rattle.words.specs.Walks.{entries, skip}
+use Rattle.words.specs.Lists.{nth, sum, upto}
+use Rattle.words.specs.Walks.{skip}
 use Rattle.words.specs.Bytes.{byteAt}
 use Rattle.words.proofs.Tests.{by-number}
 use Rattle.words.proofs.Refusals.{at-refused, at-none, at-ok, and-ok, ok-same, ok-refused}
@@ -33,11 +34,12 @@ use Rattle.records.specs.Layout.{layoutOf}
 use Rattle.records.proofs.Parsed.{parsed}
 use Rattle.records.proofs.Shapes.{row, value-below}
 use Rattle.bundles.specs.Recordings.{Track, noTrack}
-use Rattle.bundles.specs.Tracks.{trackCount, trackEnd, kindAt, recordAt, recordFaultAs, knownKind, knownSize, sizeAt, trackFault, trackOn, trackPlaces, tracks}
+use Rattle.bundles.specs.Tracks.{trackCount, tracksAt, trackEnd, kindAt, recordAt, recordFaultAs, knownKind, knownSize, sizeAt, trackFault, trackOn, trackPlaces, tracks}
 use Rattle.bundles.specs.References.{lengthSizeOn}
-use Rattle.bundles.specs.Samples.{long}
-use Rattle.bundles.specs.Steps.{Sizes}
-use Rattle.words.proofs.Entries.{Walked, entries-length, entries-at, entries-mem, entries-snoc, map-append, map-at, sum-append}
+use Rattle.bundles.specs.Samples.{entryAt, lengthAt}
+use Rattle.bundles.specs.Steps.{LengthSizes}
+use Rattle.words.proofs.Entries.{entries-length, entries-at, entries-mem, map-append, map-at, sum-append}
+use Rattle.words.proofs.Rows.{upto-more}
 use Rattle.bundles.proofs.Sections.{Tracks, track-good}
 
 -- a section's verdict: a count, then its entries, then an answer
@@ -102,46 +104,47 @@ good-size b p e = as-size (kindAt b p) (recordAt b p) (track-good b p e .whole)
 
 -- sizes holds the length sizes of the first i tracks
 pub record Kept (b : List ℕ) (i : ℕ) (sizes : List ℕ) : Type 0 where
-  pub at : (k : ℕ) → k < i → byteAt sizes (k + 1) ≡ sizeAt b (skip (trackEnd b) k 1)
+  pub at : (k : ℕ) → k < i → byteAt sizes (k + 1) ≡ sizeAt b (skip (trackEnd b) k (tracksAt b))
 
 pub kept-start : (b sizes : List ℕ) → Kept b 0 sizes
 kept-start b sizes = record { at = λ k h. absurd (omega arith) }
 
-pub kept-next : (b sizes : List ℕ) (i p v : ℕ) → Kept b i sizes → i + 1 < length sizes → p ≡ skip (trackEnd b) i 1 → v ≡ sizeAt b p → Kept b (i + 1) (set sizes (i + 1) v)
+pub kept-next : (b sizes : List ℕ) (i p v : ℕ) → Kept b i sizes → i + 1 < length sizes → p ≡ skip (trackEnd b) i (tracksAt b) → v ≡ sizeAt b p → Kept b (i + 1) (set sizes (i + 1) v)
 kept-next b sizes i p v w h e f =
     record {
-      at = below-more (λ (k : ℕ). byteAt (set sizes (i + 1) v) (k + 1) ≡ sizeAt b (skip (trackEnd b) k 1)) i
+      at = below-more (λ (k : ℕ). byteAt (set sizes (i + 1) v) (k + 1) ≡ sizeAt b (skip (trackEnd b) k (tracksAt b))) i
           (λ k l. getD-set-other sizes (i + 1) (k + 1) v 0 (λ q. omega arith) ∙ w .at k l)
           (getD-set-same sizes (i + 1) v 0 h ∙ f ∙ ap (sizeAt b) e);
     }
 
-track-at : (b : List ℕ) (i : ℕ) → i < trackCount b → nth (tracks b) (i + 1) noTrack ≡ trackOn b (skip (trackEnd b) i 1)
+pub track-at : (b : List ℕ) (i : ℕ) → i < trackCount b → nth (tracks b) (i + 1) noTrack ≡ trackOn b (skip (trackEnd b) i (tracksAt b))
 unfolding nth tracks
 track-at b i h =
-    let l = entries-length (trackEnd b) (trackCount b) 1 in
-    rw (add-one i) (map-at (trackOn b) (trackPlaces b) i 0 noTrack (omega arith) ∙ ap (trackOn b) (entries-at (trackEnd b) (trackCount b) 1 i h))
+    let l = entries-length (trackEnd b) (trackCount b) (tracksAt b) in
+    rw (add-one i) (map-at (trackOn b) (trackPlaces b) i 0 noTrack (omega arith) ∙ ap (trackOn b) (entries-at (trackEnd b) (trackCount b) (tracksAt b) i h))
 
-pub kept-sizes : (b sizes : List ℕ) → Tracks b → Kept b (trackCount b) sizes → Sizes b sizes
+pub kept-sizes : (b sizes : List ℕ) → Tracks b → Kept b (trackCount b) sizes → LengthSizes b sizes
 kept-sizes b sizes t w =
     record {
       at = λ k h l.
           let e : k ≡ k - 1 + 1 = omega arith in
           let q : byteAt sizes (k - 1 + 1) ≡ lengthSizeOn b (k - 1 + 1) =
           w .at (k - 1) (omega arith)
-          ∙ sym (good-size b (skip (trackEnd b) (k - 1) 1) (t .each (entries-mem (trackEnd b) (trackCount b) 1 (k - 1) (omega arith))))
+          ∙ sym (good-size b (skip (trackEnd b) (k - 1) (tracksAt b)) (t .each (entries-mem (trackEnd b) (trackCount b) (tracksAt b) (k - 1) (omega arith))))
           ∙ ap (λ x. inBytes (x .lengthSize)) (sym (track-at b (k - 1) (omega arith))) in
           rw e q;
     }
 
--- the sum of the lengths of the first i entries
-pub total-start : (b : List ℕ) (start : ℕ) → 0 ≡ sum (map (long b) (entries (λ q. q + 13) 0 start))
-unfolding entries sum
-total-start b start = refl
+-- the sum of the lengths of the first i samples
+module _ (b : List ℕ) where
+  abbrev pub lengthOf : ℕ → ℕ
+  lengthOf n = lengthAt b (entryAt b n)
 
-pub total-next :
-    (b : List ℕ) (start i p total n : ℕ) → total ≡ sum (map (long b) (entries (λ q. q + 13) i start)) → p ≡ skip (λ q. q + 13) i start → n ≡ long b p →
-    total + n ≡ sum (map (long b) (entries (λ q. q + 13) (i + 1) start))
-unfolding sum
-total-next b start i p total n e f g =
-    rw (entries-snoc (λ q. q + 13) i start, map-append (long b) (entries (λ q. q + 13) i start) (skip (λ q. q + 13) i start ∷ []), sum-append (map (long b) (entries (λ q. q + 13) i start)) (long b (skip (λ q. q + 13) i start) ∷ []))
-    (rw (← f) (omega arith))
+  pub total-start : 0 ≡ sum (map lengthOf (upto 0))
+  unfolding upto sum
+  total-start = refl
+
+  pub total-next : (i p total n : ℕ) → total ≡ sum (map lengthOf (upto i)) → p ≡ entryAt b (i + 1) → n ≡ lengthAt b p → total + n ≡ sum (map lengthOf (upto (i + 1)))
+  unfolding sum
+  total-next i p total n e f g =
+      rw (upto-more i, map-append lengthOf (upto i) ((i + 1) ∷ []), sum-append (map lengthOf (upto i)) (lengthOf (i + 1) ∷ []), ← e, g, f) (omega arith)

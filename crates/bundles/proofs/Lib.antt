@@ -6,6 +6,7 @@
 --   Tiling      the samples lie without gaps in section four
 --   Replacing   a sample's bytes replaced
 --   Refusals    numbers and places of refusals
+--   Passing     a walk over numbers, number by number
 --   Checking    laws for the steps of the check
 pub mod Promises
 pub mod Sections
@@ -13,4 +14,5 @@ pub mod Order
 pub mod Tiling
 pub mod Replacing
 pub mod Refusals
+pub mod Passing
 pub mod Checking

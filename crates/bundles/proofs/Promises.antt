@@ -6,7 +6,7 @@
 --   samples-tile        the samples lie in section four without gaps, each once, in order, those of length 0 too; the bundle ends there
 --   sum-exact           the fourth count is the sum of the lengths, as whole numbers
 --   bytes-replaced      a sample's bytes replaced by as many others: accepted still, with these bytes replaced in the recording and nothing else
---   refusals-within     every refusal is 1 to 13, at a place in the bundle or at its end
+--   refusals-within     every refusal is one of the bundle's, at a place in the bundle or at its end
 --   one-or-other        a bundle is refused, or means its recording
 use Prim.Native.Nat.{ℕ, zero, suc, _+_, _-_, _≤_, _<_}
 use mathlib.Core.Path.{_≡_, refl, ap, sym, _∙_, subst}
@@ -23,13 +23,13 @@ use Rattle.numbers.specs.Sizes.{inBytes}
 use Rattle.bundles.specs.Limits.{bundleMost, trackMost, referenceMost, sampleMost}
 use Rattle.bundles.specs.Recordings.{Layout, Recording, Reference, Entry, noTrack, sampleCount, contentOf, replaced}
 use Rattle.bundles.specs.References.{references, referenceOn, referencePlaces}
-use Rattle.bundles.specs.Samples.{lengths, bytesAt}
-use Rattle.bundles.specs.Bundles.{bundleVerdict, layoutOf, contentsAt, recordingOf, meaning, contentAt}
+use Rattle.bundles.specs.Samples.{lengths, byteCountAt}
+use Rattle.bundles.specs.Bundles.{bundleVerdict, BundleRefusal, layoutOf, contentsAt, recordingOf, meaning, contentAt, SamplesTile}
 use Rattle.bundles.proofs.Sections.{Accepted, accepted, track-count, reference-count, sample-count, lengths-count, reference-good}
 use Rattle.bundles.proofs.Order.{InOrder, entries-rise, entries-there}
 use Rattle.bundles.proofs.Tiling.{cuts-count, cuts-sizes, cuts-all, cuts-at}
 use Rattle.bundles.proofs.Replacing.{replace}
-use Rattle.bundles.proofs.Refusals.{Within, refused-within}
+use Rattle.bundles.proofs.Refusals.{refused-within}
 
 -- an accepted bundle, section by section, and its recording
 pub means : (b : List ℕ) {r : Recording} → meaning b ≡ ok r → (bundleVerdict b ≡ ok tt) × (recordingOf b ≡ r)
@@ -47,7 +47,7 @@ limits-here : (b : List ℕ) → Accepted b → LimitsKept b (layoutOf b)
 unfolding layoutOf
 limits-here b a =
     record {
-      bytes = a .size;
+      bytes = a .short;
       tracks = rw (track-count b) (a .tracks .count .some, a .tracks .count .few);
       references = rw (reference-count b) (a .references .count .few);
       samples = rw (sample-count b) (a .samples .count .few);
@@ -101,26 +101,20 @@ pub samples-ordered : (b : List ℕ) (r : Recording) → meaning b ≡ ok r → 
 samples-ordered b r e = let m = means b e in subst Ordered (layout-of b (m .1)) (ordered-here b (accepted b (m .0)))
 
 -- samples: bytes
-pub record Tiles (b : List ℕ) (contents : List (List ℕ)) : Type 0 where
-  pub joined : each (λ c. c) contents ≡ drop (contentsAt b) b
-  pub sizes : map (λ c. length c) contents ≡ lengths b
-  pub count : length contents ≡ length (lengths b)
-  pub placed : (n : ℕ) → n < length contents → getD contents n [] ≡ part b (contentAt b (suc n)) (getD (lengths b) n 0)
-
-tiles-here : (b : List ℕ) → Accepted b → Tiles b (cuts b (lengths b) (contentsAt b))
+tiles-here : (b : List ℕ) → Accepted b → SamplesTile b (cuts b (lengths b) (contentsAt b))
 unfolding contentAt
 tiles-here b a =
     record {
       joined = cuts-all b (lengths b) (contentsAt b) (a .bytes .end);
-      sizes = cuts-sizes b (lengths b) (contentsAt b) (let z = a .bytes .end in omega arith);
+      contentLengths = cuts-sizes b (lengths b) (contentsAt b) (let z = a .bytes .end in omega arith);
       count = cuts-count b (lengths b) (contentsAt b);
       placed = λ n h.
           let s : suc n - 1 ≡ n = omega arith in
           rw s (cuts-at b (lengths b) (contentsAt b) n (rw (cuts-count b (lengths b) (contentsAt b)) at h));
     }
 
-pub samples-tile : (b : List ℕ) (r : Recording) → meaning b ≡ ok r → Tiles b (r .contents)
-samples-tile b r e = let m = means b e in subst (Tiles b) (contents-of b (m .1)) (tiles-here b (accepted b (m .0)))
+pub samples-tile : (b : List ℕ) (r : Recording) → meaning b ≡ ok r → SamplesTile b (r .contents)
+samples-tile b r e = let m = means b e in subst (SamplesTile b) (contents-of b (m .1)) (tiles-here b (accepted b (m .0)))
 
 -- as many samples as section three says
 pub samples-all : (b : List ℕ) (r : Recording) → meaning b ≡ ok r → length (r .contents) ≡ sampleCount (r .layout)
@@ -128,7 +122,7 @@ samples-all b r e =
     let m = means b e in
     subst (λ (y : Layout). length (r .contents) ≡ sampleCount y) (layout-of b (m .1)) (samples-tile b r e .count ∙ lengths-count b ∙ sym (unfold layoutOf in sample-count b))
 
-pub sum-exact : (b : List ℕ) (r : Recording) → meaning b ≡ ok r → (big b (bytesAt b) 4 ≡ sum (lengths b)) × (contentsAt b + sum (lengths b) ≡ length b)
+pub sum-exact : (b : List ℕ) (r : Recording) → meaning b ≡ ok r → (big b (byteCountAt b) 4 ≡ sum (lengths b)) × (contentsAt b + sum (lengths b) ≡ length b)
 sum-exact b r e = let a = accepted b (means b e .0) in (a .bytes .count, a .bytes .end)
 
 pub bytes-replaced :
@@ -138,7 +132,7 @@ pub bytes-replaced :
 bytes-replaced = replace
 
 -- refusals
-pub refusals-within : (b : List ℕ) (n p : ℕ) → bundleVerdict b ≡ refused n p → Within b n p
+pub refusals-within : (b : List ℕ) (n p : ℕ) → bundleVerdict b ≡ refused n p → BundleRefusal b n p
 refusals-within = refused-within
 
 pub one-or-other : (b : List ℕ) → ((n : ℕ) × (p : ℕ) × (bundleVerdict b ≡ refused n p) × (meaning b ≡ refused n p)) ⊎ ((bundleVerdict b ≡ ok tt) × (meaning b ≡ ok (recordingOf b)))

@@ -1,107 +1,70 @@
--- The refusals of a bundle: each number is 1 to 13, and each place lies in the bundle or at its end. Assumes nothing.
+-- The refusals of a bundle: each number is one of its set, and each place lies in the bundle or at its end. Assumes nothing.
 --
---   record-most       a record's refusal number is at most 13
---   Within            a refusal's number and place
 --   refused-within    a refused bundle's refusal
-use Prim.Native.Nat.{ℕ, zero, suc, _+_, _-_, _%_, _≤_, _<_}
+use Prim.Native.Nat.{ℕ, zero, suc, _+_, _-_, _≤_, _<_}
 use mathlib.Core.Path.{_≡_, refl, ap, sym, _∙_, subst}
 use mathlib.Core.Bool.{Bool, true, false, not, _&&_}
-use mathlib.Core.List.{List, [], _∷_}
+use mathlib.Core.List.{List, [], _∷_, List·Memᴰ·head, List·Memᴰ·tail}
 use mathlib.Core.Logic.{_⊎_, inl, inr, ⊎-elim}
 use native.Mathlib.Omega.{arith}
-use lib.Dec.{lit≤}
+use borrow.Author.Tests.{eqb-true, eqb-false}
+use lib.Dec.{eqb}
 use lib.ListN.{length}
 use Rattle.words.specs.Tests.{_<?_, _≤?_, _≡?_, pick}
-use Rattle.words.specs.RefusalNumbers.{bundleTooLong, bundleCut, countOutOfLimits, badReference, badTrackOrTime, badByteCount, recordCut, badVersion, wrongFixedBits, badLengthSize, badSet, bytesAfterRecord}
-use Rattle.words.specs.Refusals.{_if_, _orElse_, firstOf, Answer, refused, ok, Verdict, _andThen_, _atPlace_, first}
+use Rattle.words.specs.RefusalNumbers.{bundleTooLong, bundleCut, countOutOfLimits, unknownKind, badReference, badTrackOrTime, badByteCount, recordRefusals, bundleRefusals}
+use Rattle.words.specs.Refusals.{_if_, _orElse_, Answer, refused, ok, Verdict, _andThen_, _atPlace_, first}
+use Rattle.words.specs.Lists.{some, has, _∈_}
 use Rattle.words.specs.Walks.{entries, skip}
-use Rattle.words.proofs.Refusals.{at-ok, ok-refused}
+use Rattle.words.specs.Bytes.{big}
+use Rattle.words.proofs.Tests.{by-bool}
+use Rattle.words.proofs.Lists.{has-from}
+use Rattle.words.proofs.Refusals.{at-ok, ok-refused, NoneOr, none-or-if, none-or-orElse, none-or-pick, none-or-some, none-or-wider}
 use Rattle.numbers.specs.declared.Kind.{Kind}
 use Rattle.numbers.specs.declared.MaybeKind.{MaybeKind}
 use Rattle.numbers.specs.declared.MaybeKind.the-variants.{Known, Unknown}
-use Rattle.words.specs.Bytes.{byteAt, big}
-use Rattle.sets.specs.Sets.{oneOf, setEnd, setFault, setsFault}
-use Rattle.records.specs.Layout.{layoutOf, fixedIn, chromaShape, depthShape, pictureTypes, extensionTypes}
-use Rattle.sets.specs.declared.SetTypes.{SetTypes}
-use Rattle.records.specs.Read.{byteFault, trailerFault, lengthSize, headFault, sequenceCount, sequencesFault, sequencesEnd, pictureCount, picturesFault, picturesEnd, trailerThere, followFault, recordEnd, recordFault}
-use Rattle.records.specs.declared.Shape.{Shape}
-use Rattle.bundles.specs.Limits.{countFault, cut, bundleMost, trackMost, referenceMost, sampleMost}
-use Rattle.bundles.specs.Tracks.{recordFaultAs, recordSize, kindAt, recordAt, trackCount, trackEnd, trackFault, tracksVerdict, referencesAt}
+use Rattle.records.specs.Read.{recordFault}
+use Rattle.records.proofs.Refusals.{record-refusal}
+use Rattle.bundles.specs.Limits.{countFault, cut, bundleMost, trackLeast, trackMost, referenceMost, sampleMost}
+use Rattle.bundles.specs.Fields.{trackCountSize, trackHeadSize, referenceCountSize, referenceSize, sampleCountSize, entrySize, byteCountSize}
+use Rattle.bundles.specs.Recordings.{Entry}
+use Rattle.bundles.specs.Tracks.{recordFaultAs, tracksAt, recordLength, kindAt, recordAt, trackCount, trackEnd, trackFault, tracksVerdict, referencesAt}
 use Rattle.bundles.specs.References.{from, to, noSuchTrack, lengthSizeOn, referenceCount, referenceFault, referencesVerdict, samplesAt}
-use Rattle.bundles.specs.Samples.{track, time, entryCount, entriesAt, orderFault, entryFault, samplesVerdict, bytesAt}
-use Rattle.bundles.specs.Bundles.{endFault, bytesVerdict, lengthVerdict, bundleVerdict}
+use Rattle.bundles.specs.Samples.{track, entryCount, entriesAt, entryAt, entryOn, orderFault, entryFault, entryNumbers, samplesVerdict, byteCountAt}
+use Rattle.bundles.specs.Bundles.{byteCount, endFault, bytesVerdict, lengthVerdict, bundleVerdict, BundleRefusal}
 use Rattle.words.proofs.Entries.{walk-keeps-here}
-use Rattle.bundles.proofs.Sections.{count-good, track-good, reference-good, entry-good, tracks-good, references-good, samples-good}
+use Rattle.bundles.proofs.Passing.{first-earlier}
+use Rattle.bundles.proofs.Sections.{count-good, track-good, reference-good, entries-inside, tracks-good, references-good, samples-good}
 
-zero-le : (n : ℕ) → 0 ≤ n
-zero-le n = omega arith
+-- bridge: drop when record-refusal says NoneOr
+record-among : (n : ℕ) → 8 ≤ n → n ≤ 13 → n ∈ recordRefusals
+record-among n h l =
+    by-bool (eqb n 8) (λ q. List·Memᴰ·head (eqb-true _ _ q)) (λ a. List·Memᴰ·tail
+    (by-bool (eqb n 9) (λ q. List·Memᴰ·head (eqb-true _ _ q)) (λ b. List·Memᴰ·tail
+    (by-bool (eqb n 10) (λ q. List·Memᴰ·head (eqb-true _ _ q)) (λ c. List·Memᴰ·tail
+    (by-bool (eqb n 11) (λ q. List·Memᴰ·head (eqb-true _ _ q)) (λ d. List·Memᴰ·tail
+    (by-bool (eqb n 12) (λ q. List·Memᴰ·head (eqb-true _ _ q)) (λ e. List·Memᴰ·tail
+    (List·Memᴰ·head (pinned (eqb-false n 8 a) (eqb-false n 9 b) (eqb-false n 10 c) (eqb-false n 11 d) (eqb-false n 12 e))))))))))))
+  where
+    pinned : (n ≡ 8 → ⊥) → (n ≡ 9 → ⊥) → (n ≡ 10 → ⊥) → (n ≡ 11 → ⊥) → (n ≡ 12 → ⊥) → n ≡ 13
+    pinned a b c d e = omega arith
 
-module _ {k : ℕ} where
-  orElse-most : (n : ℕ) {m : ℕ} → n ≤ k → m ≤ k → (n orElse m) ≤ k
-  orElse-most zero g h = h
-  orElse-most (suc n) g h = g
+record-none-or : (k : Kind) (s : List ℕ) → NoneOr recordRefusals (recordFault k s)
+record-none-or k s = ⊎-elim inl (λ w. inr (record-among (recordFault k s) (w .0) (w .1))) (record-refusal k s)
 
-  if-most : (n : ℕ) (t : Bool) → n ≤ k → (n if t) ≤ k
-  if-most n true h = h
-  if-most n false h = zero-le k
+-- none, or a refusal of a bundle
+abbrev OfBundle : ℕ → Type 0
+OfBundle n = NoneOr bundleRefusals n
 
-  -- a test, and what follows it
-  test-most : (n : ℕ) (t : Bool) {m : ℕ} → n ≤ k → m ≤ k → (n if t orElse m) ≤ k
-  test-most n t g h = orElse-most (n if t) (if-most n t g) h
+-- a test of a number of the set, which `refl` shows under `unfolding some`; and what follows it
+test : (n : ℕ) (t : Bool) → has n bundleRefusals ≡ true → OfBundle (n if t)
+test n t h = none-or-if bundleRefusals n t (has-from n bundleRefusals h)
 
-  pick-most : (t : Bool) (n m : ℕ) → n ≤ k → m ≤ k → pick t n m ≤ k
-  pick-most true n m g h = g
-  pick-most false n m g h = h
+chain : (n : ℕ) (t : Bool) {m : ℕ} → has n bundleRefusals ≡ true → OfBundle m → OfBundle (n if t orElse m)
+chain n t {m} g h = none-or-orElse bundleRefusals (n if t) m (test n t g) h
 
-  firstOf-most : (f : ℕ → ℕ) (ps : List ℕ) → ((p : ℕ) → f p ≤ k) → firstOf f ps ≤ k
-  unfolding firstOf
-  firstOf-most f [] h = zero-le k
-  firstOf-most f (p ∷ ps) h = orElse-most (f p) (h p) (firstOf-most f ps h)
-
--- a record's refusals
-module _ (s : List ℕ) where
-  set-most : (types : SetTypes) (p : ℕ) → setFault types s p ≤ 13
-  unfolding setFault
-  set-most types p =
-      test-most recordCut (length s <? p + 2) (lit≤ tt)
-      (test-most badSet (big s p 2 ≡? 0) (lit≤ tt)
-      (test-most recordCut (length s <? setEnd s p) (lit≤ tt)
-      (test-most badSet (128 ≤? byteAt s (p + 2)) (lit≤ tt)
-      (if-most badSet (not (oneOf types (byteAt s (p + 2) % 32))) (lit≤ tt)))))
-
-  sets-most : (types : SetTypes) (n p : ℕ) → setsFault types s n p ≤ 13
-  sets-most types n p = firstOf-most (setFault types s) (entries (setEnd s) n p) (set-most types)
-
-  byte-most : (h : Shape) (p : ℕ) → byteFault s h p ≤ 13
-  unfolding byteFault
-  byte-most h p = test-most recordCut (length s ≤? p) (lit≤ tt) (if-most wrongFixedBits (not (fixedIn h (byteAt s p) ≡? h .fixed)) (lit≤ tt))
-
-  trailer-most : (q : ℕ) → trailerFault s q ≤ 13
-  unfolding trailerFault
-  trailer-most q =
-      orElse-most (byteFault s chromaShape q) (byte-most _ _)
-      (orElse-most (byteFault s depthShape (q + 1)) (byte-most _ _)
-      (orElse-most (byteFault s depthShape (q + 2)) (byte-most _ _)
-      (test-most recordCut (length s ≤? q + 3) (lit≤ tt)
-      (sets-most extensionTypes (byteAt s (q + 3)) (q + 4)))))
-
-  head-most : (k : Kind) → headFault k s ≤ 13
-  unfolding headFault
-  head-most k =
-      test-most recordCut (length s ≤? 0) (lit≤ tt)
-      (test-most badVersion (not (byteAt s 0 ≡? 1)) (lit≤ tt)
-      (orElse-most (byteFault s (layoutOf k .size) 4) (byte-most _ _)
-      (test-most badLengthSize (lengthSize k s ≡? 3) (lit≤ tt)
-      (byte-most (layoutOf k .count) 5))))
-
-  pub record-most : (k : Kind) → recordFault k s ≤ 13
-  unfolding recordFault
-  record-most k =
-      orElse-most (headFault k s) (head-most k)
-      (orElse-most (sequencesFault k s) (sets-most (layoutOf k .sequence) (sequenceCount k s) 6)
-      (orElse-most (picturesFault k s) (test-most recordCut (length s ≤? sequencesEnd k s) (lit≤ tt) (sets-most pictureTypes (pictureCount k s) (sequencesEnd k s + 1)))
-      (orElse-most (followFault k s) (pick-most (trailerThere k s) (trailerFault s (picturesEnd k s)) 0 (trailer-most _) (lit≤ tt))
-      (if-most bytesAfterRecord (recordEnd k s <? length s) (lit≤ tt)))))
+-- a record's refusals are a bundle's
+wider : (n : ℕ) → n ∈ recordRefusals → n ∈ bundleRefusals
+wider n m = List·Memᴰ·tail (List·Memᴰ·tail (List·Memᴰ·tail (List·Memᴰ·tail (List·Memᴰ·tail (List·Memᴰ·tail (List·Memᴰ·tail m))))))
 
 -- verdicts that refuse
 and-refused : {n p : ℕ} (v w : Verdict) → (v andThen w) ≡ refused n p → (v ≡ refused n p) ⊎ ((v ≡ ok tt) × (w ≡ refused n p))
@@ -120,102 +83,102 @@ first-said f (p ∷ ps) m q e = ⊎-elim
     (λ h. first-said f ps m q (h .1))
     (and-refused (f p atPlace p) (first (λ p. f p atPlace p) ps) e)
 
-pub record Within (b : List ℕ) (n p : ℕ) : Type 0 where
-  pub some : 1 ≤ n
-  pub most : n ≤ 13
-  pub place : p ≤ length b
-
 module _ (b : List ℕ) where
-  here-within : {f q n p : ℕ} → f ≤ 13 → q ≤ length b → f atPlace q ≡ refused n p → Within b n p
-  here-within {f} {q} {n} {p} g h e = let a = at-said f q n p e in record { some = a .2; most = subst (λ z. z ≤ 13) (a .0) g; place = subst (λ z. z ≤ length b) (a .1) h }
+  here-within : {f q n p : ℕ} → OfBundle f → q ≤ length b → f atPlace q ≡ refused n p → BundleRefusal b n p
+  here-within {f} {q} {n} {p} g h e =
+      let a = at-said f q n p e in
+      record { number = none-or-some bundleRefusals (subst OfBundle (a .0) g) (a .2); place = subst (λ z. z ≤ length b) (a .1) h }
 
-  walk-within : (next fault : ℕ → ℕ) → ((p : ℕ) → fault p ≤ 13) → ((p : ℕ) → fault p ≡ 0 → next p ≤ length b) → (m q n p : ℕ) → q ≤ length b →
-      first (λ p. fault p atPlace p) (entries next m q) ≡ refused n p → Within b n p
-  walk-within next fault most inside m q n p h e =
+  walk-within : (next fault : ℕ → ℕ) → ((p : ℕ) → OfBundle (fault p)) → ((p : ℕ) → fault p ≡ 0 → next p ≤ length b) → (m q n p : ℕ) → q ≤ length b →
+      first (λ p. fault p atPlace p) (entries next m q) ≡ refused n p → BundleRefusal b n p
+  walk-within next fault of inside m q n p h e =
       let a = first-said fault (entries next m q) n p e in
       record {
-        some = a .1;
-        most = subst (λ z. z ≤ 13) (a .0) (most p);
+        number = none-or-some bundleRefusals (subst OfBundle (a .0) (of p)) (a .1);
         place = walk-keeps-here (λ z. z ≤ length b) next fault (λ z g f. inside z f) m q n p h e;
       }
 
-  count-most : (p n least most : ℕ) → countFault b p n least most ≤ 13
-  unfolding countFault
-  count-most p n least most =
-      test-most bundleCut (length b <? p + n) (lit≤ tt)
-      (test-most countOutOfLimits (big b p n <? least) (lit≤ tt)
-      (if-most countOutOfLimits (most <? big b p n) (lit≤ tt)))
+  count-of : (p n least most : ℕ) → OfBundle (countFault b p n least most)
+  unfolding countFault some
+  count-of p n least most =
+      chain bundleCut (length b <? p + n) refl
+      (chain countOutOfLimits (big b p n <? least) refl
+      (test countOutOfLimits (most <? big b p n) refl))
 
-  recordAs-most : (k : MaybeKind) (s : List ℕ) → recordFaultAs k s ≤ 13
-  recordAs-most (Known k) s = record-most s k
-  recordAs-most Unknown s = lit≤ tt
+  recordAs-of : (k : MaybeKind) (s : List ℕ) → OfBundle (recordFaultAs k s)
+  unfolding some
+  recordAs-of (Known k) s = none-or-wider wider (record-none-or k s)
+  recordAs-of Unknown s = inr (has-from unknownKind bundleRefusals refl)
 
-  track-most : (p : ℕ) → trackFault b p ≤ 13
-  unfolding trackFault
-  track-most p =
-      test-most bundleCut (length b <? p + 3) (lit≤ tt)
-      (test-most bundleCut (length b <? p + 3 + recordSize b p) (lit≤ tt)
-      (recordAs-most (kindAt b p) (recordAt b p)))
+  track-of : (p : ℕ) → OfBundle (trackFault b p)
+  unfolding trackFault some
+  track-of p =
+      chain bundleCut (length b <? p + trackHeadSize) refl
+      (chain bundleCut (length b <? p + trackHeadSize + recordLength b p) refl
+      (recordAs-of (kindAt b p) (recordAt b p)))
 
-  reference-most : (p : ℕ) → referenceFault b p ≤ 13
-  unfolding referenceFault
-  reference-most p =
-      test-most bundleCut (length b <? p + 2) (lit≤ tt)
-      (test-most badReference (noSuchTrack b (from b p)) (lit≤ tt)
-      (test-most badReference (noSuchTrack b (to b p)) (lit≤ tt)
-      (test-most badReference (from b p ≡? to b p) (lit≤ tt)
-      (if-most badReference (not (lengthSizeOn b (from b p) ≡? lengthSizeOn b (to b p))) (lit≤ tt)))))
+  reference-of : (p : ℕ) → OfBundle (referenceFault b p)
+  unfolding referenceFault some
+  reference-of p =
+      chain bundleCut (length b <? p + referenceSize) refl
+      (chain badReference (noSuchTrack b (from b p)) refl
+      (chain badReference (noSuchTrack b (to b p)) refl
+      (chain badReference (from b p ≡? to b p) refl
+      (test badReference (not (lengthSizeOn b (from b p) ≡? lengthSizeOn b (to b p))) refl))))
 
-  order-most : (q p : ℕ) → orderFault b q p ≤ 13
-  unfolding orderFault
-  order-most q p =
-      test-most badTrackOrTime (track b p <? track b q) (lit≤ tt)
-      (if-most badTrackOrTime ((track b p ≡? track b q) && (time b p ≤? time b q)) (lit≤ tt))
+  order-of : (e f : Entry) → OfBundle (orderFault e f)
+  unfolding orderFault some
+  order-of e f =
+      chain badTrackOrTime ((f .track) <? (e .track)) refl
+      (test badTrackOrTime (((f .track) ≡? (e .track)) && ((f .time) ≤? (e .time))) refl)
 
-  entry-most : (p : ℕ) → entryFault b p ≤ 13
-  unfolding entryFault
-  entry-most p =
-      test-most bundleCut (length b <? p + 13) (lit≤ tt)
-      (test-most badTrackOrTime (noSuchTrack b (track b p)) (lit≤ tt)
-      (pick-most (p <? entriesAt b + 13) 0 (orderFault b (p - 13) p) (lit≤ tt) (order-most _ _)))
+  entry-of : (n : ℕ) → OfBundle (entryFault b n)
+  unfolding entryFault some
+  entry-of n =
+      chain bundleCut (length b <? entryAt b n + entrySize) refl
+      (chain badTrackOrTime (noSuchTrack b (track b (entryAt b n))) refl
+      (none-or-pick bundleRefusals (n ≡? 1) 0 _ (inl refl) (order-of (entryOn b (entryAt b (n - 1))) (entryOn b (entryAt b n)))))
 
-  end-most : (p total : ℕ) → endFault b p total ≤ 13
-  unfolding endFault
-  end-most p total =
-      test-most bundleCut (length b <? p + 4) (lit≤ tt)
-      (test-most badByteCount (not (big b p 4 ≡? total)) (lit≤ tt)
-      (test-most bundleCut (length b <? p + 4 + big b p 4) (lit≤ tt)
-      (if-most badByteCount (p + 4 + big b p 4 <? length b) (lit≤ tt))))
+  end-of : (p total : ℕ) → OfBundle (endFault b p total)
+  unfolding endFault some
+  end-of p total =
+      chain bundleCut (length b <? p + byteCountSize) refl
+      (chain badByteCount (not (byteCount b p ≡? total)) refl
+      (chain bundleCut (length b <? p + byteCountSize + byteCount b p) refl
+      (test badByteCount (p + byteCountSize + byteCount b p <? length b) refl)))
 
-  tracks-within : {n p : ℕ} → tracksVerdict b ≡ refused n p → Within b n p
+  tracks-within : {n p : ℕ} → tracksVerdict b ≡ refused n p → BundleRefusal b n p
   unfolding tracksVerdict
   tracks-within {n} {p} e = ⊎-elim
-      (λ h. here-within (count-most _ _ _ _) (zero-le (length b)) h)
-      (λ h. walk-within (trackEnd b) (trackFault b) track-most (λ q f. track-good b q f .inside) (trackCount b) 1 n p (count-good b 0 1 1 trackMost (at-ok _ _ (h .0)) .inside) (h .1))
-      (and-refused (countFault b 0 1 1 trackMost atPlace 0) _ e)
+      (λ h. here-within (count-of _ _ _ _) (omega arith) h)
+      (λ h. walk-within (trackEnd b) (trackFault b) track-of (λ q f. track-good b q f .inside) (trackCount b) (tracksAt b) n p (count-good b 0 trackCountSize trackLeast trackMost (at-ok _ _ (h .0)) .inside) (h .1))
+      (and-refused (countFault b 0 trackCountSize trackLeast trackMost atPlace 0) _ e)
 
-  references-within : referencesAt b ≤ length b → {n p : ℕ} → referencesVerdict b ≡ refused n p → Within b n p
+  references-within : referencesAt b ≤ length b → {n p : ℕ} → referencesVerdict b ≡ refused n p → BundleRefusal b n p
   unfolding referencesVerdict
   references-within g {n} {p} e = ⊎-elim
-      (λ h. here-within (count-most _ _ _ _) g h)
-      (λ h. walk-within (λ q. q + 2) (referenceFault b) reference-most (λ q f. reference-good b q f .inside) (referenceCount b) (referencesAt b + 1) n p (count-good b (referencesAt b) 1 0 referenceMost (at-ok _ _ (h .0)) .inside) (h .1))
-      (and-refused (countFault b (referencesAt b) 1 0 referenceMost atPlace referencesAt b) _ e)
+      (λ h. here-within (count-of _ _ _ _) g h)
+      (λ h. walk-within (λ q. q + referenceSize) (referenceFault b) reference-of (λ q f. reference-good b q f .inside) (referenceCount b) (referencesAt b + referenceCountSize) n p (count-good b (referencesAt b) referenceCountSize 0 referenceMost (at-ok _ _ (h .0)) .inside) (h .1))
+      (and-refused (countFault b (referencesAt b) referenceCountSize 0 referenceMost atPlace referencesAt b) _ e)
 
-  samples-within : samplesAt b ≤ length b → {n p : ℕ} → samplesVerdict b ≡ refused n p → Within b n p
+  -- the first entry that is refused: those before it are not, so it stands in the bundle
+  samples-within : samplesAt b ≤ length b → {n p : ℕ} → samplesVerdict b ≡ refused n p → BundleRefusal b n p
   unfolding samplesVerdict
   samples-within g {n} {p} e = ⊎-elim
-      (λ h. here-within (count-most _ _ _ _) g h)
-      (λ h. walk-within (λ q. q + 13) (entryFault b) entry-most (λ q f. entry-good b q f .inside) (entryCount b) (entriesAt b) n p (count-good b (samplesAt b) 2 0 sampleMost (at-ok _ _ (h .0)) .inside) (h .1))
-      (and-refused (countFault b (samplesAt b) 2 0 sampleMost atPlace samplesAt b) _ e)
+      (λ h. here-within (count-of _ _ _ _) g h)
+      (λ h.
+      let w = first-earlier (entryFault b) (entryAt b) (entryCount b) n p (h .1) in
+      here-within (entry-of (w .number)) (entries-inside b (count-good b (samplesAt b) sampleCountSize 0 sampleMost (at-ok _ _ (h .0)) .inside) (w .number - 1) (λ z. w .before (w .number - 1) z (let q = w .some in omega arith))) (w .refused))
+      (and-refused (countFault b (samplesAt b) sampleCountSize 0 sampleMost atPlace samplesAt b) _ e)
 
-  bytes-within : bytesAt b ≤ length b → {n p : ℕ} → bytesVerdict b ≡ refused n p → Within b n p
+  bytes-within : byteCountAt b ≤ length b → {n p : ℕ} → bytesVerdict b ≡ refused n p → BundleRefusal b n p
   unfolding bytesVerdict
-  bytes-within g e = here-within (end-most _ _) g e
+  bytes-within g e = here-within (end-of _ _) g e
 
-  pub refused-within : (n p : ℕ) → bundleVerdict b ≡ refused n p → Within b n p
-  unfolding bundleVerdict
+  pub refused-within : (n p : ℕ) → bundleVerdict b ≡ refused n p → BundleRefusal b n p
+  unfolding bundleVerdict some
   refused-within n p e = ⊎-elim
-      (λ h. here-within (if-most bundleTooLong (bundleMost <? length b) (lit≤ tt)) (zero-le (length b)) h)
+      (λ h. here-within (test bundleTooLong (bundleMost <? length b) refl) (omega arith) h)
       (λ h. ⊎-elim
       (λ f. tracks-within f)
       (λ f. ⊎-elim

@@ -2,6 +2,7 @@
 -- The idea: everything but the samples is read below `contentsAt`, where the two bundles agree. Assumes nothing.
 --
 --   verdict-same, layout-same, lengths-same    two bundles of one length that agree below `contentsAt`
+--   length-is                                  the length of a sample, as its entry says
 --   replace                                    one sample's bytes replaced, length kept
 use Prim.Native.Nat.{ℕ, zero, suc, _+_, _-_, _*_, _≤_, _<_}
 use mathlib.Core.Path.{_≡_, refl, ap, ap₂, sym, _∙_}
@@ -16,14 +17,15 @@ use Rattle.words.specs.Lists.{sum, nth}
 use Rattle.words.specs.Walks.{entries, skip}
 use Rattle.words.specs.Bytes.{big, byteAt, part, splice, cuts}
 use Rattle.words.proofs.Refusals.{first-cong, and-ok}
-use Rattle.words.proofs.Lists.{map-cong}
+use Rattle.words.proofs.Lists.{map-cong, upto-from}
 use Rattle.words.proofs.Walks.{skip-grows, skip-stride, entries-end, entries-same}
 use Rattle.words.proofs.Splices.{part-ext, splice-length, splice-before, cuts-splice, cuts-lengths, take-sum}
-use Rattle.bundles.specs.Limits.{bundleMost, trackMost, referenceMost, sampleMost, countFault}
+use Rattle.bundles.specs.Limits.{bundleMost, trackLeast, trackMost, referenceMost, sampleMost, countFault}
+use Rattle.bundles.specs.Fields.{trackCountSize, recordLengthSize, recordLengthOffset, trackHeadSize, referenceCountSize, trackNumberSize, toOffset, referenceSize, sampleCountSize, timeSize, sampleLengthSize, timeOffset, lengthOffset, entrySize, byteCountSize}
 use Rattle.bundles.specs.Recordings.{Layout, Recording, replaced, sampleCount, contentOf}
-use Rattle.bundles.specs.Tracks.{trackCount, recordSize, trackEnd, recordAt, sizeAt, trackFault, trackPlaces, tracksVerdict, trackOn, tracks, referencesAt}
+use Rattle.bundles.specs.Tracks.{trackCount, tracksAt, recordLength, trackEnd, recordAt, sizeAt, trackFault, trackPlaces, tracksVerdict, trackOn, tracks, referencesAt}
 use Rattle.bundles.specs.References.{referenceCount, noSuchTrack, referenceFault, referencePlaces, referencesVerdict, referenceOn, references, samplesAt}
-use Rattle.bundles.specs.Samples.{entryCount, entriesAt, orderFault, entryFault, samplePlaces, samplesVerdict, entryOn, sampleEntries, long, lengths, bytesAt}
+use Rattle.bundles.specs.Samples.{entryCount, entriesAt, entryAt, entryFault, entryNumbers, samplesVerdict, entryOn, sampleEntries, lengthAt, lengths, byteCountAt}
 use Rattle.bundles.specs.Bundles.{endFault, bytesVerdict, bundleVerdict, layoutOf, contentsAt, recordingOf, meaning, contentAt}
 use Rattle.bundles.proofs.Sections.{trackEnd-grows, Accepted, accepted, sample-count, lengths-count}
 
@@ -40,32 +42,32 @@ module _ (b c : List ℕ) (same : length c ≡ length b) (agree : (q : ℕ) → 
   head-part a n h = part-ext c b a n same (λ q l u. agree q (omega arith))
 
   -- where the sections start
-  references-before : referencesAt b + 1 + referenceCount b * 2 ≤ samplesAt b
+  references-before : referencesAt b + referenceCountSize + referenceCount b * referenceSize ≤ samplesAt b
   unfolding samplesAt
   references-before = omega arith
 
-  samples-before : entriesAt b + entryCount b * 13 ≤ bytesAt b
-  unfolding bytesAt
+  samples-before : entriesAt b + entryCount b * entrySize ≤ byteCountAt b
+  unfolding byteCountAt
   samples-before = omega arith
 
   -- section one
-  first-entry : 1 ≤ referencesAt b
+  first-entry : tracksAt b ≤ referencesAt b
   unfolding referencesAt
-  first-entry = skip-grows (trackEnd b) (trackEnd-grows b) _ 1
+  first-entry = skip-grows (trackEnd b) (trackEnd-grows b) _ (tracksAt b)
 
-  references-below : Below (referencesAt b + 1)
+  references-below : Below (referencesAt b + referenceCountSize)
   references-below = let x = references-before in let y = samples-before in omega arith
 
   trackCount-same : trackCount c ≡ trackCount b
-  trackCount-same = head-big 0 1 (let f = first-entry in let g = references-below in omega arith)
+  trackCount-same = head-big 0 trackCountSize (let f = first-entry in let g = references-below in omega arith)
 
   trackEnd-same : (p : ℕ) → Below (trackEnd b p) → trackEnd c p ≡ trackEnd b p
-  trackEnd-same p h = rw (head-big (p + 1) 2 (omega arith))
+  trackEnd-same p h = rw (head-big (p + recordLengthOffset) recordLengthSize (omega arith))
 
-  track-entries : (entries (trackEnd c) (trackCount b) 1 ≡ trackPlaces b) × (skip (trackEnd c) (trackCount b) 1 ≡ skip (trackEnd b) (trackCount b) 1)
-  track-entries = entries-same (trackEnd b) (trackEnd-grows b) (trackEnd c) (contentsAt b) trackEnd-same (trackCount b) 1 section-end
+  track-entries : (entries (trackEnd c) (trackCount b) (tracksAt b) ≡ trackPlaces b) × (skip (trackEnd c) (trackCount b) (tracksAt b) ≡ skip (trackEnd b) (trackCount b) (tracksAt b))
+  track-entries = entries-same (trackEnd b) (trackEnd-grows b) (trackEnd c) (contentsAt b) trackEnd-same (trackCount b) (tracksAt b) section-end
     where
-      section-end : Below (skip (trackEnd b) (trackCount b) 1)
+      section-end : Below (skip (trackEnd b) (trackCount b) (tracksAt b))
       section-end = let z : Below (referencesAt b) = (let g = references-below in omega arith) in (unfold referencesAt in z)
 
   trackPlaces-same : trackPlaces c ≡ trackPlaces b
@@ -76,14 +78,14 @@ module _ (b c : List ℕ) (same : length c ≡ length b) (agree : (q : ℕ) → 
   referencesAt-same = rw trackCount-same (track-entries .1)
 
   track-below : (p : ℕ) → List·Memᴰ p (trackPlaces b) → Below (trackEnd b p)
-  track-below p m = let e = entries-end (trackEnd b) (trackEnd-grows b) (trackCount b) 1 p m in let z : trackEnd b p ≤ referencesAt b = (unfold referencesAt in e) in let g = references-below in omega arith
+  track-below p m = let e = entries-end (trackEnd b) (trackEnd-grows b) (trackCount b) (tracksAt b) p m in let z : trackEnd b p ≤ referencesAt b = (unfold referencesAt in e) in let g = references-below in omega arith
 
   record-same : (p : ℕ) → Below (trackEnd b p) → recordAt c p ≡ recordAt b p
-  record-same p h = rw (head-big (p + 1) 2 (omega arith)) (head-part (p + 3) _ h)
+  record-same p h = rw (head-big (p + recordLengthOffset) recordLengthSize (omega arith)) (head-part (p + trackHeadSize) _ h)
 
   trackFault-same : (p : ℕ) → Below (trackEnd b p) → trackFault c p ≡ trackFault b p
   unfolding trackFault
-  trackFault-same p h = rw (record-same p h, head-big (p + 1) 2 (omega arith), agree p (omega arith), same)
+  trackFault-same p h = rw (record-same p h, head-big (p + recordLengthOffset) recordLengthSize (omega arith), agree p (omega arith), same)
 
   trackOn-same : (p : ℕ) → Below (trackEnd b p) → trackOn c p ≡ trackOn b p
   unfolding sizeAt
@@ -95,7 +97,7 @@ module _ (b c : List ℕ) (same : length c ≡ length b) (agree : (q : ℕ) → 
 
   -- section two
   referenceCount-same : referenceCount c ≡ referenceCount b
-  referenceCount-same = rw referencesAt-same (head-big (referencesAt b) 1 references-below)
+  referenceCount-same = rw referencesAt-same (head-big (referencesAt b) referenceCountSize references-below)
 
   referencePlaces-same : referencePlaces c ≡ referencePlaces b
   referencePlaces-same = rw (referenceCount-same, referencesAt-same)
@@ -104,18 +106,18 @@ module _ (b c : List ℕ) (same : length c ≡ length b) (agree : (q : ℕ) → 
   unfolding samplesAt
   samplesAt-same = rw (referenceCount-same, referencesAt-same)
 
-  reference-below : (p : ℕ) → List·Memᴰ p (referencePlaces b) → Below (p + 2)
+  reference-below : (p : ℕ) → List·Memᴰ p (referencePlaces b) → Below (p + referenceSize)
   reference-below p m =
-      let e = entries-end (λ q. q + 2) (λ q. omega arith) (referenceCount b) (referencesAt b + 1) p m in
-      let f = skip-stride 2 (referenceCount b) (referencesAt b + 1) in
+      let e = entries-end (λ q. q + referenceSize) (λ q. omega arith) (referenceCount b) (referencesAt b + referenceCountSize) p m in
+      let f = skip-stride referenceSize (referenceCount b) (referencesAt b + referenceCountSize) in
       let x = references-before in let y = samples-before in omega arith
 
-  referenceFault-same : (p : ℕ) → Below (p + 2) → referenceFault c p ≡ referenceFault b p
+  referenceFault-same : (p : ℕ) → Below (p + referenceSize) → referenceFault c p ≡ referenceFault b p
   unfolding referenceFault noSuchTrack
-  referenceFault-same p h = rw (tracks-same, trackCount-same, agree p (omega arith), agree (p + 1) (omega arith), same)
+  referenceFault-same p h = rw (tracks-same, trackCount-same, head-big p trackNumberSize (omega arith), head-big (p + toOffset) trackNumberSize (omega arith), same)
 
-  referenceOn-same : (p : ℕ) → Below (p + 2) → referenceOn c p ≡ referenceOn b p
-  referenceOn-same p h = rw (agree p (omega arith), agree (p + 1) (omega arith))
+  referenceOn-same : (p : ℕ) → Below (p + referenceSize) → referenceOn c p ≡ referenceOn b p
+  referenceOn-same p h = rw (head-big p trackNumberSize (omega arith), head-big (p + toOffset) trackNumberSize (omega arith))
 
   references-same : references c ≡ references b
   unfolding references
@@ -123,44 +125,40 @@ module _ (b c : List ℕ) (same : length c ≡ length b) (agree : (q : ℕ) → 
 
   -- section three
   entryCount-same : entryCount c ≡ entryCount b
-  entryCount-same = rw samplesAt-same (head-big (samplesAt b) 2 (let y = samples-before in omega arith))
+  entryCount-same = rw samplesAt-same (head-big (samplesAt b) sampleCountSize (let y = samples-before in omega arith))
 
-  samplePlaces-same : samplePlaces c ≡ samplePlaces b
-  samplePlaces-same = rw (entryCount-same, samplesAt-same)
+  byteCountAt-same : byteCountAt c ≡ byteCountAt b
+  unfolding byteCountAt
+  byteCountAt-same = rw (entryCount-same, samplesAt-same)
 
-  bytesAt-same : bytesAt c ≡ bytesAt b
-  unfolding bytesAt
-  bytesAt-same = rw (entryCount-same, samplesAt-same)
+  entry-below : (n : ℕ) → List·Memᴰ n (entryNumbers b) → Below (entryAt b n + entrySize)
+  entry-below n m = let u = upto-from (entryCount b) n m in let y = samples-before in omega arith
 
-  entry-below : (p : ℕ) → List·Memᴰ p (samplePlaces b) → Below (p + 13)
-  entry-below p m =
-      let e = entries-end (λ q. q + 13) (λ q. omega arith) (entryCount b) (entriesAt b) p m in
-      let f = skip-stride 13 (entryCount b) (entriesAt b) in
-      let y = samples-before in omega arith
+  entryOn-same : (p : ℕ) → Below (p + entrySize) → entryOn c p ≡ entryOn b p
+  entryOn-same p h = rw (head-big p trackNumberSize (omega arith), head-big (p + timeOffset) timeSize (omega arith))
 
-  entryFault-same : (p : ℕ) → Below (p + 13) → entryFault c p ≡ entryFault b p
-  unfolding entryFault orderFault noSuchTrack
-  entryFault-same p h = rw (trackCount-same, samplesAt-same, agree p (omega arith), head-big (p + 1) 8 (omega arith), agree (p - 13) (omega arith), head-big (p - 13 + 1) 8 (omega arith), same)
-
-  entryOn-same : (p : ℕ) → Below (p + 13) → entryOn c p ≡ entryOn b p
-  entryOn-same p h = rw (agree p (omega arith), head-big (p + 1) 8 (omega arith))
+  entryFault-same : (n : ℕ) → List·Memᴰ n (entryNumbers b) → entryFault c n ≡ entryFault b n
+  unfolding entryFault noSuchTrack
+  entryFault-same n m =
+      let h = entry-below n m in
+      rw (samplesAt-same, trackCount-same, entryOn-same (entryAt b n) h, entryOn-same (entryAt b (n - 1)) (omega arith), head-big (entryAt b n) trackNumberSize (omega arith), same)
 
   sampleEntries-same : sampleEntries c ≡ sampleEntries b
   unfolding sampleEntries
-  sampleEntries-same = ap (map (entryOn c)) samplePlaces-same ∙ map-cong (entryOn c) (entryOn b) (samplePlaces b) (λ p m. entryOn-same p (entry-below p m))
+  sampleEntries-same = rw (entryCount-same, samplesAt-same) (map-cong (λ n. entryOn c (entryAt b n)) (λ n. entryOn b (entryAt b n)) (entryNumbers b) (λ n m. entryOn-same (entryAt b n) (entry-below n m)))
 
   pub lengths-same : lengths c ≡ lengths b
   unfolding lengths
-  lengths-same = ap (map (long c)) samplePlaces-same ∙ map-cong (long c) (long b) (samplePlaces b) (λ p m. let h = entry-below p m in head-big (p + 9) 4 (omega arith))
+  lengths-same = rw (entryCount-same, samplesAt-same) (map-cong (λ n. lengthAt c (entryAt b n)) (λ n. lengthAt b (entryAt b n)) (entryNumbers b) (λ n m. let h = entry-below n m in head-big (entryAt b n + lengthOffset) sampleLengthSize (omega arith)))
 
   pub layout-same : layoutOf c ≡ layoutOf b
   unfolding layoutOf
   layout-same = rw (tracks-same, references-same, sampleEntries-same)
 
   -- section four, and the verdicts
-  endFault-same : endFault c (bytesAt b) (sum (lengths b)) ≡ endFault b (bytesAt b) (sum (lengths b))
+  endFault-same : endFault c (byteCountAt b) (sum (lengths b)) ≡ endFault b (byteCountAt b) (sum (lengths b))
   unfolding endFault
-  endFault-same = rw (head-big (bytesAt b) 4 (omega arith), same)
+  endFault-same = rw (head-big (byteCountAt b) byteCountSize (omega arith), same)
 
   count-same : {p : ℕ} (q n least most : ℕ) → p ≡ q → Below (q + n) → countFault c p n least most atPlace p ≡ countFault b q n least most atPlace q
   unfolding countFault
@@ -171,19 +169,20 @@ module _ (b c : List ℕ) (same : length c ≡ length b) (agree : (q : ℕ) → 
 
   tracksVerdict-same : tracksVerdict c ≡ tracksVerdict b
   unfolding tracksVerdict
-  tracksVerdict-same = ap₂ _andThen_ (count-same 0 1 1 trackMost refl (let f = first-entry in let g = references-below in omega arith)) (walk trackFault trackPlaces-same (λ p m. trackFault-same p (track-below p m)))
+  tracksVerdict-same = ap₂ _andThen_ (count-same 0 trackCountSize trackLeast trackMost refl (let f = first-entry in let g = references-below in omega arith)) (walk trackFault trackPlaces-same (λ p m. trackFault-same p (track-below p m)))
 
   referencesVerdict-same : referencesVerdict c ≡ referencesVerdict b
   unfolding referencesVerdict
-  referencesVerdict-same = ap₂ _andThen_ (count-same (referencesAt b) 1 0 referenceMost referencesAt-same references-below) (walk referenceFault referencePlaces-same (λ p m. referenceFault-same p (reference-below p m)))
+  referencesVerdict-same = ap₂ _andThen_ (count-same (referencesAt b) referenceCountSize 0 referenceMost referencesAt-same references-below) (walk referenceFault referencePlaces-same (λ p m. referenceFault-same p (reference-below p m)))
 
   samplesVerdict-same : samplesVerdict c ≡ samplesVerdict b
   unfolding samplesVerdict
-  samplesVerdict-same = ap₂ _andThen_ (count-same (samplesAt b) 2 0 sampleMost samplesAt-same (let y = samples-before in omega arith)) (walk entryFault samplePlaces-same (λ p m. entryFault-same p (entry-below p m)))
+  samplesVerdict-same = ap₂ _andThen_ (count-same (samplesAt b) sampleCountSize 0 sampleMost samplesAt-same (let y = samples-before in omega arith))
+      (rw (entryCount-same, samplesAt-same) (first-cong (λ n. entryFault c n atPlace entryAt b n) (λ n. entryFault b n atPlace entryAt b n) (entryNumbers b) (λ n m. rw (entryFault-same n m))))
 
   bytesVerdict-same : bytesVerdict c ≡ bytesVerdict b
   unfolding bytesVerdict
-  bytesVerdict-same = rw (lengths-same, bytesAt-same, endFault-same)
+  bytesVerdict-same = rw (lengths-same, byteCountAt-same, endFault-same)
 
   pub verdict-same : bundleVerdict c ≡ bundleVerdict b
   unfolding bundleVerdict
@@ -213,7 +212,7 @@ module _ (b : List ℕ) (n : ℕ) (new : List ℕ) (good : bundleVerdict b ≡ o
   verdict-kept = verdict-same b c same-length agree-below ∙ good
 
   contents-same : cuts c (lengths c) (contentsAt c) ≡ set (cuts b (lengths b) (contentsAt b)) n new
-  contents-same = rw (lengths-same b c same-length agree-below, bytesAt-same b c same-length agree-below)
+  contents-same = rw (lengths-same b c same-length agree-below, byteCountAt-same b c same-length agree-below)
       (cuts-splice b new (lengths b) (contentsAt b) n _ at-content (let a = ends in omega arith) is long)
 
   recording-same : recordingOf c ≡ replaced (recordingOf b) (suc n) new
@@ -225,7 +224,7 @@ count-is : (b : List ℕ) → sampleCount (recordingOf b .layout) ≡ length (le
 unfolding recordingOf layoutOf
 count-is b = sample-count b ∙ sym (lengths-count b)
 
-length-is : (b : List ℕ) (n : ℕ) → bundleVerdict b ≡ ok tt → n < length (lengths b) → length (contentOf (recordingOf b) (suc n)) ≡ getD (lengths b) n 0
+pub length-is : (b : List ℕ) (n : ℕ) → bundleVerdict b ≡ ok tt → n < length (lengths b) → length (contentOf (recordingOf b) (suc n)) ≡ getD (lengths b) n 0
 unfolding recordingOf nth
 length-is b n e h = cuts-lengths b (lengths b) (contentsAt b) n (let a = accepted b e .bytes .end in omega arith) h
 

@@ -2,6 +2,7 @@
 --
 --   Recordings   what a bundle means: tracks, references, samples with their bytes
 --   Limits       the limits, and refusals 2 and 3
+--   Fields       the sizes of the fields
 --   Tracks       section one
 --   References   section two
 --   Samples      section three
@@ -11,6 +12,7 @@
 --   Answers      what the code's answers say
 pub mod Recordings
 pub mod Limits
+pub mod Fields
 pub mod Tracks
 pub mod References
 pub mod Samples

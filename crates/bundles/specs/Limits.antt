@@ -11,7 +11,10 @@ use Rattle.words.specs.Bytes.{big}
 abbrev pub bundleMost : ℕ
 bundleMost = 16777216
 
--- the most tracks; there is at least 1
+-- the fewest and the most tracks
+abbrev pub trackLeast : ℕ
+trackLeast = 1
+
 abbrev pub trackMost : ℕ
 trackMost = 16
 

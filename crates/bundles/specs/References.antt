@@ -1,4 +1,4 @@
--- Section two of a bundle b: references (01, 'The bundle', 2). The count in 1 byte; each: from-track, to-track, 1 byte each.
+-- Section two of a bundle b: references (01, 'The bundle', 2). The count; each: from-track, to-track.
 use Prim.Native.Nat.{ℕ, _+_, _*_}
 use mathlib.Core.List.{List, map}
 use mathlib.Core.Bool.{Bool, _||_, not}
@@ -7,21 +7,22 @@ use Rattle.words.specs.RefusalNumbers.{badReference}
 use Rattle.words.specs.Refusals.{_if_, _orElse_, Verdict, _andThen_, _atPlace_, first}
 use Rattle.words.specs.Lists.{nth}
 use Rattle.words.specs.Walks.{entries}
-use Rattle.words.specs.Bytes.{byteAt, big}
+use Rattle.words.specs.Bytes.{big}
 use Rattle.numbers.specs.Sizes.{inBytes}
 use Rattle.bundles.specs.Limits.{cut, countFault, referenceMost}
+use Rattle.bundles.specs.Fields.{referenceCountSize, trackNumberSize, toOffset, referenceSize}
 use Rattle.bundles.specs.Recordings.{Track, Reference, noTrack}
 use Rattle.bundles.specs.Tracks.{trackCount, tracks, referencesAt}
 
 module _ (b : List ℕ) where
   abbrev pub referenceCount : ℕ
-  referenceCount = big b (referencesAt b) 1
+  referenceCount = big b (referencesAt b) referenceCountSize
 
   abbrev pub from : ℕ → ℕ
-  from p = byteAt b p
+  from p = big b p trackNumberSize
 
   abbrev pub to : ℕ → ℕ
-  to p = byteAt b (p + 1)
+  to p = big b (p + toOffset) trackNumberSize
 
   unfoldable pub noSuchTrack : ℕ → Bool
   noSuchTrack k = (k ≡? 0) || (trackCount b <? k)
@@ -33,17 +34,19 @@ module _ (b : List ℕ) where
   -- 5: both tracks exist, differ, and have the same L
   unfoldable pub referenceFault : ℕ → ℕ
   referenceFault p =
-      cut b p 2 orElse
+      cut b p referenceSize orElse
       badReference if noSuchTrack (from p) orElse
       badReference if noSuchTrack (to p) orElse
       badReference if from p ≡? to p orElse
       badReference if not (lengthSizeOn (from p) ≡? lengthSizeOn (to p))
 
   abbrev pub referencePlaces : List ℕ
-  referencePlaces = entries (λ p. p + 2) referenceCount (referencesAt b + 1)
+  referencePlaces = entries (λ p. p + referenceSize) referenceCount (referencesAt b + referenceCountSize)
 
   unfoldable pub referencesVerdict : Verdict
-  referencesVerdict = countFault b (referencesAt b) 1 0 referenceMost atPlace referencesAt b andThen first (λ p. referenceFault p atPlace p) referencePlaces
+  referencesVerdict =
+      countFault b (referencesAt b) referenceCountSize 0 referenceMost atPlace referencesAt b
+      andThen first (λ p. referenceFault p atPlace p) referencePlaces
 
   abbrev pub referenceOn : ℕ → Reference
   referenceOn p = record { from = from p; to = to p }
@@ -53,4 +56,4 @@ module _ (b : List ℕ) where
 
   -- where section three starts
   unfoldable pub samplesAt : ℕ
-  samplesAt = referencesAt b + 1 + referenceCount * 2
+  samplesAt = referencesAt b + referenceCountSize + referenceCount * referenceSize

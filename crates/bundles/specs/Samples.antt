@@ -1,62 +1,70 @@
--- Section three of a bundle b: samples (01, 'The bundle', 3). The count in 2 bytes; each: track (1 byte), decode time (8), length (4).
+-- Section three of a bundle b: samples (01, 'The bundle', 3). The count; each: track, decode time, length.
+-- Entries have one size and are numbered from 1: entry n is sample n's. An entry is judged beside the one before it.
 use Prim.Native.Nat.{ℕ, _+_, _-_, _*_}
 use mathlib.Core.List.{List, map}
 use mathlib.Core.Bool.{Bool, _&&_}
 use Rattle.words.specs.Tests.{_<?_, _≤?_, _≡?_, pick}
 use Rattle.words.specs.RefusalNumbers.{badTrackOrTime}
 use Rattle.words.specs.Refusals.{_if_, _orElse_, Verdict, _andThen_, _atPlace_, first}
-use Rattle.words.specs.Walks.{entries}
-use Rattle.words.specs.Bytes.{byteAt, big}
+use Rattle.words.specs.Lists.{upto}
+use Rattle.words.specs.Bytes.{big}
 use Rattle.bundles.specs.Limits.{cut, countFault, sampleMost}
+use Rattle.bundles.specs.Fields.{trackNumberSize, sampleCountSize, timeSize, sampleLengthSize, timeOffset, lengthOffset, entrySize}
 use Rattle.bundles.specs.Recordings.{Entry}
 use Rattle.bundles.specs.References.{noSuchTrack, samplesAt}
 
+-- 6: after the entry e, the entry f has no lower track, and in the same track a later time
+unfoldable pub orderFault : Entry → Entry → ℕ
+orderFault e f =
+    badTrackOrTime if (f .track) <? (e .track) orElse
+    badTrackOrTime if ((f .track) ≡? (e .track)) && ((f .time) ≤? (e .time))
+
 module _ (b : List ℕ) where
   abbrev pub entryCount : ℕ
-  entryCount = big b (samplesAt b) 2
+  entryCount = big b (samplesAt b) sampleCountSize
 
-  -- where the first entry stands
+  -- where the first entry stands, and entry n
   abbrev pub entriesAt : ℕ
-  entriesAt = samplesAt b + 2
+  entriesAt = samplesAt b + sampleCountSize
 
+  abbrev pub entryAt : ℕ → ℕ
+  entryAt n = entriesAt + (n - 1) * entrySize
+
+  -- what the entry at p says
   abbrev pub track : ℕ → ℕ
-  track p = byteAt b p
+  track p = big b p trackNumberSize
 
   abbrev pub time : ℕ → ℕ
-  time p = big b (p + 1) 8
+  time p = big b (p + timeOffset) timeSize
 
-  abbrev pub long : ℕ → ℕ
-  long p = big b (p + 9) 4
-
-  -- 6: after the entry at q, the one at p has no lower track, and in the same track a later time
-  unfoldable pub orderFault : ℕ → ℕ → ℕ
-  orderFault q p =
-      badTrackOrTime if track p <? track q orElse
-      badTrackOrTime if (track p ≡? track q) && (time p ≤? time q)
-
-  -- Entries are 13 bytes; the first has none before it.
-  unfoldable pub entryFault : ℕ → ℕ
-  entryFault p =
-      cut b p 13 orElse
-      badTrackOrTime if noSuchTrack b (track p) orElse
-      pick (p <? entriesAt + 13) 0 (orderFault (p - 13) p)
-
-  abbrev pub samplePlaces : List ℕ
-  samplePlaces = entries (λ p. p + 13) entryCount entriesAt
-
-  unfoldable pub samplesVerdict : Verdict
-  samplesVerdict = countFault b (samplesAt b) 2 0 sampleMost atPlace samplesAt b andThen first (λ p. entryFault p atPlace p) samplePlaces
+  abbrev pub lengthAt : ℕ → ℕ
+  lengthAt p = big b (p + lengthOffset) sampleLengthSize
 
   abbrev pub entryOn : ℕ → Entry
   entryOn p = record { track = track p; time = time p }
 
+  -- Entry n is there (2), its track exists, and it comes after entry n - 1 (6); the first has none before it.
+  unfoldable pub entryFault : ℕ → ℕ
+  entryFault n =
+      cut b (entryAt n) entrySize orElse
+      badTrackOrTime if noSuchTrack b (track (entryAt n)) orElse
+      pick (n ≡? 1) 0 (orderFault (entryOn (entryAt (n - 1))) (entryOn (entryAt n)))
+
+  abbrev pub entryNumbers : List ℕ
+  entryNumbers = upto entryCount
+
+  unfoldable pub samplesVerdict : Verdict
+  samplesVerdict =
+      countFault b (samplesAt b) sampleCountSize 0 sampleMost atPlace samplesAt b
+      andThen first (λ n. entryFault n atPlace entryAt n) entryNumbers
+
   -- what the entries say, and the samples' lengths
   unfoldable pub sampleEntries : List Entry
-  sampleEntries = map entryOn samplePlaces
+  sampleEntries = map (λ n. entryOn (entryAt n)) entryNumbers
 
   unfoldable pub lengths : List ℕ
-  lengths = map long samplePlaces
+  lengths = map (λ n. lengthAt (entryAt n)) entryNumbers
 
   -- where section four starts
-  unfoldable pub bytesAt : ℕ
-  bytesAt = entriesAt + entryCount * 13
+  unfoldable pub byteCountAt : ℕ
+  byteCountAt = entriesAt + entryCount * entrySize

@@ -11,7 +11,7 @@ use Rattle.bundles.specs.declared.Section.{Section}
 use Rattle.bundles.specs.declared.Section.the-variants.{Refused, Ended}
 
 -- sizes holds at k the length size of track k
-pub record Sizes (b sizes : List ℕ) : Type 0 where
+pub record LengthSizes (b sizes : List ℕ) : Type 0 where
   pub at : (k : ℕ) → 0 < k → k ≤ trackCount b → byteAt sizes k ≡ lengthSizeOn b k
 
 -- what was read of the track entry at p
@@ -27,4 +27,4 @@ sectionOf (Ended n) = ok n
 -- section one: the answer, and the length sizes of an accepted one
 pub record TracksChecked (b : List ℕ) (r : Section) (sizes : List ℕ) : Type 0 where
   pub answer : sectionOf r ≡ (tracksVerdict b andThen ok (referencesAt b))
-  pub kept : tracksVerdict b ≡ ok tt → Sizes b sizes
+  pub kept : tracksVerdict b ≡ ok tt → LengthSizes b sizes

@@ -1,4 +1,4 @@
--- Section one of a bundle b: tracks (01, 'The bundle', 1). The count in 1 byte; each: kind in 1 byte, record length in 2 bytes, the record.
+-- Section one of a bundle b: tracks (01, 'The bundle', 1). The count; each: kind, record length, the record.
 -- A place p is where an entry starts. Places do not stop at faults: the first refusal is what counts, and what lies behind it has no use.
 use Prim.Native.Nat.{ℕ, _+_}
 use mathlib.Core.List.{List, map}
@@ -16,7 +16,8 @@ use Rattle.numbers.specs.declared.LengthSize.{LengthSize}
 use Rattle.numbers.specs.declared.LengthSize.the-variants.{One}
 use Rattle.numbers.specs.declared.MaybeLengthSize as M
 use Rattle.records.specs.Read.{recordFault, lengthSize}
-use Rattle.bundles.specs.Limits.{cut, countFault, trackMost}
+use Rattle.bundles.specs.Limits.{cut, countFault, trackLeast, trackMost}
+use Rattle.bundles.specs.Fields.{trackCountSize, recordLengthSize, recordLengthOffset, trackHeadSize}
 use Rattle.bundles.specs.Recordings.{Track}
 
 -- the kind and the length size that a number says; a number that says none is refused (4, 11) wherever this matters
@@ -28,43 +29,49 @@ abbrev pub knownSize : M.MaybeLengthSize → LengthSize
 knownSize (M.the-variants.Known l) = l
 knownSize M.the-variants.Unknown = One
 
--- 4: unknown kind; else the record's own refusal, 8 to 13
+-- 4: unknown kind; else the record's own refusal
 abbrev pub recordFaultAs : MaybeKind → List ℕ → ℕ
 recordFaultAs (Known k) s = recordFault k s
 recordFaultAs Unknown s = unknownKind
 
 module _ (b : List ℕ) where
   abbrev pub trackCount : ℕ
-  trackCount = big b 0 1
+  trackCount = big b 0 trackCountSize
 
-  abbrev pub recordSize : ℕ → ℕ
-  recordSize p = big b (p + 1) 2
+  -- where the first entry stands
+  abbrev pub tracksAt : ℕ
+  tracksAt = trackCountSize
+
+  abbrev pub recordLength : ℕ → ℕ
+  recordLength p = big b (p + recordLengthOffset) recordLengthSize
 
   abbrev pub trackEnd : ℕ → ℕ
-  trackEnd p = p + 3 + recordSize p
+  trackEnd p = p + trackHeadSize + recordLength p
 
   abbrev pub kindAt : ℕ → MaybeKind
   kindAt p = kindOf (byteAt b p)
 
   abbrev pub recordAt : ℕ → List ℕ
-  recordAt p = part b (p + 3) (recordSize p)
+  recordAt p = part b (p + trackHeadSize) (recordLength p)
 
   -- L as a number
   unfoldable pub sizeAt : ℕ → ℕ
   sizeAt p = lengthSize (knownKind (kindAt p)) (recordAt p)
 
-  -- the whole entry is there (2) before 4 and its record's 8 to 13
+  -- the whole entry is there (2) before 4 and its record's refusals
   unfoldable pub trackFault : ℕ → ℕ
   trackFault p =
-      cut b p 3 orElse
-      cut b (p + 3) (recordSize p) orElse
+      cut b p trackHeadSize orElse
+      cut b (p + trackHeadSize) (recordLength p) orElse
       recordFaultAs (kindAt p) (recordAt p)
 
   abbrev pub trackPlaces : List ℕ
-  trackPlaces = entries trackEnd trackCount 1
+  trackPlaces = entries trackEnd trackCount tracksAt
 
   unfoldable pub tracksVerdict : Verdict
-  tracksVerdict = countFault b 0 1 1 trackMost atPlace 0 andThen first (λ p. trackFault p atPlace p) trackPlaces
+  tracksVerdict =
+      countFault b 0 trackCountSize trackLeast trackMost atPlace 0
+      andThen first (λ p. trackFault p atPlace p) trackPlaces
 
   abbrev pub trackOn : ℕ → Track
   trackOn p = record { kind = knownKind (kindAt p); lengthSize = knownSize (lengthSizeOf (sizeAt p)) }
@@ -74,4 +81,4 @@ module _ (b : List ℕ) where
 
   -- where section two starts
   unfoldable pub referencesAt : ℕ
-  referencesAt = skip trackEnd trackCount 1
+  referencesAt = skip trackEnd trackCount tracksAt

@@ -1,4 +1,4 @@
-// The bundle: accepted, or refused with 1 to 13. Section four is not read, but for its count.
+// The bundle: accepted, or refused. Section four is not read, but for its count.
 ghost use mathlib.Core.Path.{_≡_};
 ghost use Prim.Native.Nat.{_+_, _≤_, _<_};
 ghost use lib.ListN.{length};
@@ -6,13 +6,14 @@ ghost use Rattle.words.specs.Tests.{_<?_};
 ghost use Rattle.words.specs.Refusals.{ok, _andThen_, _atPlace_};
 ghost use Rattle.words.specs.Lists.{sum};
 ghost use Rattle.records.specs.Read.{recordFault, lengthSize};
-ghost use Rattle.bundles.specs.Limits.{countFault};
+ghost use Rattle.bundles.specs.Limits.{countFault, trackMost};
+ghost use Rattle.bundles.specs.Fields.{entrySize};
 ghost use Rattle.bundles.specs.Tracks.{tracksVerdict, referencesAt};
 ghost use Rattle.bundles.specs.References.{noSuchTrack, referenceFault, referencesVerdict, samplesAt};
-ghost use Rattle.bundles.specs.Samples.{entriesAt, long, orderFault, entryFault, lengths, samplesVerdict};
+ghost use Rattle.bundles.specs.Samples.{entryAt, time, lengthAt, entryOn, orderFault, entryFault, lengths, samplesVerdict};
 ghost use Rattle.bundles.specs.Bundles.{endFault, bytesVerdict, bundleVerdict};
 ghost use Rattle.bundles.specs.Answers.{answerOf};
-ghost use Rattle.bundles.specs.Steps.{Sizes, ReadTrack, TracksChecked, sectionOf};
+ghost use Rattle.bundles.specs.Steps.{LengthSizes, ReadTrack, TracksChecked, sectionOf};
 use numbers::ByteOffset;
 use numbers::Kind;
 use numbers::MaybeKind;
@@ -20,14 +21,21 @@ use numbers::Refusal;
 use numbers::refusals;
 use records::Reading;
 
-// The most bytes, tracks, references and samples of a bundle.
+pub mod fields;
+
+// The most bytes of a bundle; the fewest and the most tracks, the most references and samples.
 pub const BUNDLE_MOST: usize = 16777216;
 
-const TRACK_MOST: usize = 16;
+const TRACK_LEAST: usize = 1;
 
-const REFERENCE_MOST: usize = 64;
+pub const TRACK_MOST: usize = 16;
 
-const SAMPLE_MOST: usize = 4096;
+pub const REFERENCE_MOST: usize = 64;
+
+pub const SAMPLE_MOST: usize = 4096;
+
+// A length size for each track number, from 0 on.
+const SIZES: usize = TRACK_MOST + 1;
 
 // What a check of a bundle answers.
 pub enum Checked {
@@ -92,27 +100,37 @@ fn no_such_track(b: &[u8], k: usize) -> bool
     if k == 0 {
         return true;
     }
-    numbers::number(b, 0, 1) < k
+    numbers::number(b, 0, fields::TRACK_COUNT_SIZE) < k
+}
+
+// The decode time that a sample's entry says.
+fn sample_time(b: &[u8], at: usize) -> usize
+    requires { ⌜ at + entrySize ≤ length (now b) ⌝ }
+    ensures { λ r. ⌜ r ≡ time (now (b .entry)) at ⌝ }
+{
+    numbers::number(b, at + fields::TIME_OFFSET, fields::TIME_SIZE)
 }
 
 // The length that a sample's entry says.
 fn sample_length(b: &[u8], at: usize) -> usize
-    requires { ⌜ at + 13 ≤ length (now b) ⌝ }
-    ensures { λ r. ⌜ (r ≡ long (now (b .entry)) at) × (r < 4294967296) ⌝ }
+    requires { ⌜ at + entrySize ≤ length (now b) ⌝ }
+    ensures { λ r. ⌜ (r ≡ lengthAt (now (b .entry)) at) × (r < 4294967296) ⌝ }
 {
-    numbers::number(b, at + 9, 4)
+    numbers::number(b, at + fields::LENGTH_OFFSET, fields::SAMPLE_LENGTH_SIZE)
 }
 
 // The refusal of a sample's entry after the entry before it: 6, or 0 for none.
 fn order_fault(b: &[u8], before: usize, at: usize) -> u8
-    requires { ⌜ (before + 13 ≤ length (now b)) × (at + 13 ≤ length (now b)) ⌝ }
-    ensures { λ r. ⌜ r ≡ orderFault (now (b .entry)) before at ⌝ }
+    requires { ⌜ (before + entrySize ≤ length (now b)) × (at + entrySize ≤ length (now b)) ⌝ }
+    ensures { λ r. ⌜ r ≡ orderFault (entryOn (now (b .entry)) before) (entryOn (now (b .entry)) at) ⌝ }
 {
-    if b[at] < b[before] {
+    let earlier = numbers::number(b, before, fields::TRACK_NUMBER_SIZE);
+    let track = numbers::number(b, at, fields::TRACK_NUMBER_SIZE);
+    if track < earlier {
         return refusals::BAD_TRACK_OR_TIME;
     }
-    if b[at] == b[before] {
-        if numbers::number(b, at + 1, 8) <= numbers::number(b, before + 1, 8) {
+    if track == earlier {
+        if sample_time(b, at) <= sample_time(b, before) {
             return refusals::BAD_TRACK_OR_TIME;
         }
     }
@@ -123,14 +141,14 @@ fn order_fault(b: &[u8], before: usize, at: usize) -> u8
 fn end_fault(b: &[u8], at: usize, total: usize) -> u8
     ensures { λ r. ⌜ r ≡ endFault (now (b .entry)) at total ⌝ }
 {
-    if cut(b, at, 4) {
+    if cut(b, at, fields::BYTE_COUNT_SIZE) {
         return refusals::BUNDLE_CUT;
     }
-    let n = numbers::number(b, at, 4);
+    let n = numbers::number(b, at, fields::BYTE_COUNT_SIZE);
     if n != total {
         return refusals::BAD_BYTE_COUNT;
     }
-    let rest = b.len() - at - 4;
+    let rest = b.len() - at - fields::BYTE_COUNT_SIZE;
     if rest < n {
         return refusals::BUNDLE_CUT;
     }
@@ -142,14 +160,14 @@ fn end_fault(b: &[u8], at: usize, total: usize) -> u8
 
 // The refusal of the reference at a place: 2, 5, or 0 for none.
 fn reference_fault(b: &[u8], sizes: &[u8], at: usize) -> u8
-    requires { ⌜ Sizes (now b) (now sizes) ⌝ }
+    requires { ⌜ LengthSizes (now b) (now sizes) ⌝ }
     ensures { λ r. ⌜ r ≡ referenceFault (now (b .entry)) at ⌝ }
 {
-    if cut(b, at, 2) {
+    if cut(b, at, fields::REFERENCE_SIZE) {
         return refusals::BUNDLE_CUT;
     }
-    let from = numbers::number(b, at, 1);
-    let to = numbers::number(b, at + 1, 1);
+    let from = numbers::number(b, at, fields::TRACK_NUMBER_SIZE);
+    let to = numbers::number(b, at + fields::TO_OFFSET, fields::TRACK_NUMBER_SIZE);
     if no_such_track(b, from) {
         return refusals::BAD_REFERENCE;
     }
@@ -165,41 +183,41 @@ fn reference_fault(b: &[u8], sizes: &[u8], at: usize) -> u8
     0
 }
 
-// The refusal of the sample's entry at a place, where the first one stands at start: 2, 6, or 0 for none.
-fn entry_fault(b: &[u8], start: usize, at: usize) -> u8
-    requires { ⌜ (start ≡ entriesAt (now b)) × (start ≤ at) ⌝ }
-    ensures { λ r. ⌜ r ≡ entryFault (now (b .entry)) at ⌝ }
+// The refusal of entry n, at its place: 2, 6, or 0 for none.
+fn entry_fault(b: &[u8], n: usize, at: usize) -> u8
+    requires { ⌜ (0 < n) × (at ≡ entryAt (now b) n) ⌝ }
+    ensures { λ r. ⌜ r ≡ entryFault (now (b .entry)) n ⌝ }
 {
-    if cut(b, at, 13) {
+    if cut(b, at, fields::ENTRY_SIZE) {
         return refusals::BUNDLE_CUT;
     }
-    if no_such_track(b, numbers::number(b, at, 1)) {
+    if no_such_track(b, numbers::number(b, at, fields::TRACK_NUMBER_SIZE)) {
         return refusals::BAD_TRACK_OR_TIME;
     }
-    if at - start < 13 {
+    if n == 1 {
         return 0;
     }
-    order_fault(b, at - 13, at)
+    order_fault(b, at - fields::ENTRY_SIZE, at)
 }
 
 // Section two, at its place.
 fn check_references(b: &[u8], sizes: &[u8], at: usize) -> Section
-    requires { ⌜ (at ≡ referencesAt (now b)) × Sizes (now b) (now sizes) ⌝ }
+    requires { ⌜ (at ≡ referencesAt (now b)) × LengthSizes (now b) (now sizes) ⌝ }
     ensures { λ r. ⌜ sectionOf r ≡ (referencesVerdict (now (b .entry)) andThen ok (samplesAt (now (b .entry)))) ⌝ }
 {
-    let fault = count_fault(b, at, 1, 0, REFERENCE_MOST);
+    let fault = count_fault(b, at, fields::REFERENCE_COUNT_SIZE, 0, REFERENCE_MOST);
     if fault != 0 {
         return refuse(fault, at);
     }
-    let n = numbers::number(b, at, 1);
-    let mut p = at + 1;
+    let n = numbers::number(b, at, fields::REFERENCE_COUNT_SIZE);
+    let mut p = at + fields::REFERENCE_COUNT_SIZE;
     let mut i: usize = 0;
     while i < n {
         let fault = reference_fault(b, sizes, p);
         if fault != 0 {
             return refuse(fault, p);
         }
-        p += 2;
+        p += fields::REFERENCE_SIZE;
         i += 1;
     }
     Section::Ended(p)
@@ -210,22 +228,21 @@ fn check_samples(b: &[u8], at: usize) -> Section
     requires { ⌜ at ≡ samplesAt (now b) ⌝ }
     ensures { λ r. ⌜ sectionOf r ≡ (samplesVerdict (now (b .entry)) andThen ok (sum (lengths (now (b .entry))))) ⌝ }
 {
-    let fault = count_fault(b, at, 2, 0, SAMPLE_MOST);
+    let fault = count_fault(b, at, fields::SAMPLE_COUNT_SIZE, 0, SAMPLE_MOST);
     if fault != 0 {
         return refuse(fault, at);
     }
-    let n = numbers::number(b, at, 2);
-    let start = at + 2;
-    let mut p = start;
+    let n = numbers::number(b, at, fields::SAMPLE_COUNT_SIZE);
+    let mut p = at + fields::SAMPLE_COUNT_SIZE;
     let mut total: usize = 0;
     let mut i: usize = 0;
     while i < n {
-        let fault = entry_fault(b, start, p);
+        let fault = entry_fault(b, i + 1, p);
         if fault != 0 {
             return refuse(fault, p);
         }
         total += sample_length(b, p);
-        p += 13;
+        p += fields::ENTRY_SIZE;
         i += 1;
     }
     Section::Ended(total)
@@ -256,15 +273,19 @@ fn read_record(k: Kind, s: &[u8], end: usize) -> TrackRead
 fn read_track(b: &[u8], at: usize) -> TrackRead
     ensures { λ r. ⌜ ReadTrack (now (b .entry)) at r ⌝ }
 {
-    if cut(b, at, 3) {
+    if cut(b, at, fields::TRACK_HEAD_SIZE) {
         return TrackRead {
             fault: refusals::BUNDLE_CUT,
             size: 0,
             end: at,
         };
     }
-    let n = numbers::number(b, at + 1, 2);
-    let start = at + 3;
+    let n = numbers::number(
+        b,
+        at + fields::RECORD_LENGTH_OFFSET,
+        fields::RECORD_LENGTH_SIZE,
+    );
+    let start = at + fields::TRACK_HEAD_SIZE;
     if cut(b, start, n) {
         return TrackRead {
             fault: refusals::BUNDLE_CUT,
@@ -286,15 +307,15 @@ fn read_track(b: &[u8], at: usize) -> TrackRead
 
 // Section one: where it ends. The length size of track k is put at k of sizes.
 fn check_tracks(b: &[u8], sizes: &mut [u8]) -> Section
-    requires { ⌜ length (now sizes) ≡ 17 ⌝ }
+    requires { ⌜ length (now sizes) ≡ trackMost + 1 ⌝ }
     ensures { λ r. ⌜ TracksChecked (now (b .entry)) r (now (sizes .exit)) ⌝ }
 {
-    let fault = count_fault(b, 0, 1, 1, TRACK_MOST);
+    let fault = count_fault(b, 0, fields::TRACK_COUNT_SIZE, TRACK_LEAST, TRACK_MOST);
     if fault != 0 {
         return refuse(fault, 0);
     }
-    let n = numbers::number(b, 0, 1);
-    let mut p: usize = 1;
+    let n = numbers::number(b, 0, fields::TRACK_COUNT_SIZE);
+    let mut p = fields::TRACK_COUNT_SIZE;
     let mut i: usize = 0;
     while i < n {
         let t = read_track(b, p);
@@ -329,13 +350,20 @@ fn check_contents(b: &[u8], at: usize) -> Checked
 {
     match check_samples(b, at) {
         Section::Refused(r) => Checked::Refused(r),
-        Section::Ended(total) => check_bytes(b, at + 2 + numbers::number(b, at, 2) * 13, total),
+        Section::Ended(total) => {
+            let n = numbers::number(b, at, fields::SAMPLE_COUNT_SIZE);
+            check_bytes(
+                b,
+                at + fields::SAMPLE_COUNT_SIZE + n * fields::ENTRY_SIZE,
+                total,
+            )
+        },
     }
 }
 
 // Sections two to four, at their place.
 fn check_after_tracks(b: &[u8], sizes: &[u8], at: usize) -> Checked
-    requires { ⌜ (at ≡ referencesAt (now b)) × Sizes (now b) (now sizes) ⌝ }
+    requires { ⌜ (at ≡ referencesAt (now b)) × LengthSizes (now b) (now sizes) ⌝ }
     ensures { λ r. ⌜ answerOf r ≡ (referencesVerdict (now (b .entry)) andThen samplesVerdict (now (b .entry)) andThen bytesVerdict (now (b .entry))) ⌝ }
 {
     match check_references(b, sizes, at) {
@@ -354,7 +382,7 @@ pub fn check_bundle(b: &[u8]) -> Checked
             place: ByteOffset(0),
         });
     }
-    let mut sizes = [0u8; 17];
+    let mut sizes = [0u8; SIZES];
     match check_tracks(b, &mut sizes) {
         Section::Refused(r) => Checked::Refused(r),
         Section::Ended(at) => check_after_tracks(b, &sizes, at),

@@ -1,188 +1,128 @@
--- What is promised of a table t beside a bundle b. `meaning b ≡ ok r` says that b is accepted and means the recording r;
--- `tableAfter b t` is the table that `fill_table` leaves, `filling b (length t)` its answer. Assumes nothing.
+-- What is promised of a table t beside a bundle b of the first layout. `meaning b ≡ ok r` says that b is accepted and means the recording r;
+-- `tableAfter firstLayout b t` is the table that `fill_table` leaves, `filling firstLayout b (length t)` its answer. Assumes nothing.
 --
---   table-recording       a table that was filled from an accepted bundle gives its recording
+--   tabled             an accepted bundle's recording is one that a table holds
+--   table-recording    a table that was filled from an accepted bundle gives its recording
 --   table-lays-out     and says its layout
 --   table-ranges       and each track's samples
 --   table-starts       and where each sample starts in the bundle
---   table-unflagged    its flags are 0
+--   table-kept-counts    its kept counts are 0
 --   table-refused, table-no-room    a refused bundle and a table without room leave it as it was
---   table-room         16,708 numbers are enough for every accepted bundle
+--   table-room         `tableMost` numbers are enough for every accepted bundle
 --   says-refused, says-done, never-short    what the answer of filling says; with so many numbers it is never that there is no room
---   table-short, table-accepted, table-means    a table that was filled: the bundle is not too long, is accepted, and its recording is recordingIn
+--   table-short, table-accepted, table-means    a table that was filled: the bundle is not too long, is accepted, and the table gives its recording
 --   any-range          in any table, a track's range is the track's samples in the layout that the table says
---   any-flag           in any table, a flag that is set changes nothing that the table says or gives
-use Prim.Native.Nat.{ℕ, zero, suc, _+_, _-_, _*_, _≤_, _<_}
-use mathlib.Core.Path.{_≡_, refl, ap, sym, _∙_, subst}
-use mathlib.Core.Bool.{Bool, true, false}
-use mathlib.Core.List.{List}
+--   any-kept-count           in any table, a count that is kept changes nothing that the table says or gives
+use Prim.Native.Nat.{ℕ, suc, _+_, _-_, _≤_, _<_}
+use mathlib.Core.Path.{_≡_, refl, ap, sym, _∙_}
+use mathlib.Core.List.{List, []}
 use native.Mathlib.Omega.{arith}
-use native.Mathlib.Nat.{pos-of-ne-zero}
-use borrow.Author.Tests.{leb-true, le-leb, ltb-false, eqb-false, ne-eqb, le-ltb}
-use lib.Dec.{leb, ltb, eqb}
-use lib.ListN.{length}
-use Rattle.words.specs.Tests.{_≤?_, pick}
-use Rattle.words.specs.Refusals.{Answer, refused, ok, Verdict}
-use Rattle.words.proofs.Tests.{by-bool}
-use Rattle.bundles.specs.Recordings.{Layout, Recording, sampleCount, samplesIn}
-use Rattle.bundles.specs.Limits.{bundleMost}
-use Rattle.bundles.specs.Samples.{entryCount}
-use Rattle.bundles.specs.Bundles.{bundleVerdict, layoutOf, recordingOf, meaning, contentAt}
-use Rattle.bundles.proofs.Sections.{Accepted, accepted, sample-count}
-use Rattle.bundles.proofs.Promises.{means}
-use Rattle.filling.specs.declared.Filled.{Filled}
-use Rattle.filling.specs.declared.Filled.the-variants.{Refused, NoRoom, Done}
+use native.Mathlib.Numerals.{add-one}
+use borrow.Author.Tests.{le-leb}
+use lib.ListN.{length, getD, take}
+use Rattle.words.specs.Refusals.{refused, ok}
+use Rattle.words.specs.Lists.{sum}
+use Rattle.words.proofs.Refusals.{and-ok}
+use Rattle.words.proofs.Positions.{part-length}
+use Rattle.words.proofs.Splices.{take-sum}
 use Rattle.numbers.specs.declared.Refusal.{Refusal}
-use Rattle.tables.specs.Tables.{tableSize, tableMost, cell, sampleTotal, sampleRow, layoutIn, recordingIn, rangeIn, numbersIn, sampleCell, startIn, flagIn, flagged}
-use Rattle.filling.specs.Filling.{tableOf, fillAnswer, fillTable, filling, tableAfter}
-use Rattle.filling.proofs.Recording.{filled, filled-is, filled-layout, filled-recording, sample-cell, sample-total}
+use Rattle.bundles.specs.Limits.{bundleMost}
+use Rattle.bundles.specs.Recordings.{Layout, Recording, sampleCount, samplesIn}
+use Rattle.bundles.specs.Samples.{lengths}
+use Rattle.bundles.specs.Bundles.{bundleVerdict, recordingOf, meaning, contentsAt, contentAt}
+use Rattle.bundles.specs.Readers.{firstLayout}
+use Rattle.bundles.proofs.Promises.{means, limits-kept, samples-ordered, samples-tile, samples-all, sum-exact}
+use Rattle.bundles.proofs.Checking.{refused-there}
+use Rattle.tables.specs.Tables.{tableMost, layoutIn, recordingIn, rangeIn, numbersIn, startIn, inside, keptCountIn, withKeptCount}
 use Rattle.tables.proofs.Ranges.{range-samples}
-use Rattle.tables.proofs.Flags.{flagged-layout, flagged-recording}
+use Rattle.tables.proofs.KeptCounts.{kept-count-layout, kept-count-recording}
+use Rattle.filling.specs.declared.Filled.the-variants.{Refused, NoRoom, Done}
+use Rattle.filling.specs.Filling.{needed, filling, tableAfter}
+use Rattle.filling.proofs.Recording.{Tabled}
+use Rattle.filling.proofs.Reading as any
+
+-- an accepted bundle's samples lie where they start
+module _ (b : List ℕ) (r : Recording) (e : meaning b ≡ ok r) where
+  sample-ends : (i : ℕ) → i < length (lengths b) → contentAt b (suc i) + getD (lengths b) i 0 ≤ length b
+  unfolding contentAt
+  sample-ends i h =
+      let s : suc i - 1 ≡ i = omega arith in
+      let x = sum-exact b r e .1 in
+      let u = take-sum (lengths b) i h in
+      rw s (omega arith)
+
+  placed : (i : ℕ) → i < sampleCount (r .layout) → inside b (contentAt b (i + 1)) (length (getD (r .contents) i [])) ≡ getD (r .contents) i []
+  unfolding inside
+  placed i h =
+      let w = samples-tile b r e in
+      let c : i < length (r .contents) = rw (samples-all b r e) h in
+      let l : i < length (lengths b) = rw (← w .count) c in
+      let f = sample-ends i l in
+      let p = w .placed i c in
+      let n = part-length b (contentAt b (suc i)) (getD (lengths b) i 0) f in
+      rw (add-one i, p, n, le-leb (contentAt b (suc i) + getD (lengths b) i 0) (length b) f)
+
+  pub tabled : Tabled b r (contentAt b)
+  tabled = record { limits = limits-kept b r e; ordered = samples-ordered b r e; all = samples-all b r e; placed = placed }
 
 -- an accepted bundle, and room for its table
-module _ (b t : List ℕ) (r : Recording) (means-r : meaning b ≡ ok r) (done : filling b (length t) ≡ Done) where
-  good : bundleVerdict b ≡ ok tt
-  good = means b means-r .0
+module _ (b t : List ℕ) (r : Recording) (means-r : meaning b ≡ ok r) (done : filling firstLayout b (length t) ≡ Done) where
+  pub table-recording : recordingIn b (tableAfter firstLayout b t) ≡ r
+  table-recording = any.table-recording firstLayout b t r means-r (tabled b r means-r) done
 
-  fits : (x : Bool) → pick x Done (NoRoom (tableSize (entryCount b))) ≡ Done → x ≡ true
-  fits true e = refl
-  fits false e = let z : _≡_ {A = ℕ} 0 1 = cc in absurd (omega arith)
+  pub table-lays-out : layoutIn (tableAfter firstLayout b t) ≡ r .layout
+  table-lays-out = any.table-lays-out firstLayout b t r means-r (tabled b r means-r) done
 
-  answered : pick (tableSize (entryCount b) ≤? length t) Done (NoRoom (tableSize (entryCount b))) ≡ Done
-  unfolding filling
-  answered = rw good at done
+  pub table-ranges : (k : ℕ) → 0 < k → numbersIn (rangeIn (tableAfter firstLayout b t) k) ≡ samplesIn (r .layout) k
+  table-ranges = any.table-ranges firstLayout b t r means-r (tabled b r means-r) done
 
-  room : tableSize (entryCount b) ≤ length t
-  room = leb-true _ _ (fits (tableSize (entryCount b) ≤? length t) answered)
+  pub table-starts : (n : ℕ) → 0 < n → n ≤ sampleCount (r .layout) → startIn (tableAfter firstLayout b t) n ≡ contentAt b n
+  table-starts = any.table-starts firstLayout b t r means-r (tabled b r means-r) done
 
-  written : tableAfter b t ≡ tableOf b t
-  unfolding tableAfter
-  written = rw (good, le-leb (tableSize (entryCount b)) (length t) room)
-
-  pub table-recording : recordingIn b (tableAfter b t) ≡ r
-  table-recording = rw written (filled-recording b t (accepted b good) room ∙ means b means-r .1)
-
-  recording-layout : (s : List ℕ) → recordingIn b s .layout ≡ layoutIn s
-  unfolding recordingIn
-  recording-layout s = refl
-
-  pub table-lays-out : layoutIn (tableAfter b t) ≡ r .layout
-  table-lays-out = sym (recording-layout (tableAfter b t)) ∙ ap (λ s. s .layout) table-recording
-
-  pub table-ranges : (k : ℕ) → 0 < k → numbersIn (rangeIn (tableAfter b t) k) ≡ samplesIn (r .layout) k
-  table-ranges k h = sym (range-samples (tableAfter b t) k h) ∙ ap (λ y. samplesIn y k) table-lays-out
-
-  abbrev x : List ℕ
-  x = filled b t (accepted b good) room
-
-  flag-cell : (n : ℕ) → 0 < n → n ≤ entryCount b → cell x (sampleRow n) 3 ≡ 0
-  flag-cell n h l =
-      let e : n - 1 + 1 ≡ n = omega arith in
-      rw e at (sample-cell b t (accepted b good) room (n - 1) 3 (omega arith) (omega arith))
-
-  start-cell : (n : ℕ) → 0 < n → n ≤ entryCount b → cell x (sampleRow n) 1 ≡ contentAt b n
-  start-cell n h l =
-      let e : n - 1 + 1 ≡ n = omega arith in
-      rw e at (sample-cell b t (accepted b good) room (n - 1) 1 (omega arith) (omega arith))
-
-  starts : (n : ℕ) → 0 < n → n ≤ entryCount b → startIn x n ≡ contentAt b n
-  unfolding sampleCell
-  starts n h l =
-      let s = sample-total b t (accepted b good) room in
-      rw (ne-eqb n 0 (λ z. omega arith), le-ltb (sampleTotal x) n (omega arith)) (start-cell n h l)
-
-  pub table-starts : (n : ℕ) → 0 < n → n ≤ sampleCount (r .layout) → startIn (tableAfter b t) n ≡ contentAt b n
-  table-starts n h l =
-      let e : sampleCount (r .layout) ≡ entryCount b = ap (λ (y : Recording). sampleCount (y .layout)) (sym (means b means-r .1)) ∙ (unfold recordingOf layoutOf in sample-count b) in
-      rw (written, filled-is b t (accepted b good) room) (starts n h (omega arith))
-
-  unflagged : (n : ℕ) → flagIn x n ≡ 0
-  unfolding sampleCell
-  unflagged n =
-      let s = sample-total b t (accepted b good) room in
-      by-bool (eqb n 0) (λ q. rw q) (λ q. rw q
-      (by-bool (ltb (sampleTotal x) n) (λ z. rw z)
-      (λ z. rw z (let l = ltb-false (sampleTotal x) n z in flag-cell n (pos-of-ne-zero (eqb-false n 0 q)) (omega arith)))))
-
-  pub table-unflagged : (n : ℕ) → flagIn (tableAfter b t) n ≡ 0
-  table-unflagged n = rw (written, filled-is b t (accepted b good) room) (unflagged n)
+  pub table-kept-counts : (n : ℕ) → keptCountIn (tableAfter firstLayout b t) n ≡ 0
+  table-kept-counts = any.table-kept-counts firstLayout b t r means-r (tabled b r means-r) done
 
 -- the table as it was
-pub table-refused : (b t : List ℕ) (n p : ℕ) → bundleVerdict b ≡ refused n p → tableAfter b t ≡ t
-unfolding tableAfter
+pub table-refused : (b t : List ℕ) (n p : ℕ) → bundleVerdict b ≡ refused n p → tableAfter firstLayout b t ≡ t
+unfolding tableAfter meaning
 table-refused b t n p e = rw e
 
-no-room : (a : Verdict) (m room n : ℕ) (t filled : List ℕ) → room ≡ length t → fillAnswer a m room ≡ NoRoom n → fillTable a m t filled ≡ t
-no-room (refused k p) m room n t filled e f = refl
-no-room (ok u) m room n t filled e f = rw (← e) (by-bool (leb m room)
-    (λ q. let g : Done ≡ NoRoom n = rw q at f in let z : _≡_ {A = ℕ} 0 1 = cc in absurd (omega arith))
-    (λ q. rw q))
-
-pub table-no-room : (b t : List ℕ) (n : ℕ) → filling b (length t) ≡ NoRoom n → tableAfter b t ≡ t
+pub table-no-room : (b t : List ℕ) (n : ℕ) → filling firstLayout b (length t) ≡ NoRoom n → tableAfter firstLayout b t ≡ t
 unfolding tableAfter filling
-table-no-room b t n e = no-room (bundleVerdict b) (tableSize (entryCount b)) (length t) n t (tableOf b t) refl e
+table-no-room b t n e = any.no-room (meaning b) (contentAt b) n t e
 
-pub table-room : (b : List ℕ) (r : Recording) → meaning b ≡ ok r → tableSize (entryCount b) ≤ tableMost
-table-room b r e = let f = accepted b (means b e .0) .samples .count .few in omega arith
+pub table-room : (b : List ℕ) (r : Recording) → meaning b ≡ ok r → needed r ≤ tableMost
+table-room b r e = let f = limits-kept b r e .samples in omega arith
 
 -- what the answer says
-refused-answer : (a : Verdict) (m room : ℕ) (f : Refusal) → fillAnswer a m room ≡ Refused f → a ≡ refused (f .number) (f .place .0)
-refused-answer (refused n p) m room f e =
-    let g : n ≡ f .number = ap (λ x. number-of x) e in
-    let h : p ≡ f .place .0 = ap (λ x. place-of x) e in
-    rw (g, h)
-  where
-    number-of : Filled → ℕ
-    number-of (Refused r) = r .number
-    number-of (NoRoom n) = 0
-    number-of Done = 0
+pub says-refused : (b : List ℕ) (room : ℕ) (f : Refusal) → filling firstLayout b room ≡ Refused f → bundleVerdict b ≡ refused (f .number) (f .place .0)
+unfolding filling meaning
+says-refused b room f e = refused-there (recordingOf b) (bundleVerdict b) (sym (any.refused-answer (meaning b) room f e))
 
-    place-of : Filled → ℕ
-    place-of (Refused r) = r .place .0
-    place-of (NoRoom n) = 0
-    place-of Done = 0
-refused-answer (ok u) m room f e = by-bool (leb m room)
-    (λ q. let g : Done ≡ Refused f = rw q at e in let z : _≡_ {A = ℕ} 0 1 = cc in absurd (omega arith))
-    (λ q. let g : NoRoom m ≡ Refused f = rw q at e in let z : _≡_ {A = ℕ} 0 1 = cc in absurd (omega arith))
-
-pub says-refused : (b : List ℕ) (room : ℕ) (f : Refusal) → filling b room ≡ Refused f → bundleVerdict b ≡ refused (f .number) (f .place .0)
+pub says-done : (b : List ℕ) (room : ℕ) → filling firstLayout b room ≡ Done → bundleVerdict b ≡ ok tt
 unfolding filling
-says-refused b room f e = refused-answer (bundleVerdict b) (tableSize (entryCount b)) room f e
+says-done b room e = means b (any.done-answer (meaning b) room e .1) .0
 
-done-answer : (a : Verdict) (m room : ℕ) → fillAnswer a m room ≡ Done → a ≡ ok tt
-done-answer (refused n p) m room e = let z : _≡_ {A = ℕ} 0 1 = cc in absurd (omega arith)
-done-answer (ok u) m room e = refl
-
-pub says-done : (b : List ℕ) (room : ℕ) → filling b room ≡ Done → bundleVerdict b ≡ ok tt
+pub never-short : (b : List ℕ) (room n : ℕ) → tableMost ≤ room → filling firstLayout b room ≡ NoRoom n → ⊥
 unfolding filling
-says-done b room e = done-answer (bundleVerdict b) (tableSize (entryCount b)) room e
-
-short-answer : (a : Verdict) (m room n : ℕ) → (a ≡ ok tt → m ≤ room) → fillAnswer a m room ≡ NoRoom n → ⊥
-short-answer (refused k p) m room n h e = let z : _≡_ {A = ℕ} 0 1 = cc in omega arith
-short-answer (ok u) m room n h e =
-    let g : Done ≡ NoRoom n = rw (le-leb m room (h refl)) at e in
-    let z : _≡_ {A = ℕ} 0 1 = cc in
-    omega arith
-
-pub never-short : (b : List ℕ) (room n : ℕ) → tableMost ≤ room → filling b room ≡ NoRoom n → ⊥
-unfolding filling
-never-short b room n h e = short-answer (bundleVerdict b) (tableSize (entryCount b)) room n (λ g. let f = accepted b g .samples .count .few in omega arith) e
+never-short b room n h e = any.short-answer (meaning b) room n (λ r g. let f = table-room b r g in omega arith) e
 
 -- any table
 pub any-range : (t : List ℕ) (k : ℕ) → 0 < k → samplesIn (layoutIn t) k ≡ numbersIn (rangeIn t k)
 any-range = range-samples
 
-pub any-flag : (b t : List ℕ) (n v : ℕ) → (layoutIn (flagged t n v) ≡ layoutIn t) × (recordingIn b (flagged t n v) ≡ recordingIn b t)
-any-flag b t n v = (flagged-layout t n v, flagged-recording b t n v)
+pub any-kept-count : (b t : List ℕ) (n v : ℕ) → (layoutIn (withKeptCount t n v) ≡ layoutIn t) × (recordingIn b (withKeptCount t n v) ≡ recordingIn b t)
+any-kept-count b t n v = (kept-count-layout t n v, kept-count-recording b t n v)
 
 -- a table that was filled: the bundle is accepted, the table gives its recording
-pub table-short : (b : List ℕ) (room : ℕ) → filling b room ≡ Done → length b ≤ bundleMost
-table-short b room done = accepted b (says-done b room done) .size
-
-module _ (b t : List ℕ) (done : filling b (length t) ≡ Done) where
+module _ (b t : List ℕ) (done : filling firstLayout b (length t) ≡ Done) where
   pub table-accepted : meaning b ≡ ok (recordingOf b)
   unfolding meaning
   table-accepted = rw (says-done b (length t) done)
 
-  pub table-means : recordingIn b (tableAfter b t) ≡ recordingOf b
+  pub table-means : recordingIn b (tableAfter firstLayout b t) ≡ recordingOf b
   table-means = table-recording b t (recordingOf b) table-accepted done
+
+pub table-short : (b : List ℕ) (room : ℕ) → filling firstLayout b room ≡ Done → length b ≤ bundleMost
+unfolding filling
+table-short b room done = let w = any.done-answer (meaning b) room done in limits-kept b (w .0) (w .1) .bytes

@@ -1,59 +1,74 @@
--- The table that is filled from an accepted bundle b: which numbers are written over a lent table t. All others stay as they were.
+-- The table of a recording: which numbers are written over a lent table t. All others stay as they were. The recording is what a reader
+-- makes of a bundle, with where in the bundle each sample's bytes start.
+--
+--   writeRows t row cells n    the rows of 1 to n over t, the first of them at a row
+--   countCells y               the counts
+--   trackCells y k             of track k: its kind, its length size, how many samples the tracks before it have
+--   referenceCells y i         of reference i: from-track, to-track
+--   sampleCells r starts n     of sample n: its decode time, where its bytes start, how many they are
+--   tableOf r starts t         the whole table
+--   filling reader b room      the answer: a refusal; for a table that is too small the size that is needed; or done
+--   tableAfter reader b t      what is left in t: it changes only where the answer is done
 use Prim.Native.Nat.{ℕ, _*_}
 use mathlib.Core.List.{List, [], _∷_}
 use lib.ListN.{length}
 use Rattle.words.specs.Tests.{_<?_, _≤?_, pick}
-use Rattle.words.specs.Refusals.{refused, ok, Verdict}
+use Rattle.words.specs.Refusals.{Answer, refused, ok}
 use Rattle.words.specs.Lists.{keep, each, nth, upto}
-use Rattle.words.specs.Bytes.{byteAt}
 use Rattle.words.specs.Buffers.{writeAt}
-use Rattle.bundles.specs.Tracks.{trackCount, trackPlaces, sizeAt}
-use Rattle.bundles.specs.References.{from, to, referenceCount, referencePlaces}
-use Rattle.bundles.specs.Samples.{entryCount, time, samplePlaces, sampleEntries, lengths}
-use Rattle.bundles.specs.Bundles.{contentAt, bundleVerdict}
-use Rattle.tables.specs.Tables.{countsRow, trackRow, referenceRow, sampleRow, tableSize}
+use Rattle.numbers.specs.Sizes.{inBytes}
+use Rattle.bundles.specs.Recordings.{Layout, Recording, noTrack, noReference, sampleCount, timeOf, contentOf}
+use Rattle.bundles.specs.Readers.{Reader}
+use Rattle.tables.specs.Tables.{columns, countsRow, trackRow, referenceRow, sampleRow, tableSize, numberOfKind}
 use Rattle.filling.specs.declared.Filled.{Filled}
 use Rattle.filling.specs.declared.Filled.the-variants.{Refused, NoRoom, Done}
 
--- the rows of 1 to n over the table t, the first of them at a row
 unfoldable pub writeRows : List ℕ → ℕ → (ℕ → List ℕ) → ℕ → List ℕ
-writeRows t row cells n = writeAt t (row * 4) (each cells (upto n))
+writeRows t row cells n = writeAt t (row * columns) (each cells (upto n))
 
-module _ (b : List ℕ) where
+module _ (y : Layout) where
   abbrev pub countCells : List ℕ
-  countCells = trackCount b ∷ referenceCount b ∷ entryCount b ∷ 0 ∷ []
+  countCells = length (y .tracks) ∷ length (y .references) ∷ sampleCount y ∷ 0 ∷ []
 
   -- how many samples the tracks before track k have
   unfoldable pub samplesBefore : ℕ → ℕ
-  samplesBefore k = length (keep (λ e. (e .track) <? k) (sampleEntries b))
+  samplesBefore k = length (keep (λ e. (e .track) <? k) (y .entries))
 
   abbrev pub trackCells : ℕ → List ℕ
-  trackCells k = let p = nth (trackPlaces b) k 0 in byteAt b p ∷ sizeAt b p ∷ samplesBefore k ∷ 0 ∷ []
+  trackCells k =
+      let a = nth (y .tracks) k noTrack in
+      numberOfKind (a .kind) ∷ inBytes (a .lengthSize) ∷ samplesBefore k ∷ 0 ∷ []
 
   abbrev pub referenceCells : ℕ → List ℕ
-  referenceCells i = let p = nth (referencePlaces b) i 0 in from b p ∷ to b p ∷ 0 ∷ 0 ∷ []
+  referenceCells i = let f = nth (y .references) i noReference in f .from ∷ f .to ∷ 0 ∷ 0 ∷ []
 
+module _ (r : Recording) (starts : ℕ → ℕ) where
   abbrev pub sampleCells : ℕ → List ℕ
-  sampleCells n = time b (nth (samplePlaces b) n 0) ∷ contentAt b n ∷ nth (lengths b) n 0 ∷ 0 ∷ []
+  sampleCells n = timeOf (r .layout) n ∷ starts n ∷ length (contentOf r n) ∷ 0 ∷ []
 
   unfoldable pub tableOf : List ℕ → List ℕ
   tableOf t =
-      let counts = writeAt t (countsRow * 4) countCells in
-      let tracks = writeRows counts (trackRow 1) trackCells (trackCount b) in
-      let references = writeRows tracks (referenceRow 1) referenceCells (referenceCount b) in
-      writeRows references (sampleRow 1) sampleCells (entryCount b)
+      let y = r .layout in
+      let counts = writeAt t (countsRow * columns) (countCells y) in
+      let tracks = writeRows counts (trackRow 1) (trackCells y) (length (y .tracks)) in
+      let references = writeRows tracks (referenceRow 1) (referenceCells y) (length (y .references)) in
+      writeRows references (sampleRow 1) sampleCells (sampleCount y)
 
--- The answer: a refusal 1 to 13; for a table that is too small the size that is needed; or done. Only then does the table change.
-abbrev pub fillAnswer : Verdict → ℕ → ℕ → Filled
-fillAnswer (refused n p) needed room = Refused (record { number = n; place = record { 0 = p } })
-fillAnswer (ok u) needed room = pick (needed ≤? room) Done (NoRoom needed)
+-- how many numbers the table of a recording needs
+abbrev pub needed : Recording → ℕ
+needed r = tableSize (sampleCount (r .layout))
 
-abbrev pub fillTable : Verdict → ℕ → List ℕ → List ℕ → List ℕ
-fillTable (refused n p) needed t filled = t
-fillTable (ok u) needed t filled = pick (needed ≤? length t) filled t
+abbrev pub fillAnswer : Answer Recording → ℕ → Filled
+fillAnswer (refused n p) room = Refused (record { number = n; place = record { 0 = p } })
+fillAnswer (ok r) room = pick (needed r ≤? room) Done (NoRoom (needed r))
 
-unfoldable pub filling : List ℕ → ℕ → Filled
-filling b room = fillAnswer (bundleVerdict b) (tableSize (entryCount b)) room
+abbrev pub fillTable : Answer Recording → (ℕ → ℕ) → List ℕ → List ℕ
+fillTable (refused n p) starts t = t
+fillTable (ok r) starts t = pick (needed r ≤? length t) (tableOf r starts t) t
 
-unfoldable pub tableAfter : List ℕ → List ℕ → List ℕ
-tableAfter b t = fillTable (bundleVerdict b) (tableSize (entryCount b)) t (tableOf b t)
+module _ (reader : Reader) (b : List ℕ) where
+  unfoldable pub filling : ℕ → Filled
+  filling room = fillAnswer (reader .means b) room
+
+  unfoldable pub tableAfter : List ℕ → List ℕ
+  tableAfter t = fillTable (reader .means b) (reader .contentAt b) t

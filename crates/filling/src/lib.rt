@@ -5,27 +5,27 @@ ghost use Prim.Native.Nat.{_+_, _*_, _≤_, _<_};
 ghost use lib.ListN.{length};
 ghost use Rattle.words.specs.Refusals.{ok};
 ghost use Rattle.words.specs.Buffers.{writeAt};
+ghost use Rattle.bundles.specs.Limits.{sampleMost};
+ghost use Rattle.bundles.specs.Fields.{referenceCountSize};
 ghost use Rattle.bundles.specs.Tracks.{trackCount, trackFault, sizeAt, referencesAt};
 ghost use Rattle.bundles.specs.References.{referenceCount};
 ghost use Rattle.bundles.specs.Samples.{entryCount, entriesAt};
-ghost use Rattle.bundles.specs.Bundles.{bundleVerdict};
-ghost use Rattle.tables.specs.Tables.{tableSize};
+ghost use Rattle.bundles.specs.Bundles.{bundleVerdict, layoutOf, recordingOf, contentAt};
+ghost use Rattle.bundles.specs.Readers.{firstLayout};
+ghost use Rattle.tables.specs.Tables.{columns, trackRow, referenceRow, sampleRow, tableSize};
 ghost use Rattle.filling.specs.Filling.{samplesBefore, trackCells, referenceCells, sampleCells, writeRows, filling, tableAfter};
 use bundles::Checked;
+use bundles::fields;
 use numbers::Kind;
 use numbers::MaybeKind;
 use numbers::Refusal;
 
-// The rows of the counts, of the first track, of the first reference and of the first sample, as `tables` reads them. Row 80 + n is sample n's.
-const COUNTS_ROW: usize = 0;
+// The rows of the first track, of the first reference and of the first sample.
+const FIRST_TRACK: usize = tables::COUNTS_ROW + 1;
 
-const FIRST_TRACK: usize = 1;
+const FIRST_REFERENCE: usize = tables::REFERENCE_ROW + 1;
 
-const FIRST_REFERENCE: usize = 17;
-
-const FIRST_SAMPLE: usize = 81;
-
-const SAMPLE_ROW: usize = 80;
+const FIRST_SAMPLE: usize = tables::SAMPLE_ROW + 1;
 
 // What filling a table answers.
 pub enum Filled {
@@ -38,10 +38,10 @@ pub enum Filled {
 
 // Three numbers and a 0 over a row.
 fn put_row(t: &mut [u64], row: usize, first: usize, second: usize, third: usize)
-    requires { ⌜ (row ≤ 4176) × (row * 4 + 4 ≤ length (now t)) ⌝ }
-    ensures { λ _. ⌜ now (t .exit) ≡ writeAt (now (t .entry)) (row * 4) (first ∷ second ∷ third ∷ 0 ∷ []) ⌝ }
+    requires { ⌜ (row ≤ sampleRow sampleMost) × (row * columns + columns ≤ length (now t)) ⌝ }
+    ensures { λ _. ⌜ now (t .exit) ≡ writeAt (now (t .entry)) (row * columns) (first ∷ second ∷ third ∷ 0 ∷ []) ⌝ }
 {
-    let at = row * 4;
+    let at = row * tables::COLUMNS;
     t[at] = first as u64;
     t[at + 1] = second as u64;
     t[at + 2] = third as u64;
@@ -53,11 +53,17 @@ fn references_at(b: &[u8]) -> usize
     requires { ⌜ bundleVerdict (now b) ≡ ok tt ⌝ }
     ensures { λ r. ⌜ r ≡ referencesAt (now (b .entry)) ⌝ }
 {
-    let n = numbers::number(b, 0, 1);
-    let mut p: usize = 1;
+    let n = numbers::number(b, 0, fields::TRACK_COUNT_SIZE);
+    let mut p = fields::TRACK_COUNT_SIZE;
     let mut i: usize = 0;
     while i < n {
-        p = p + 3 + numbers::number(b, p + 1, 2);
+        p = p
+            + fields::TRACK_HEAD_SIZE
+            + numbers::number(
+                b,
+                p + fields::RECORD_LENGTH_OFFSET,
+                fields::RECORD_LENGTH_SIZE,
+            );
         i += 1;
     }
     p
@@ -81,12 +87,12 @@ fn length_size_at(b: &[u8], at: usize) -> usize
 
 // How many samples the tracks before track k have, where it is known that it is at least some number.
 fn samples_before(b: &[u8], start: usize, total: usize, least: usize, k: usize) -> usize
-    requires { ⌜ (bundleVerdict (now b) ≡ ok tt) × (start ≡ entriesAt (now b)) × (total ≡ entryCount (now b)) × (least ≤ samplesBefore (now b) k) ⌝ }
-    ensures { λ r. ⌜ r ≡ samplesBefore (now (b .entry)) k ⌝ }
+    requires { ⌜ (bundleVerdict (now b) ≡ ok tt) × (start ≡ entriesAt (now b)) × (total ≡ entryCount (now b)) × (least ≤ samplesBefore (layoutOf (now b)) k) ⌝ }
+    ensures { λ r. ⌜ r ≡ samplesBefore (layoutOf (now (b .entry))) k ⌝ }
 {
     let mut n = least;
     while n < total {
-        if k <= numbers::number(b, start + n * 13, 1) {
+        if k <= numbers::number(b, start + n * fields::ENTRY_SIZE, fields::TRACK_NUMBER_SIZE) {
             return n;
         }
         n += 1;
@@ -97,34 +103,40 @@ fn samples_before(b: &[u8], start: usize, total: usize, least: usize, k: usize) 
 // The rows of the tracks.
 fn fill_tracks(b: &[u8], t: &mut [u64], start: usize, total: usize)
     requires { ⌜ (bundleVerdict (now b) ≡ ok tt) × (start ≡ entriesAt (now b)) × (total ≡ entryCount (now b)) × (tableSize total ≤ length (now t)) ⌝ }
-    ensures { λ _. ⌜ now (t .exit) ≡ writeRows (now (t .entry)) 1 (trackCells (now (b .entry))) (trackCount (now (b .entry))) ⌝ }
+    ensures { λ _. ⌜ now (t .exit) ≡ writeRows (now (t .entry)) (trackRow 1) (trackCells (layoutOf (now (b .entry)))) (trackCount (now (b .entry))) ⌝ }
 {
-    let n = numbers::number(b, 0, 1);
-    let mut p: usize = 1;
+    let n = numbers::number(b, 0, fields::TRACK_COUNT_SIZE);
+    let mut p = fields::TRACK_COUNT_SIZE;
     let mut before: usize = 0;
     let mut k: usize = 0;
     while k < n {
         before = samples_before(b, start, total, before, k + 1);
-        let kind = numbers::number(b, p, 1);
+        let kind = numbers::number(b, p, fields::KIND_SIZE);
         let size = length_size_at(b, p);
         put_row(t, FIRST_TRACK + k, kind, size, before);
-        p = p + 3 + numbers::number(b, p + 1, 2);
+        p = p
+            + fields::TRACK_HEAD_SIZE
+            + numbers::number(
+                b,
+                p + fields::RECORD_LENGTH_OFFSET,
+                fields::RECORD_LENGTH_SIZE,
+            );
         k += 1;
     }
 }
 
 // The rows of n references, the first of which stands at start.
 fn fill_references(b: &[u8], t: &mut [u64], start: usize, n: usize)
-    requires { ⌜ (bundleVerdict (now b) ≡ ok tt) × (start ≡ referencesAt (now b) + 1) × (n ≡ referenceCount (now b)) × (324 ≤ length (now t)) ⌝ }
-    ensures { λ _. ⌜ now (t .exit) ≡ writeRows (now (t .entry)) 17 (referenceCells (now (b .entry))) (referenceCount (now (b .entry))) ⌝ }
+    requires { ⌜ (bundleVerdict (now b) ≡ ok tt) × (start ≡ referencesAt (now b) + referenceCountSize) × (n ≡ referenceCount (now b)) × (sampleRow 1 * columns ≤ length (now t)) ⌝ }
+    ensures { λ _. ⌜ now (t .exit) ≡ writeRows (now (t .entry)) (referenceRow 1) (referenceCells (layoutOf (now (b .entry)))) (referenceCount (now (b .entry))) ⌝ }
 {
     let mut p = start;
     let mut i: usize = 0;
     while i < n {
-        let from = numbers::number(b, p, 1);
-        let to = numbers::number(b, p + 1, 1);
+        let from = numbers::number(b, p, fields::TRACK_NUMBER_SIZE);
+        let to = numbers::number(b, p + fields::TO_OFFSET, fields::TRACK_NUMBER_SIZE);
         put_row(t, FIRST_REFERENCE + i, from, to, 0);
-        p += 2;
+        p += fields::REFERENCE_SIZE;
         i += 1;
     }
 }
@@ -132,17 +144,17 @@ fn fill_references(b: &[u8], t: &mut [u64], start: usize, n: usize)
 // The rows of n samples, the first of whose entries stands at start.
 fn fill_samples(b: &[u8], t: &mut [u64], start: usize, n: usize)
     requires { ⌜ (bundleVerdict (now b) ≡ ok tt) × (start ≡ entriesAt (now b)) × (n ≡ entryCount (now b)) × (tableSize n ≤ length (now t)) ⌝ }
-    ensures { λ _. ⌜ now (t .exit) ≡ writeRows (now (t .entry)) 81 (sampleCells (now (b .entry))) (entryCount (now (b .entry))) ⌝ }
+    ensures { λ _. ⌜ now (t .exit) ≡ writeRows (now (t .entry)) (sampleRow 1) (sampleCells (recordingOf (now (b .entry))) (contentAt (now (b .entry)))) (entryCount (now (b .entry))) ⌝ }
 {
     let mut p = start;
-    let mut place = start + n * 13 + 4;
+    let mut place = start + n * fields::ENTRY_SIZE + fields::BYTE_COUNT_SIZE;
     let mut i: usize = 0;
     while i < n {
-        let time = numbers::number(b, p + 1, 8);
-        let size = numbers::number(b, p + 9, 4);
-        put_row(t, FIRST_SAMPLE + i, time, place, size);
-        place += size;
-        p += 13;
+        let time = numbers::number(b, p + fields::TIME_OFFSET, fields::TIME_SIZE);
+        let length = numbers::number(b, p + fields::LENGTH_OFFSET, fields::SAMPLE_LENGTH_SIZE);
+        put_row(t, FIRST_SAMPLE + i, time, place, length);
+        place += length;
+        p += fields::ENTRY_SIZE;
         i += 1;
     }
 }
@@ -150,27 +162,27 @@ fn fill_samples(b: &[u8], t: &mut [u64], start: usize, n: usize)
 // The table of an accepted bundle, if there is room.
 fn fill_accepted(b: &[u8], t: &mut [u64]) -> Filled
     requires { ⌜ bundleVerdict (now b) ≡ ok tt ⌝ }
-    ensures { λ r. ⌜ (r ≡ filling (now (b .entry)) (length (now (t .entry)))) × (now (t .exit) ≡ tableAfter (now (b .entry)) (now (t .entry))) ⌝ }
+    ensures { λ r. ⌜ (r ≡ filling firstLayout (now (b .entry)) (length (now (t .entry)))) × (now (t .exit) ≡ tableAfter firstLayout (now (b .entry)) (now (t .entry))) ⌝ }
 {
-    let tracks = numbers::number(b, 0, 1);
+    let tracks = numbers::number(b, 0, fields::TRACK_COUNT_SIZE);
     let at = references_at(b);
-    let references = numbers::number(b, at, 1);
-    let samples_at = at + 1 + references * 2;
-    let samples = numbers::number(b, samples_at, 2);
-    let needed = (SAMPLE_ROW + (samples + 1)) * 4;
+    let references = numbers::number(b, at, fields::REFERENCE_COUNT_SIZE);
+    let samples_at = at + fields::REFERENCE_COUNT_SIZE + references * fields::REFERENCE_SIZE;
+    let samples = numbers::number(b, samples_at, fields::SAMPLE_COUNT_SIZE);
+    let needed = (tables::SAMPLE_ROW + (samples + 1)) * tables::COLUMNS;
     if t.len() < needed {
         return Filled::NoRoom(needed);
     }
-    put_row(t, COUNTS_ROW, tracks, references, samples);
-    fill_tracks(b, t, samples_at + 2, samples);
-    fill_references(b, t, at + 1, references);
-    fill_samples(b, t, samples_at + 2, samples);
+    put_row(t, tables::COUNTS_ROW, tracks, references, samples);
+    fill_tracks(b, t, samples_at + fields::SAMPLE_COUNT_SIZE, samples);
+    fill_references(b, t, at + fields::REFERENCE_COUNT_SIZE, references);
+    fill_samples(b, t, samples_at + fields::SAMPLE_COUNT_SIZE, samples);
     Filled::Done
 }
 
 // The table of a bundle, filled in one more pass over its first three sections once it is accepted: see `Filled`.
 pub fn fill_table(b: &[u8], t: &mut [u64]) -> Filled
-    ensures { λ r. ⌜ (r ≡ filling (now (b .entry)) (length (now (t .entry)))) × (now (t .exit) ≡ tableAfter (now (b .entry)) (now (t .entry))) ⌝ }
+    ensures { λ r. ⌜ (r ≡ filling firstLayout (now (b .entry)) (length (now (t .entry)))) × (now (t .exit) ≡ tableAfter firstLayout (now (b .entry)) (now (t .entry))) ⌝ }
 {
     match bundles::check_bundle(b) {
         Checked::Refused(r) => Filled::Refused(r),

@@ -3,8 +3,10 @@
 --   Layouts     what a table says, number by number
 --   Ranges      the samples of a track are a range
 --   References  the references of a track, found one after the other
---   Flags       a flag set without a change to what a table says
+--   Numbers     a kind and its number
+--   KeptCounts  a count kept for a sample, without a change to what a table says
 pub mod Layouts
 pub mod Ranges
 pub mod References
-pub mod Flags
+pub mod KeptCounts
+pub mod Numbers

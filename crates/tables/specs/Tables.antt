@@ -1,17 +1,19 @@
--- A table of numbers t, by which a sample's track, time and bytes and a track's kind, length size, references and samples are reached without
--- walking the bundle again. Rows of four numbers: row 0 has the counts, rows 1 to 16 the tracks, rows 17 to 80 the references, the rows from 81
--- on the samples. A number past the table's end reads as 0, and a count beyond its limit as the limit. So every table says a layout, and
--- together with any bytes it gives a recording: a sample whose bytes do not lie in the bundle has none.
+-- A table of numbers t, by which a sample's track, time and bytes and a track's kind, length size, references and samples are reached
+-- without walking the bundle again. Rows of four numbers: the counts, then the tracks, the references and the samples, each with as many
+-- rows as its limit says. A number past the table's end reads as 0, and a count beyond its limit as the limit. So every table says a
+-- layout, and together with any bytes it gives a recording: a sample whose bytes do not lie in the bundle has none.
 --
---   cell t row column     a number of the table
---   layoutIn t             the layout that it says
+--   countsRow, trackRow k, referenceRow i, sampleRow n    the rows
+--   tableSize n, tableMost    how many numbers a table for n samples needs, and the most
+--   cell t row column         a number of the table
+--   layoutIn t                the layout that it says
 --   recordingIn b t           the recording that it gives with the bytes b
---   rangeIn t k           the samples of track k: those after `before`, up to `after`
---   numbersIn r           their numbers
---   sampleCell t n column    a number of the row of sample n
---   startIn t n           where the bytes of sample n start
---   flagIn t n            the flag of sample n
---   flagged t n v         the table with that flag set
+--   rangeIn t k               the samples of track k: those after `before`, up to `after`
+--   numbersIn r               their numbers
+--   sampleCell t n column     a number of the row of sample n
+--   startIn t n               where the bytes of sample n start
+--   keptCountIn t n           the count kept for sample n
+--   withKeptCount t n v       the table with that count set
 use Prim.Native.Nat.{ℕ, zero, suc, _+_, _-_, _*_}
 use mathlib.Core.List.{List, [], _∷_, map}
 use mathlib.Core.Bool.{Bool, _&&_}
@@ -21,10 +23,16 @@ use Rattle.words.specs.Lists.{upto, lastThat}
 use Rattle.words.specs.Bytes.{part}
 use Rattle.numbers.specs.Kinds.{kindOf}
 use Rattle.numbers.specs.Sizes.{lengthSizeOf}
+use Rattle.numbers.specs.declared.Kind.{Kind}
+use Rattle.numbers.specs.declared.Kind.the-variants.{Avc, Svc}
 use Rattle.bundles.specs.Limits.{trackMost, referenceMost, sampleMost}
 use Rattle.bundles.specs.Recordings.{Track, Reference, Entry, Layout, Recording}
 use Rattle.bundles.specs.Tracks.{knownKind, knownSize}
 use Rattle.tables.specs.declared.SampleRange.{SampleRange}
+
+-- how many numbers a row has
+abbrev pub columns : ℕ
+columns = 4
 
 -- the row of the counts, of track k, of reference i and of sample n
 abbrev pub countsRow : ℕ
@@ -37,11 +45,11 @@ abbrev pub referenceRow : ℕ → ℕ
 referenceRow i = trackMost + i
 
 abbrev pub sampleRow : ℕ → ℕ
-sampleRow n = trackMost + referenceMost + n
+sampleRow n = referenceRow referenceMost + n
 
 -- how many numbers a table for n samples needs
 abbrev pub tableSize : ℕ → ℕ
-tableSize n = sampleRow (n + 1) * 4
+tableSize n = sampleRow (n + 1) * columns
 
 -- and the largest
 abbrev pub tableMost : ℕ
@@ -57,7 +65,11 @@ referencesColumn = 1
 abbrev pub samplesColumn : ℕ
 samplesColumn = 2
 
--- of a track; `before` is how many samples the tracks before it have
+-- of a track; its kind by its number, and `before` is how many samples the tracks before it have
+abbrev pub numberOfKind : Kind → ℕ
+numberOfKind Avc = 0
+numberOfKind Svc = 1
+
 abbrev pub kindColumn : ℕ
 kindColumn = 0
 
@@ -74,7 +86,7 @@ fromColumn = 0
 abbrev pub toColumn : ℕ
 toColumn = 1
 
--- of a sample: its decode time, where its bytes start in the bundle, how many they are, and a flag for the crates above
+-- of a sample: its decode time, where its bytes start in the bundle, how many they are, and a count that the crates above keep for it
 abbrev pub timeColumn : ℕ
 timeColumn = 0
 
@@ -84,8 +96,8 @@ startColumn = 1
 abbrev pub lengthColumn : ℕ
 lengthColumn = 2
 
-abbrev pub flagColumn : ℕ
-flagColumn = 3
+abbrev pub keptCountColumn : ℕ
+keptCountColumn = 3
 
 abbrev pub atMost : ℕ → ℕ → ℕ
 atMost most n = pick (n ≤? most) n most
@@ -96,7 +108,7 @@ numbersIn r = map (λ i. r .before + i) (upto (r .after - r .before))
 
 module _ (t : List ℕ) where
   unfoldable pub cell : ℕ → ℕ → ℕ
-  cell row column = getD t (row * 4 + column) 0
+  cell row column = getD t (row * columns + column) 0
 
   abbrev pub trackTotal : ℕ
   trackTotal = atMost trackMost (cell countsRow tracksColumn)
@@ -156,12 +168,12 @@ module _ (t : List ℕ) where
   abbrev pub startIn : ℕ → ℕ
   startIn n = sampleCell n startColumn
 
-  abbrev pub flagIn : ℕ → ℕ
-  flagIn n = sampleCell n flagColumn
+  abbrev pub keptCountIn : ℕ → ℕ
+  keptCountIn n = sampleCell n keptCountColumn
 
--- the flag of sample n set to v; a table without that number stays as it was
-unfoldable pub flagged : List ℕ → ℕ → ℕ → List ℕ
-flagged t n v = pick (n ≡? 0) t (pick (sampleTotal t <? n) t (set t (sampleRow n * 4 + flagColumn) v))
+-- the count kept for sample n set to v; a table without that number stays as it was
+unfoldable pub withKeptCount : List ℕ → ℕ → ℕ → List ℕ
+withKeptCount t n v = pick (n ≡? 0) t (pick (sampleTotal t <? n) t (set t (sampleRow n * columns + keptCountColumn) v))
 
 -- n bytes of b from p on, or none where they do not lie in b
 unfoldable pub inside : List ℕ → ℕ → ℕ → List ℕ

@@ -7,9 +7,10 @@ ghost use Rattle.words.specs.Tests.{_<?_, _≡?_, pick};
 ghost use Rattle.words.specs.Lists.{nth};
 ghost use Rattle.numbers.specs.Kinds.{kindOf};
 ghost use Rattle.numbers.specs.Sizes.{lengthSizeOf};
+ghost use Rattle.bundles.specs.Limits.{trackMost, referenceMost, sampleMost};
 ghost use Rattle.bundles.specs.Recordings.{noTrack, noReference, sampleCount, trackOf, timeOf, referencesFrom, contentOf};
 ghost use Rattle.bundles.specs.Tracks.{knownKind, knownSize};
-ghost use Rattle.tables.specs.Tables.{inside, sampleCell, startIn, flagIn, flagged, cell, trackTotal, referenceTotal, sampleTotal, ownerIn, afterIn, rangeIn, layoutIn, recordingIn};
+ghost use Rattle.tables.specs.Tables.{columns, sampleRow, atMost, inside, sampleCell, startIn, keptCountIn, withKeptCount, cell, trackTotal, referenceTotal, sampleTotal, ownerIn, afterIn, rangeIn, layoutIn, recordingIn};
 use numbers::ByteOffset;
 use numbers::Kind;
 use numbers::LengthSize;
@@ -18,15 +19,17 @@ use numbers::MaybeLengthSize;
 use numbers::SampleNumber;
 use numbers::TrackNumber;
 
+// Rows of four numbers: row 0 has the counts, row k track k, row REFERENCE_ROW + i reference i, row SAMPLE_ROW + n sample n.
+pub const COLUMNS: usize = 4;
+
+pub const COUNTS_ROW: usize = 0;
+
+pub const REFERENCE_ROW: usize = bundles::TRACK_MOST;
+
+pub const SAMPLE_ROW: usize = REFERENCE_ROW + bundles::REFERENCE_MOST;
+
 // As many numbers are enough for the table of any bundle.
-pub const TABLE_SIZE: usize = 16708;
-
-// Rows of four numbers: row 0 has the counts, row k track k, row 16 + i reference i, row 80 + n sample n.
-const COUNTS_ROW: usize = 0;
-
-const REFERENCE_ROW: usize = 16;
-
-const SAMPLE_ROW: usize = 80;
+pub const TABLE_SIZE: usize = (SAMPLE_ROW + bundles::SAMPLE_MOST + 1) * COLUMNS;
 
 // The columns of the counts.
 const TRACKS: usize = 0;
@@ -47,14 +50,14 @@ const FROM: usize = 0;
 
 const TO: usize = 1;
 
-// The columns of a sample: its decode time, where its bytes start, how many they are, and a flag for the crates above.
+// The columns of a sample: its decode time, where its bytes start, how many they are, and a count that the crates above keep for it.
 const TIME: usize = 0;
 
 const START: usize = 1;
 
 const LENGTH: usize = 2;
 
-const FLAG: usize = 3;
+const KEPT_COUNT: usize = 3;
 
 // The samples of a track: those numbered after `before`, up to `after`; none where `after` is not the greater.
 pub struct SampleRange {
@@ -64,38 +67,42 @@ pub struct SampleRange {
 
 // A number of the table, 0 past its end.
 fn cell(t: &[u64], row: usize, column: usize) -> usize
-    requires { ⌜ (row ≤ 4176) × (column < 4) ⌝ }
+    requires { ⌜ (row ≤ sampleRow sampleMost) × (column < columns) ⌝ }
     ensures { λ r. ⌜ r ≡ cell (now (t .entry)) row column ⌝ }
 {
-    let at = row * 4 + column;
+    let at = row * COLUMNS + column;
     if at < t.len() {
         return t[at] as usize;
     }
     0
 }
 
-// The number of tracks, at most 16.
+// A number, or the most where it is beyond it.
+fn at_most(n: usize, most: usize) -> usize
+    ensures { λ r. ⌜ (r ≡ atMost most n) × (r ≤ most) ⌝ }
+{
+    if n <= most { n } else { most }
+}
+
+// The number of tracks, at most as many as there may be.
 fn track_total(t: &[u64]) -> usize
-    ensures { λ r. ⌜ (r ≡ trackTotal (now (t .entry))) × (r ≤ 16) ⌝ }
+    ensures { λ r. ⌜ (r ≡ trackTotal (now (t .entry))) × (r ≤ trackMost) ⌝ }
 {
-    let n = cell(t, COUNTS_ROW, TRACKS);
-    if n <= 16 { n } else { 16 }
+    at_most(cell(t, COUNTS_ROW, TRACKS), bundles::TRACK_MOST)
 }
 
-// The number of references, at most 64.
+// The number of references, at most as many as there may be.
 fn reference_total(t: &[u64]) -> usize
-    ensures { λ r. ⌜ (r ≡ referenceTotal (now (t .entry))) × (r ≤ 64) ⌝ }
+    ensures { λ r. ⌜ (r ≡ referenceTotal (now (t .entry))) × (r ≤ referenceMost) ⌝ }
 {
-    let n = cell(t, COUNTS_ROW, REFERENCES);
-    if n <= 64 { n } else { 64 }
+    at_most(cell(t, COUNTS_ROW, REFERENCES), bundles::REFERENCE_MOST)
 }
 
-// The number of samples, at most 4,096.
+// The number of samples, at most as many as there may be.
 fn sample_total(t: &[u64]) -> usize
-    ensures { λ r. ⌜ (r ≡ sampleTotal (now (t .entry))) × (r ≤ 4096) ⌝ }
+    ensures { λ r. ⌜ (r ≡ sampleTotal (now (t .entry))) × (r ≤ sampleMost) ⌝ }
 {
-    let n = cell(t, COUNTS_ROW, SAMPLES);
-    if n <= 4096 { n } else { 4096 }
+    at_most(cell(t, COUNTS_ROW, SAMPLES), bundles::SAMPLE_MOST)
 }
 
 // The kind of a number, AVC where it says none.
@@ -245,7 +252,7 @@ pub fn sample_bytes<'a>(b: &'a [u8], t: &[u64], n: SampleNumber) -> &'a [u8]
 
 // A number of the row of a sample; 0 where there is no such sample.
 fn sample_cell(t: &[u64], n: SampleNumber, column: usize) -> usize
-    requires { ⌜ column < 4 ⌝ }
+    requires { ⌜ column < columns ⌝ }
     ensures { λ r. ⌜ r ≡ sampleCell (now (t .entry)) (n .0) column ⌝ }
 {
     let m = n.0;
@@ -316,7 +323,7 @@ pub fn sample_range(t: &[u64], k: TrackNumber) -> SampleRange
 
 // One more where a reference comes from track k.
 fn one_more(from: usize, k: usize, count: usize) -> usize
-    requires { ⌜ count ≤ 4096 ⌝ }
+    requires { ⌜ count < referenceMost ⌝ }
     ensures { λ r. ⌜ (r ≡ pick (from ≡? k) (count + 1) count) × (r ≤ count + 1) ⌝ }
 {
     if from == k { count + 1 } else { count }
@@ -360,16 +367,16 @@ pub fn reference(t: &[u64], k: TrackNumber, index: usize) -> TrackNumber
     TrackNumber(0)
 }
 
-// The flag of a sample; 0 where there is no such sample.
-pub fn flag(t: &[u64], n: SampleNumber) -> u64
-    ensures { λ r. ⌜ r ≡ flagIn (now (t .entry)) (n .0) ⌝ }
+// The count kept for a sample; 0 where there is no such sample.
+pub fn kept_count(t: &[u64], n: SampleNumber) -> u64
+    ensures { λ r. ⌜ r ≡ keptCountIn (now (t .entry)) (n .0) ⌝ }
 {
-    sample_cell(t, n, FLAG) as u64
+    sample_cell(t, n, KEPT_COUNT) as u64
 }
 
-// Sets the flag of a sample, where there is one.
-pub fn set_flag(t: &mut [u64], n: SampleNumber, v: u64)
-    ensures { λ _. ⌜ now (t .exit) ≡ flagged (now (t .entry)) (n .0) v ⌝ }
+// Keeps a count for a sample, where there is one.
+pub fn keep_count(t: &mut [u64], n: SampleNumber, v: u64)
+    ensures { λ _. ⌜ now (t .exit) ≡ withKeptCount (now (t .entry)) (n .0) v ⌝ }
 {
     let m = n.0;
     if m == 0 {
@@ -378,7 +385,7 @@ pub fn set_flag(t: &mut [u64], n: SampleNumber, v: u64)
     if sample_total(t) < m {
         return;
     }
-    let at = (SAMPLE_ROW + m) * 4 + FLAG;
+    let at = (SAMPLE_ROW + m) * COLUMNS + KEPT_COUNT;
     if at < t.len() {
         t[at] = v;
     }

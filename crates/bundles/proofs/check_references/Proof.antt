@@ -5,6 +5,8 @@ use mathlib.Core.Path.{_≡_, refl, sym, _∙_}
 use Prim.Native.Nat.{_+_, _-_, _*_}
 use Rattle.bundles.proofs.check_references.Statement.{statement}
 use Rattle.words.proofs.Walks.{skip-stride}
+use Rattle.bundles.specs.Limits.{referenceMost}
+use Rattle.bundles.specs.Fields.{referenceCountSize, referenceSize}
 use Rattle.bundles.specs.References.{referenceFault, referencesVerdict, samplesAt}
 use Rattle.words.proofs.Entries.{Walked, walked-start, walked-next, walked-refused, walked-end}
 use Rattle.bundles.proofs.Sections.{count-good, reference-good}
@@ -12,7 +14,7 @@ use Rattle.bundles.proofs.Checking.{at-count, at-entry, at-end}
 use Rattle.bundles.proofs.check_references.Tie as tie
 
 abbrev Inv-loop : tie.InvT-loop
-Inv-loop b sizes at fault n p₀ i₀ p i = Walked (λ q. q + 2) (referenceFault b) (at + 1) n i p
+Inv-loop b sizes at fault n p₀ i₀ p i = Walked (λ q. q + referenceSize) (referenceFault b) (at + referenceCountSize) n i p
 
 abbrev μ-loop : tie.MeasureT-loop
 μ-loop b sizes at fault n p₀ i₀ p i = n - i
@@ -31,7 +33,7 @@ number-requires : tie.Need-number-requires Inv-loop μ-loop
 number-requires c κs = search needs
 
 add-p : tie.Need-add-p Inv-loop μ-loop
-add-p c = let h = count-good (c .before .before .before .before .before .args .b .now) (c .before .before .before .before .before .args .at) 1 0 64 (sym (c .before .before .count-fault .ensures) ∙ c .before .if1 .left) in omega arith
+add-p c = let h = count-good (c .before .before .before .before .before .args .b .now) (c .before .before .before .before .before .args .at) referenceCountSize 0 referenceMost (sym (c .before .before .count-fault .ensures) ∙ c .before .if1 .left) in omega arith
 
 loop-holds : tie.Need-loop-holds Inv-loop μ-loop
 loop-holds c = walked-start
@@ -66,7 +68,7 @@ returns-3 c =
     let w = walked-end (c .before .loop .inv) (c .loop-test .left) in
     let a = c .before .before .before .before .before .before .before .args in
     let g = rw (c .before .before .number .ensures) at (w .0) in
-    let e : c .before .loop .p ≡ a .at + 1 + c .before .before .number .result * 2 = w .1 ∙ skip-stride 2 (c .before .before .number .result) (a .at + 1) in
+    let e : c .before .loop .p ≡ a .at + referenceCountSize + c .before .before .number .result * referenceSize = w .1 ∙ skip-stride referenceSize (c .before .before .number .result) (a .at + referenceCountSize) in
     rw (← c .before .before .before .before .before .before .before .pre .0, e, c .before .before .number .ensures) (at-end _ _ _ (c .before .before .before .before .count-fault .ensures) (c .before .before .before .if1 .left) g)
 
 pub check-references-spec : {M : Type 1} → statement M

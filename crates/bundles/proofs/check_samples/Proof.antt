@@ -1,4 +1,4 @@
--- The loop's invariant: the walk over the entries has passed i of them and come to the place p, and total is the sum of their lengths.
+-- The loop's invariant: the first i entries have no refusal, p is where the next stands, and total is the sum of their lengths.
 -- Assumes nothing.
 use borrow.Author.Needs.{needs}
 use native.Mathlib.Omega.{arith}
@@ -7,30 +7,31 @@ use Prim.Native.Nat.{ℕ, _+_, _-_, _*_, _≤_}
 use lib.ListN.{length}
 use Rattle.bundles.proofs.check_samples.Statement.{statement}
 use mathlib.Core.List.{map}
-use Rattle.words.specs.Lists.{sum}
-use Rattle.words.specs.Walks.{entries}
-use Rattle.bundles.specs.Samples.{long, lengths, entryFault, samplesVerdict}
-use Rattle.words.proofs.Entries.{Walked, walked-start, walked-next, walked-refused, walked-end}
+use Rattle.words.specs.Lists.{sum, upto}
+use Rattle.bundles.specs.Limits.{sampleMost}
+use Rattle.bundles.specs.Fields.{sampleCountSize, entrySize}
+use Rattle.bundles.specs.Samples.{entryAt, lengths, entryFault, samplesVerdict}
+use Rattle.bundles.proofs.Passing.{Passed, passed-start, passed-next, passed-refused, passed-end}
 use Rattle.bundles.proofs.Sections.{count-good, entry-good}
-use Rattle.bundles.proofs.Checking.{at-count, at-entry, at-end, total-start, total-next}
+use Rattle.bundles.proofs.Checking.{at-count, at-entry, at-end, lengthOf, total-start, total-next}
 use Rattle.bundles.proofs.check_samples.Tie as tie
 
 abbrev Inv-loop : tie.InvT-loop
-Inv-loop b at fault n start p₀ total₀ i₀ p total i = Walked (λ q. q + 13) (entryFault b) start n i p × (start ≤ p) × (total ≡ sum (map (long b) (entries (λ q. q + 13) i start))) × (total ≤ i * 4294967295)
+Inv-loop b at fault n p₀ total₀ i₀ p total i = Passed (entryFault b) (entryAt b) n i × (p ≡ entryAt b (i + 1)) × (total ≡ sum (map (lengthOf b) (upto i))) × (total ≤ i * 4294967295)
 
 abbrev μ-loop : tie.MeasureT-loop
-μ-loop b at fault n start p₀ total₀ i₀ p total i = n - i
+μ-loop b at fault n p₀ total₀ i₀ p total i = n - i
 
 -- the count is within its limits
-counted : (c : tie.Else1 Inv-loop μ-loop) → (c .before .before .before .args .at + 2 ≤ length (c .before .before .before .args .b .now))
-counted c = count-good (c .before .before .before .args .b .now) (c .before .before .before .args .at) 2 0 4096 (sym (c .before .count-fault .ensures) ∙ c .if1 .left) .inside
+counted : (c : tie.Else1 Inv-loop μ-loop) → (c .before .before .before .args .at + sampleCountSize ≤ length (c .before .before .before .args .b .now))
+counted c = count-good (c .before .before .before .args .b .now) (c .before .before .before .args .at) sampleCountSize 0 sampleMost (sym (c .before .count-fault .ensures) ∙ c .if1 .left) .inside
 
-few : (c : tie.After-number Inv-loop μ-loop) → c .number .result ≤ 4096
-few c = rw (c .number .ensures) (count-good (c .before .before .before .before .args .b .now) (c .before .before .before .before .args .at) 2 0 4096 (sym (c .before .before .count-fault .ensures) ∙ c .before .if1 .left) .few)
+few : (c : tie.After-number Inv-loop μ-loop) → c .number .result ≤ sampleMost
+few c = rw (c .number .ensures) (count-good (c .before .before .before .before .args .b .now) (c .before .before .before .before .args .at) sampleCountSize 0 sampleMost (sym (c .before .before .count-fault .ensures) ∙ c .before .if1 .left) .few)
 
 -- the entry at hand
-inside : (c : tie.Else2 Inv-loop μ-loop) → c .before .before .before .loop .p + 13 ≤ length (c .before .before .before .before .before .before .before .before .args .b .now)
-inside c = entry-good (c .before .before .before .before .before .before .before .before .args .b .now) (c .before .before .before .loop .p) (sym (c .before .entry-fault .ensures) ∙ c .if2 .left) .inside
+inside : (c : tie.Else2 Inv-loop μ-loop) → c .before .before .before .loop .p + entrySize ≤ length (c .before .before .before .before .before .before .before .before .args .b .now)
+inside c = rw (c .before .before .before .loop .inv .1) (entry-good (c .before .before .before .before .before .before .before .before .args .b .now) (c .before .before .before .loop .i + 1) (sym (c .before .entry-fault .ensures) ∙ c .if2 .left) .inside)
 
 count-fault-requires : tie.Need-count-fault-requires Inv-loop μ-loop
 count-fault-requires c κs = search needs
@@ -45,14 +46,17 @@ returns c = rw (c .refuse .ensures, ← c .before .before .before .before .pre) 
 number-requires : tie.Need-number-requires Inv-loop μ-loop
 number-requires c κs = search needs
 
-add-start : tie.Need-add-start Inv-loop μ-loop
-add-start c = let h = counted (c .before) in omega arith
+add-p : tie.Need-add-p Inv-loop μ-loop
+add-p c = let h = counted (c .before) in omega arith
 
 loop-holds : tie.Need-loop-holds Inv-loop μ-loop
-loop-holds c = (walked-start, omega arith, total-start (c .before .before .before .before .args .b .now) (c .before .before .before .before .args .at + 2), omega arith)
+loop-holds c = (passed-start, omega (arith, c .before .before .before .before .pre), total-start (c .before .before .before .before .args .b .now), omega arith)
+
+add-entry-fault : tie.Need-add-entry-fault Inv-loop μ-loop
+add-entry-fault c = search needs
 
 entry-fault-requires : tie.Need-entry-fault-requires Inv-loop μ-loop
-entry-fault-requires c κs = (ap (λ (x : ℕ). x + 2) (c .before .before .before .before .before .before .pre), omega arith)
+entry-fault-requires c κs = (omega arith, c .before .loop .inv .1)
 
 refuse-requires-2 : tie.Need-refuse-requires-2 Inv-loop μ-loop
 refuse-requires-2 c κs = search needs
@@ -60,8 +64,8 @@ refuse-requires-2 c κs = search needs
 returns-2 : tie.Need-returns-2 Inv-loop μ-loop
 unfolding samplesVerdict
 returns-2 c =
-    let w = walked-refused (c .before .before .before .before .loop .inv .0) (c .before .before .before .loop-test .taken) (c .before .before .entry-fault .ensures) (c .before .if2 .taken) in
-    rw (c .refuse2 .ensures, ← c .before .before .before .before .before .before .before .before .before .pre) (at-entry _ _ _ (c .before .before .before .before .before .before .before .count-fault .ensures) (c .before .before .before .before .before .before .if1 .left) (rw (c .before .before .before .before .before .number .ensures) at w))
+    let w = passed-refused (c .before .before .before .before .loop .inv .0) (c .before .before .before .loop-test .taken) (c .before .before .entry-fault .ensures) (c .before .if2 .taken) (c .before .before .before .before .loop .inv .1) in
+    rw (c .refuse2 .ensures, ← c .before .before .before .before .before .before .before .before .before .pre) (at-entry _ _ _ (c .before .before .before .before .before .before .before .count-fault .ensures) (c .before .before .before .before .before .before .if1 .left) (rw (← c .before .before .before .before .before .before .before .before .before .pre, c .before .before .before .before .before .number .ensures) at w))
 
 sample-length-requires : tie.Need-sample-length-requires Inv-loop μ-loop
 sample-length-requires c κs = inside c
@@ -69,8 +73,8 @@ sample-length-requires c κs = inside c
 add-total : tie.Need-add-total Inv-loop μ-loop
 add-total c = let h = few (c .before .before .before .before .before) in omega (arith, c .sample-length .ensures .1)
 
-add-p : tie.Need-add-p Inv-loop μ-loop
-add-p c = let h = inside (c .before) in omega arith
+add-p-2 : tie.Need-add-p-2 Inv-loop μ-loop
+add-p-2 c = let h = inside (c .before) in omega arith
 
 add-i : tie.Need-add-i Inv-loop μ-loop
 add-i c = search needs
@@ -81,9 +85,9 @@ loop-less c = search needs
 loop-again : tie.Need-loop-again Inv-loop μ-loop
 loop-again c =
     let v = c .before .before .before .before .loop .inv in (
-      walked-next (v .0) (c .before .before .before .loop-test .taken) (sym (c .before .before .entry-fault .ensures) ∙ c .before .if2 .left) refl,
-      omega arith,
-      total-next (c .before .before .before .before .before .before .before .before .before .args .b .now) _ (c .before .before .before .before .loop .i) (c .before .before .before .before .loop .p) _ _ (v .2) (v .0 .place) (c .sample-length .ensures .0),
+      passed-next (v .0) (c .before .before .before .loop-test .taken) (sym (c .before .before .entry-fault .ensures) ∙ c .before .if2 .left),
+      omega (arith, v .1),
+      total-next (c .before .before .before .before .before .before .before .before .before .args .b .now) (c .before .before .before .before .loop .i) (c .before .before .before .before .loop .p) _ _ (v .2) (v .1) (c .sample-length .ensures .0),
       omega (arith, c .sample-length .ensures .1),
     )
 
@@ -91,11 +95,9 @@ returns-3 : tie.Need-returns-3 Inv-loop μ-loop
 unfolding samplesVerdict lengths
 returns-3 c =
     let v = c .before .loop .inv in
-    let w = walked-end (v .0) (c .loop-test .left) in
-    let a = c .before .before .before .before .before .before .args in
+    let w = passed-end (v .0) (c .loop-test .left) in
     let i : c .before .loop .i ≡ c .before .before .number .result = omega (arith, v .0 .within) in
-    let g = rw (c .before .before .number .ensures) at (w .0) in
-    rw (← c .before .before .before .before .before .before .pre, v .2, i, c .before .before .number .ensures) (at-end _ _ _ (c .before .before .before .before .count-fault .ensures) (c .before .before .before .if1 .left) g)
+    rw (v .2, i, c .before .before .number .ensures, c .before .before .before .before .before .before .pre) (at-end _ _ _ (rw (c .before .before .before .before .before .before .pre) at (c .before .before .before .before .count-fault .ensures)) (c .before .before .before .if1 .left) (rw (c .before .before .number .ensures, c .before .before .before .before .before .before .pre) at w))
 
 pub check-samples-spec : {M : Type 1} → statement M
 check-samples-spec =
@@ -107,14 +109,15 @@ check-samples-spec =
     refuse-requires
     returns
     number-requires
-    add-start
+    add-p
     loop-holds
+    add-entry-fault
     entry-fault-requires
     refuse-requires-2
     returns-2
     sample-length-requires
     add-total
-    add-p
+    add-p-2
     add-i
     loop-less
     loop-again

@@ -7,20 +7,22 @@ use Prim.Native.Nat.{_-_, _≤_}
 use lib.ListN.{length, length-set}
 use Rattle.bundles.proofs.check_tracks.Statement.{statement}
 use Rattle.words.specs.Refusals.{ok}
-use Rattle.bundles.specs.Tracks.{trackCount, trackEnd, trackFault, tracksVerdict, referencesAt}
+use Rattle.bundles.specs.Limits.{trackLeast, trackMost}
+use Rattle.bundles.specs.Fields.{trackCountSize}
+use Rattle.bundles.specs.Tracks.{trackCount, tracksAt, trackEnd, trackFault, tracksVerdict, referencesAt}
 use Rattle.words.proofs.Entries.{Walked, walked-start, walked-next, walked-refused, walked-end}
 use Rattle.bundles.proofs.Sections.{count-good, tracks-good}
 use Rattle.bundles.proofs.Checking.{at-count, at-entry, at-end, not-refused, Kept, kept-start, kept-next, kept-sizes}
 use Rattle.bundles.proofs.check_tracks.Tie as tie
 
 abbrev Inv-loop : tie.InvT-loop
-Inv-loop b sizes₀ fault n p₀ i₀ sizes p i = Walked (trackEnd b) (trackFault b) 1 n i p × (length sizes ≡ length sizes₀) × Kept b i sizes
+Inv-loop b sizes₀ fault n p₀ i₀ sizes p i = Walked (trackEnd b) (trackFault b) (tracksAt b) n i p × (length sizes ≡ length sizes₀) × Kept b i sizes
 
 abbrev μ-loop : tie.MeasureT-loop
 μ-loop b sizes₀ fault n p₀ i₀ sizes p i = n - i
 
-few : (c : tie.After-number Inv-loop μ-loop) → c .number .result ≤ 16
-few c = rw (c .number .ensures) (count-good (c .before .before .before .before .before .args .b .now) 0 1 1 16 (sym (c .before .before .count-fault .ensures) ∙ c .before .if1 .left) .few)
+few : (c : tie.After-number Inv-loop μ-loop) → c .number .result ≤ trackMost
+few c = rw (c .number .ensures) (count-good (c .before .before .before .before .before .args .b .now) 0 trackCountSize trackLeast trackMost (sym (c .before .before .count-fault .ensures) ∙ c .before .if1 .left) .few)
 
 count-fault-requires : tie.Need-count-fault-requires Inv-loop μ-loop
 count-fault-requires c κs = search needs

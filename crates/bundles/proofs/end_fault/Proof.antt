@@ -7,11 +7,12 @@ use lib.ListN.{length}
 use Rattle.bundles.proofs.end_fault.Statement.{statement}
 use borrow.Author.Tests.{lt-ltb, le-ltb, ltb-false}
 use Rattle.words.proofs.Tests.{tests}
+use Rattle.bundles.specs.Fields.{byteCountSize}
 use Rattle.bundles.specs.Bundles.{endFault}
 use Rattle.bundles.proofs.end_fault.Tie as tie
 
 -- the count is there
-there : (c : tie.Else1) → c .before .before .before .args .at + 4 ≤ length (c .before .before .before .args .b .now)
+there : (c : tie.Else1) → c .before .before .before .args .at + byteCountSize ≤ length (c .before .before .before .args .b .now)
 there c = ltb-false _ _ (sym (c .before .cut .ensures) ∙ c .if1 .left)
 
 cut-requires : tie.Need-cut-requires
@@ -39,21 +40,21 @@ unfolding endFault
 returns-3 c =
     let h = there (c .before .before .before) in
     let a = c .before .before .before .before .before .before .args in
-    rw (← c .before .before .before .before .cut .ensures, c .before .before .before .if1 .left, ← c .before .before .number .ensures, lt-ltb (length (a .b .now)) (a .at + 4 + c .before .before .number .result) (omega arith)) (search tests)
+    rw (← c .before .before .before .before .cut .ensures, c .before .before .before .if1 .left, ← c .before .before .number .ensures, lt-ltb (length (a .b .now)) (a .at + byteCountSize + c .before .before .number .result) (omega arith)) (search tests)
 
 returns-4 : tie.Need-returns-4
 unfolding endFault
 returns-4 c =
     let h = there (c .before .before .before .before) in
     let a = c .before .before .before .before .before .before .before .args in
-    rw (← c .before .before .before .before .before .cut .ensures, c .before .before .before .before .if1 .left, ← c .before .before .before .number .ensures, le-ltb (length (a .b .now)) (a .at + 4 + c .before .before .before .number .result) (omega arith), lt-ltb (a .at + 4 + c .before .before .before .number .result) (length (a .b .now)) (omega arith)) (search tests)
+    rw (← c .before .before .before .before .before .cut .ensures, c .before .before .before .before .if1 .left, ← c .before .before .before .number .ensures, le-ltb (length (a .b .now)) (a .at + byteCountSize + c .before .before .before .number .result) (omega arith), lt-ltb (a .at + byteCountSize + c .before .before .before .number .result) (length (a .b .now)) (omega arith)) (search tests)
 
 returns-5 : tie.Need-returns-5
 unfolding endFault
 returns-5 c =
     let h = there (c .before .before .before .before) in
     let a = c .before .before .before .before .before .before .before .args in
-    rw (← c .before .before .before .before .before .cut .ensures, c .before .before .before .before .if1 .left, ← c .before .before .before .number .ensures, le-ltb (length (a .b .now)) (a .at + 4 + c .before .before .before .number .result) (omega arith), le-ltb (a .at + 4 + c .before .before .before .number .result) (length (a .b .now)) (omega arith)) (search tests)
+    rw (← c .before .before .before .before .before .cut .ensures, c .before .before .before .before .if1 .left, ← c .before .before .before .number .ensures, le-ltb (length (a .b .now)) (a .at + byteCountSize + c .before .before .before .number .result) (omega arith), le-ltb (a .at + byteCountSize + c .before .before .before .number .result) (length (a .b .now)) (omega arith)) (search tests)
 
 pub end-fault-spec : {M : Type 1} → statement M
 end-fault-spec =

@@ -2,28 +2,33 @@
 use borrow.Author.Needs.{needs}
 use native.Mathlib.Omega.{arith}
 use mathlib.Core.Path.{_≡_, sym, ap, _∙_}
-use Prim.Native.Nat.{_+_, _≤_}
+use Prim.Native.Nat.{_+_, _-_, _≤_}
 use lib.ListN.{length}
 use Rattle.bundles.proofs.entry_fault.Statement.{statement}
-use borrow.Author.Tests.{lt-ltb, le-ltb, ltb-false}
+use borrow.Author.Tests.{ltb-false, eq-eqb, ne-eqb}
+use Rattle.bundles.specs.Fields.{entrySize}
 use Rattle.bundles.specs.References.{noSuchTrack}
-use Rattle.bundles.specs.Samples.{track, entryFault}
-use Rattle.words.proofs.Entries.{big-one}
+use Rattle.bundles.specs.Samples.{entryAt, track, entryFault}
 use Rattle.bundles.proofs.entry_fault.Tie as tie
 
--- the entry is there, and whether it has a track
-there : (c : tie.Else1) → c .before .before .before .args .at + 13 ≤ length (c .before .before .before .args .b .now)
+-- the entry is there
+there : (c : tie.Else1) → c .before .before .before .args .at + entrySize ≤ length (c .before .before .before .args .b .now)
 there c = ltb-false _ _ (sym (c .before .cut .ensures) ∙ c .if1 .left)
 
+-- whether its track exists
 tracked : (c : tie.After-no-such-track) → c .no-such-track .result ≡ noSuchTrack (c .before .before .before .before .before .args .b .now) (track (c .before .before .before .before .before .args .b .now) (c .before .before .before .before .before .args .at))
-tracked c = c .no-such-track .ensures ∙ ap (noSuchTrack (c .before .before .before .before .before .args .b .now)) (c .before .number .ensures ∙ big-one (c .before .before .before .before .before .args .b .now) (c .before .before .before .before .before .args .at))
+tracked c = c .no-such-track .ensures ∙ ap (noSuchTrack (c .before .before .before .before .before .args .b .now)) (c .before .number .ensures)
+
+-- where the entry before it stands
+before : (c : tie.Else3) → entryAt (c .before .before .before .before .before .before .before .args .b .now) (c .before .before .before .before .before .before .before .args .n - 1) ≡ c .before .before .before .before .before .before .before .args .at - entrySize
+before c = omega (arith, c .before .before .before .before .before .before .before .pre .0, c .before .before .before .before .before .before .before .pre .1, c .if3 .left)
 
 cut-requires : tie.Need-cut-requires
 cut-requires c κs = search needs
 
 returns : tie.Need-returns
 unfolding entryFault
-returns c = rw (← c .before .cut .ensures, c .if1 .taken)
+returns c = rw (← c .before .before .before .pre .1, ← c .before .cut .ensures, c .if1 .taken)
 
 number-requires : tie.Need-number-requires
 number-requires c κs = search needs
@@ -33,28 +38,21 @@ no-such-track-requires c κs = search needs
 
 returns-2 : tie.Need-returns-2
 unfolding entryFault
-returns-2 c = rw (← c .before .before .before .before .cut .ensures, c .before .before .before .if1 .left, ← tracked (c .before), c .if2 .taken)
-
-sub-if3 : tie.Need-sub-if3
-sub-if3 c = search needs
+returns-2 c = rw (← c .before .before .before .before .before .before .pre .1, ← c .before .before .before .before .cut .ensures, c .before .before .before .if1 .left, ← tracked (c .before), c .if2 .taken)
 
 returns-3 : tie.Need-returns-3
 unfolding entryFault
-returns-3 c =
-    let a = c .before .before .before .before .before .before .before .args in
-    rw (← c .before .before .before .before .before .cut .ensures, c .before .before .before .before .if1 .left, ← tracked (c .before .before), c .before .if2 .left, ← c .before .before .before .before .before .before .before .pre .0, lt-ltb (a .at) (a .start + 13) (omega arith))
+returns-3 c = rw (← c .before .before .before .before .before .before .before .pre .1, ← c .before .before .before .before .before .cut .ensures, c .before .before .before .before .if1 .left, ← tracked (c .before .before), c .before .if2 .left, eq-eqb (c .before .before .before .before .before .before .before .args .n) 1 (c .if3 .taken))
 
 sub-order-fault : tie.Need-sub-order-fault
 sub-order-fault c = search needs
 
 order-fault-requires : tie.Need-order-fault-requires
-order-fault-requires c κs = let h = there (c .before .before .before .before) in (omega arith, h)
+order-fault-requires c κs = let h = there (c .before .before .before .before) in (omega (arith, before c), h)
 
 returns-4 : tie.Need-returns-4
 unfolding entryFault
-returns-4 c =
-    let a = c .before .before .before .before .before .before .before .before .args in
-    rw (← c .before .before .before .before .before .before .cut .ensures, c .before .before .before .before .before .if1 .left, ← tracked (c .before .before .before), c .before .before .if2 .left, ← c .before .before .before .before .before .before .before .before .pre .0, le-ltb (a .at) (a .start + 13) (omega arith)) (c .order-fault .ensures)
+returns-4 c = rw (before (c .before), ← c .before .before .before .before .before .before .before .before .pre .1, ← c .before .before .before .before .before .before .cut .ensures, c .before .before .before .before .before .if1 .left, ← tracked (c .before .before .before), c .before .before .if2 .left, ne-eqb (c .before .before .before .before .before .before .before .before .args .n) 1 (c .before .if3 .left)) (c .order-fault .ensures)
 
 pub entry-fault-spec : {M : Type 1} → statement M
 entry-fault-spec =
@@ -65,7 +63,6 @@ entry-fault-spec =
     number-requires
     no-such-track-requires
     returns-2
-    sub-if3
     returns-3
     sub-order-fault
     order-fault-requires

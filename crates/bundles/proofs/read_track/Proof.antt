@@ -6,15 +6,16 @@ use Prim.Native.Nat.{_+_, _≤_}
 use lib.ListN.{length}
 use Rattle.bundles.proofs.read_track.Statement.{statement}
 use borrow.Author.Tests.{ltb-false}
+use Rattle.bundles.specs.Fields.{trackHeadSize}
 use Rattle.bundles.specs.Tracks.{trackFault, sizeAt, kindAt}
 use native.Mathlib.Nat.{add-sub-cancel-left}
 use Rattle.numbers.specs.declared.MaybeKind.the-variants.{Known, Unknown}
 use Rattle.bundles.proofs.read_track.Tie as tie
 
-there : (c : tie.Else1) → c .before .before .before .args .at + 3 ≤ length (c .before .before .before .args .b .now)
+there : (c : tie.Else1) → c .before .before .before .args .at + trackHeadSize ≤ length (c .before .before .before .args .b .now)
 there c = ltb-false _ _ (sym (c .before .cut .ensures) ∙ c .if1 .left)
 
-whole : (c : tie.Else2) → c .before .before .before .before .before .before .args .at + 3 + c .before .before .number .result ≤ length (c .before .before .before .before .before .before .args .b .now)
+whole : (c : tie.Else2) → c .before .before .before .before .before .before .args .at + trackHeadSize + c .before .before .number .result ≤ length (c .before .before .before .before .before .before .args .b .now)
 whole c = ltb-false _ _ (sym (c .before .cut2 .ensures) ∙ c .if2 .left)
 
 cut-requires : tie.Need-cut-requires
@@ -75,7 +76,7 @@ unfolding trackFault sizeAt
 returns-3 c =
     let a = c .before .before .before .before .before .before .before .before .before .before .before .before .before .args in
     let k : kindAt (a .b .now) (a .at) ≡ Known (c .before .before .before .known .given .0 .0) = sym (c .before .before .before .before .before .from-number .ensures) ∙ c .before .before .before .known .given .1 in
-    let r = rw (add-sub-cancel-left (a .at + 3) (c .before .before .before .before .before .before .before .before .before .number .result), c .before .before .before .before .before .before .before .before .before .number .ensures) at (c .read-record .ensures) in
+    let r = rw (add-sub-cancel-left (a .at + trackHeadSize) (c .before .before .before .before .before .before .before .before .before .number .result), c .before .before .before .before .before .before .before .before .before .number .ensures) at (c .read-record .ensures) in
     record {
       fault = rw (← c .before .before .before .before .before .before .before .before .before .before .before .cut .ensures, c .before .before .before .before .before .before .before .before .before .before .if1 .left, ← c .before .before .before .before .before .before .before .before .before .number .ensures, ← c .before .before .before .before .before .before .before .before .cut2 .ensures, c .before .before .before .before .before .before .before .if2 .left, k, c .before .before .before .before .before .before .before .before .before .number .ensures) (r .0);
       size = λ z. rw k (r .1 z);

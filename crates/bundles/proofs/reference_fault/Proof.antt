@@ -6,17 +6,17 @@ use Prim.Native.Nat.{_+_}
 use lib.ListN.{length}
 use Rattle.bundles.proofs.reference_fault.Statement.{statement}
 use borrow.Author.Tests.{eq-eqb, ne-eqb, ltb-false}
+use Rattle.bundles.specs.Fields.{referenceSize}
 use Rattle.bundles.specs.References.{from, to, noSuchTrack, lengthSizeOn, referenceFault}
-use Rattle.words.proofs.Entries.{big-one}
 use Rattle.bundles.proofs.Sections.{exists}
 use Rattle.bundles.proofs.reference_fault.Tie as tie
 
 -- the two numbers that were read
 from-is : (c : tie.After-number) → c .number .result ≡ from (c .before .before .before .before .before .args .b .now) (c .before .before .before .before .before .args .at)
-from-is c = c .number .ensures ∙ big-one (c .before .before .before .before .before .args .b .now) (c .before .before .before .before .before .args .at)
+from-is c = c .number .ensures
 
 to-is : (c : tie.After-number2) → c .number2 .result ≡ to (c .before .before .before .before .before .before .args .b .now) (c .before .before .before .before .before .before .args .at)
-to-is c = c .number2 .ensures ∙ big-one (c .before .before .before .before .before .before .args .b .now) (c .before .before .before .before .before .before .args .at + 1)
+to-is c = c .number2 .ensures
 
 from-there : (c : tie.After-no-such-track) → c .no-such-track .result ≡ noSuchTrack (c .before .before .before .before .before .before .before .args .b .now) (from (c .before .before .before .before .before .before .before .args .b .now) (c .before .before .before .before .before .before .before .args .at))
 from-there c = c .no-such-track .ensures ∙ ap (noSuchTrack (c .before .before .before .before .before .before .before .args .b .now)) (from-is (c .before .before))
@@ -46,7 +46,7 @@ number-requires : tie.Need-number-requires
 number-requires c κs = search needs
 
 add-number : tie.Need-add-number
-add-number c = let h = ltb-false (length (c .before .before .before .before .before .args .b .now)) (c .before .before .before .before .before .args .at + 2) (sym (c .before .before .cut .ensures) ∙ c .before .if1 .left) in omega arith
+add-number c = let h = ltb-false (length (c .before .before .before .before .before .args .b .now)) (c .before .before .before .before .before .args .at + referenceSize) (sym (c .before .before .cut .ensures) ∙ c .before .if1 .left) in omega arith
 
 number-requires-2 : tie.Need-number-requires-2
 number-requires-2 c κs = search needs

@@ -6,16 +6,20 @@ use lib.ListN.{length}
 use Rattle.filling.proofs.fill_references.Statement.{statement}
 use Rattle.words.specs.Walks.{skip}
 use Rattle.filling.specs.Filling.{writeRows, referenceCells}
+use Rattle.bundles.specs.Limits.{referenceMost}
+use Rattle.bundles.specs.Fields.{referenceCountSize, referenceSize}
+use Rattle.bundles.specs.Bundles.{layoutOf}
+use Rattle.tables.specs.Tables.{referenceRow}
 use Rattle.bundles.specs.References.{referenceCount}
 use Rattle.bundles.specs.Tracks.{referencesAt}
-use Rattle.words.proofs.Entries.{skip-snoc, big-one}
+use Rattle.words.proofs.Entries.{skip-snoc}
 use Rattle.bundles.proofs.Sections.{Accepted, accepted}
 use Rattle.filling.proofs.Rows.{rows-none, rows-put, reference-row, reference-sound}
 use native.Mathlib.Omega.{arith}
 use Rattle.filling.proofs.fill_references.Tie as tie
 
 abbrev Inv-loop : tie.InvT-loop
-Inv-loop b t₀ start n p₀ i₀ t p i = (i ≤ n) × (p ≡ skip (λ q. q + 2) i start) × (length t ≡ length t₀) × (t ≡ writeRows t₀ 17 (referenceCells b) i)
+Inv-loop b t₀ start n p₀ i₀ t p i = (i ≤ n) × (p ≡ skip (λ q. q + referenceSize) i start) × (length t ≡ length t₀) × (t ≡ writeRows t₀ (referenceRow 1) (referenceCells (layoutOf b)) i)
 
 abbrev μ-loop : tie.MeasureT-loop
 μ-loop b t₀ start n p₀ i₀ t p i = n - i
@@ -23,20 +27,20 @@ abbrev μ-loop : tie.MeasureT-loop
 all : (c : tie.In-loop Inv-loop μ-loop) → Accepted (c .before .before .before .before .args .b .now)
 all c = accepted (c .before .before .before .before .args .b .now) (c .before .before .before .before .pre .0)
 
--- there are at most 64
-few : (c : tie.In-loop Inv-loop μ-loop) → (c .before .before .before .before .args .n ≤ 64) × (c .before .loop .i < referenceCount (c .before .before .before .before .args .b .now))
+-- there are not too many
+few : (c : tie.In-loop Inv-loop μ-loop) → (c .before .before .before .before .args .n ≤ referenceMost) × (c .before .loop .i < referenceCount (c .before .before .before .before .args .b .now))
 few c = let f = all c .references .count .few in (omega (arith, c .before .before .before .before .pre .2), omega (arith, c .before .before .before .before .pre .2, c .loop-test .taken))
 
 -- the place of the reference at hand
-placed : (c : tie.In-loop Inv-loop μ-loop) → c .before .loop .p ≡ skip (λ q. q + 2) (c .before .loop .i) (referencesAt (c .before .before .before .before .args .b .now) + 1)
+placed : (c : tie.In-loop Inv-loop μ-loop) → c .before .loop .p ≡ skip (λ q. q + referenceSize) (c .before .loop .i) (referencesAt (c .before .before .before .before .args .b .now) + referenceCountSize)
 placed c = rw (← c .before .before .before .before .pre .1) (c .before .loop .inv .1)
 
-inside : (c : tie.In-loop Inv-loop μ-loop) → c .before .loop .p + 2 ≤ length (c .before .before .before .before .args .b .now)
+inside : (c : tie.In-loop Inv-loop μ-loop) → c .before .loop .p + referenceSize ≤ length (c .before .before .before .before .args .b .now)
 inside c = reference-sound (c .before .before .before .before .args .b .now) (all c) (c .before .loop .i) (c .before .loop .p) (few c .1) (placed c)
 
 loop-holds : tie.Need-loop-holds Inv-loop μ-loop
 unfolding skip
-loop-holds c = (omega arith, refl, refl, rows-none (referenceCells (c .before .before .args .b .now)) (λ k. refl) (c .before .before .args .t .now) 17)
+loop-holds c = (omega arith, refl, refl, rows-none (referenceCells (layoutOf (c .before .before .args .b .now))) (λ k. refl) (c .before .before .args .t .now) (referenceRow 1))
 
 number-requires : tie.Need-number-requires Inv-loop μ-loop
 number-requires c κs = search needs
@@ -70,10 +74,10 @@ loop-again c =
     let p = c .before .before .before .before .before .before .before .loop .p in
     let h = few (c .before .before .before .before .before .before) in (
       omega arith,
-      ap (λ (q : ℕ). q + 2) (c .before .before .before .before .before .before .before .loop .inv .1) ∙ sym (skip-snoc (λ q. q + 2) i (a .start)),
+      ap (λ (q : ℕ). q + referenceSize) (c .before .before .before .before .before .before .before .loop .inv .1) ∙ sym (skip-snoc (λ q. q + referenceSize) i (a .start)),
       c .before .before .put-row .kept .0 ∙ c .before .before .before .before .before .before .before .loop .inv .2,
-      c .before .before .put-row .ensures ∙ rows-put (referenceCells b) (λ k. refl) (a .t .now) 17 i (17 + i) (c .before .before .before .before .before .before .before .loop .inv .3)
-          (rw (c .before .before .before .before .before .number .ensures, c .before .before .before .before .number2 .ensures, big-one b p, big-one b (p + 1)) (reference-row b i p (h .1) (placed (c .before .before .before .before .before .before)))) refl (omega (arith, c .before .before .before .before .before .before .before .before .before .before .pre .3)),
+      c .before .before .put-row .ensures ∙ rows-put (referenceCells (layoutOf b)) (λ k. refl) (a .t .now) (referenceRow 1) i (referenceRow 1 + i) (c .before .before .before .before .before .before .before .loop .inv .3)
+          (rw (c .before .before .before .before .before .number .ensures, c .before .before .before .before .number2 .ensures) (reference-row b (all (c .before .before .before .before .before .before)) i p (h .1) (placed (c .before .before .before .before .before .before)))) refl (omega (arith, c .before .before .before .before .before .before .before .before .before .before .pre .3)),
     )
 
 same-length : tie.Need-same-length Inv-loop μ-loop

@@ -6,16 +6,18 @@ use mathlib.Core.Path.{_≡_, refl, sym, ap, _∙_}
 use Prim.Native.Nat.{ℕ, _+_, _-_, _*_, _≤_, _<_}
 use lib.ListN.{length}
 use Rattle.filling.proofs.fill_samples.Statement.{statement}
-use Rattle.words.specs.Walks.{skip}
-use Rattle.bundles.specs.Samples.{entryCount, entriesAt}
-use Rattle.words.proofs.Entries.{skip-snoc}
+use Rattle.bundles.specs.Limits.{sampleMost}
+use Rattle.bundles.specs.Fields.{entrySize, byteCountSize}
+use Rattle.bundles.specs.Bundles.{recordingOf, contentAt}
+use Rattle.tables.specs.Tables.{sampleRow}
+use Rattle.bundles.specs.Samples.{entryCount, entryAt}
 use Rattle.bundles.proofs.Sections.{Accepted, accepted}
 use Rattle.filling.specs.Filling.{writeRows, sampleCells}
 use Rattle.filling.proofs.Rows.{rows-none, rows-put, sample-row, entry-sound, entries-inside, startOf, start-first, start-next, start-inside}
 use Rattle.filling.proofs.fill_samples.Tie as tie
 
 abbrev Inv-loop : tie.InvT-loop
-Inv-loop b t₀ start n p₀ place₀ i₀ t p place i = (i ≤ n) × (p ≡ skip (λ q. q + 13) i start) × (place ≡ startOf b i) × (length t ≡ length t₀) × (t ≡ writeRows t₀ 81 (sampleCells b) i)
+Inv-loop b t₀ start n p₀ place₀ i₀ t p place i = (i ≤ n) × (p ≡ start + i * entrySize) × (place ≡ startOf b i) × (length t ≡ length t₀) × (t ≡ writeRows t₀ (sampleRow 1) (sampleCells (recordingOf b) (contentAt b)) i)
 
 abbrev μ-loop : tie.MeasureT-loop
 μ-loop b t₀ start n p₀ place₀ i₀ t p place i = n - i
@@ -23,22 +25,22 @@ abbrev μ-loop : tie.MeasureT-loop
 all : (c : tie.In-loop Inv-loop μ-loop) → Accepted (c .before .before .before .before .args .b .now)
 all c = accepted (c .before .before .before .before .args .b .now) (c .before .before .before .before .pre .0)
 
--- there are at most 4,096
-few : (c : tie.In-loop Inv-loop μ-loop) → (c .before .before .before .before .args .n ≤ 4096) × (c .before .loop .i < entryCount (c .before .before .before .before .args .b .now))
+-- there are not too many
+few : (c : tie.In-loop Inv-loop μ-loop) → (c .before .before .before .before .args .n ≤ sampleMost) × (c .before .loop .i < entryCount (c .before .before .before .before .args .b .now))
 few c = let f = all c .samples .count .few in (omega (arith, c .before .before .before .before .pre .2), omega (arith, c .before .before .before .before .pre .2, c .loop-test .taken))
 
 -- the place of the entry at hand
-placed : (c : tie.In-loop Inv-loop μ-loop) → c .before .loop .p ≡ skip (λ q. q + 13) (c .before .loop .i) (entriesAt (c .before .before .before .before .args .b .now))
-placed c = rw (← c .before .before .before .before .pre .1) (c .before .loop .inv .1)
+placed : (c : tie.In-loop Inv-loop μ-loop) → c .before .loop .p ≡ entryAt (c .before .before .before .before .args .b .now) (c .before .loop .i + 1)
+placed c = omega (arith, c .before .before .before .before .pre .1, c .before .loop .inv .1)
 
-inside : (c : tie.In-loop Inv-loop μ-loop) → c .before .loop .p + 13 ≤ length (c .before .before .before .before .args .b .now)
+inside : (c : tie.In-loop Inv-loop μ-loop) → c .before .loop .p + entrySize ≤ length (c .before .before .before .before .args .b .now)
 inside c = entry-sound (c .before .before .before .before .args .b .now) (all c) (c .before .loop .i) (c .before .loop .p) (few c .1) (placed c)
 
 -- where the next sample's bytes start
 next : (c : tie.After-number2 Inv-loop μ-loop) → c .before .before .before .loop .place + c .number2 .result ≡ startOf (c .before .before .before .before .before .before .args .b .now) (c .before .before .before .loop .i + 1)
-next c = rw (c .before .before .before .loop .inv .2, c .number2 .ensures) (start-next (c .before .before .before .before .before .before .args .b .now) (all (c .before .before) .samples) (c .before .before .before .loop .i) (c .before .before .before .loop .p) (few (c .before .before) .1) (placed (c .before .before)))
+next c = rw (c .before .before .before .loop .inv .2, c .number2 .ensures, placed (c .before .before)) (start-next (c .before .before .before .before .before .before .args .b .now) (c .before .before .before .loop .i) (few (c .before .before) .1))
 
-within : (c : tie.After-slice-known Inv-loop μ-loop) → c .before .before .args .start + c .before .before .args .n * 13 ≤ length (c .before .before .args .b .now)
+within : (c : tie.After-slice-known Inv-loop μ-loop) → c .before .before .args .start + c .before .before .args .n * entrySize ≤ length (c .before .before .args .b .now)
 within c = rw (c .before .before .pre .1, c .before .before .pre .2) (entries-inside (c .before .before .args .b .now) (accepted (c .before .before .args .b .now) (c .before .before .pre .0)))
 
 mul-place : tie.Need-mul-place Inv-loop μ-loop
@@ -51,14 +53,13 @@ add-place-2 : tie.Need-add-place-2 Inv-loop μ-loop
 add-place-2 c =
     let h = start-inside (c .before .before .args .b .now) 0 (accepted (c .before .before .args .b .now) (c .before .before .pre .0)) (omega arith) in
     let s = start-first (c .before .before .args .b .now) in
-    let e : c .before .before .args .start + c .before .before .args .n * 13 + 4 ≤ length (c .before .before .args .b .now) = rw (c .before .before .pre .1, c .before .before .pre .2) (omega arith) in
+    let e : c .before .before .args .start + c .before .before .args .n * entrySize + byteCountSize ≤ length (c .before .before .args .b .now) = rw (c .before .before .pre .1, c .before .before .pre .2) (omega arith) in
     omega arith
 
 loop-holds : tie.Need-loop-holds Inv-loop μ-loop
-unfolding skip
 loop-holds c =
     let a = c .before .before .args in
-    (omega arith, refl, rw (c .before .before .pre .1, c .before .before .pre .2) (sym (start-first (a .b .now))), refl, rows-none (sampleCells (a .b .now)) (λ k. refl) (a .t .now) 81)
+    (omega arith, omega arith, rw (c .before .before .pre .1, c .before .before .pre .2) (sym (start-first (a .b .now))), refl, rows-none (sampleCells (recordingOf (a .b .now)) (contentAt (a .b .now))) (λ k. refl) (a .t .now) (sampleRow 1))
 
 add-number : tie.Need-add-number Inv-loop μ-loop
 add-number c = let h = inside c in omega arith
@@ -102,11 +103,11 @@ loop-again c =
     let p = c .before .before .before .before .before .before .before .loop .p in
     let h = few (c .before .before .before .before .before .before) in (
       omega arith,
-      ap (λ (q : ℕ). q + 13) (c .before .before .before .before .before .before .before .loop .inv .1) ∙ sym (skip-snoc (λ q. q + 13) i (a .start)),
+      omega (arith, c .before .before .before .before .before .before .before .loop .inv .1),
       next (c .before .before .before .before),
       c .before .before .put-row .kept .0 ∙ c .before .before .before .before .before .before .before .loop .inv .3,
-      c .before .before .put-row .ensures ∙ rows-put (sampleCells b) (λ k. refl) (a .t .now) 81 i (81 + i) (c .before .before .before .before .before .before .before .loop .inv .4)
-          (rw (c .before .before .before .before .before .number .ensures, c .before .before .before .before .number2 .ensures, c .before .before .before .before .before .before .before .loop .inv .2) (sample-row b i p (h .1) (placed (c .before .before .before .before .before .before)))) refl (omega (arith, c .before .before .before .before .before .before .before .before .before .before .pre .3)),
+      c .before .before .put-row .ensures ∙ rows-put (sampleCells (recordingOf b) (contentAt b)) (λ k. refl) (a .t .now) (sampleRow 1) i (sampleRow 1 + i) (c .before .before .before .before .before .before .before .loop .inv .4)
+          (rw (c .before .before .before .before .before .number .ensures, c .before .before .before .before .number2 .ensures, c .before .before .before .before .before .before .before .loop .inv .2) (sample-row b i p (c .before .before .before .before .before .before .before .before .before .before .pre .0) (h .1) (placed (c .before .before .before .before .before .before)))) refl (omega (arith, c .before .before .before .before .before .before .before .before .before .before .pre .3)),
     )
 
 same-length : tie.Need-same-length Inv-loop μ-loop

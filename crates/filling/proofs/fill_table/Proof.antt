@@ -2,6 +2,7 @@
 use borrow.Author.Needs.{needs}
 use mathlib.Core.Path.{refl, sym}
 use Rattle.filling.proofs.fill_table.Statement.{statement}
+use Rattle.bundles.specs.Bundles.{meaning}
 use Rattle.filling.specs.Filling.{filling, tableAfter}
 use Rattle.filling.proofs.fill_table.Tie as tie
 
@@ -18,7 +19,7 @@ fill-accepted-requires : tie.Need-fill-accepted-requires
 fill-accepted-requires c κs = sym (rw (c .before .enum-told .given .1) at (c .before .before .before .check-bundle .ensures))
 
 returns : tie.Need-returns
-unfolding filling tableAfter
+unfolding filling tableAfter meaning
 returns c = let e = rw (c .before .r .given .1) at (c .before .before .before .check-bundle .ensures) in rw (← e) (refl, refl)
 
 same-length : tie.Need-same-length

@@ -7,7 +7,10 @@ use Prim.Native.Nat.{_+_, _-_, _≤_, _<_}
 use lib.ListN.{length}
 use Rattle.filling.proofs.fill_tracks.Statement.{statement}
 use Rattle.words.specs.Walks.{skip}
-use Rattle.bundles.specs.Tracks.{trackCount, trackEnd, trackFault}
+use Rattle.bundles.specs.Limits.{trackMost}
+use Rattle.bundles.specs.Bundles.{layoutOf}
+use Rattle.tables.specs.Tables.{trackRow}
+use Rattle.bundles.specs.Tracks.{trackCount, tracksAt, trackEnd, trackFault}
 use Rattle.words.proofs.Entries.{skip-snoc, big-one}
 use Rattle.bundles.proofs.Sections.{Accepted, accepted, TrackGood, track-good}
 use Rattle.filling.specs.Filling.{writeRows, trackCells, samplesBefore}
@@ -15,7 +18,7 @@ use Rattle.filling.proofs.Rows.{rows-none, rows-put, track-row, track-s
 use Rattle.filling.proofs.fill_tracks.Tie as tie
 
 abbrev Inv-loop : tie.InvT-loop
-Inv-loop b t₀ start total n p₀ before₀ k₀ t p before k = (k ≤ n) × (p ≡ skip (trackEnd b) k 1) × (before ≤ samplesBefore b (k + 1)) × (length t ≡ length t₀) × (t ≡ writeRows t₀ 1 (trackCells b) k)
+Inv-loop b t₀ start total n p₀ before₀ k₀ t p before k = (k ≤ n) × (p ≡ skip (trackEnd b) k (tracksAt b)) × (before ≤ samplesBefore (layoutOf b) (k + 1)) × (length t ≡ length t₀) × (t ≡ writeRows t₀ (trackRow 1) (trackCells (layoutOf b)) k)
 
 abbrev μ-loop : tie.MeasureT-loop
 μ-loop b t₀ start total n p₀ before₀ k₀ t p before k = n - k
@@ -23,8 +26,8 @@ abbrev μ-loop : tie.MeasureT-loop
 all : (c : tie.In-loop Inv-loop μ-loop) → Accepted (c .before .before .before .before .before .args .b .now)
 all c = accepted (c .before .before .before .before .before .args .b .now) (c .before .before .before .before .before .pre .0)
 
--- there are at most 16
-few : (c : tie.In-loop Inv-loop μ-loop) → (c .before .before .number .result ≤ 16) × (c .before .loop .k < trackCount (c .before .before .before .before .before .args .b .now))
+-- there are not too many
+few : (c : tie.In-loop Inv-loop μ-loop) → (c .before .before .number .result ≤ trackMost) × (c .before .loop .k < trackCount (c .before .before .before .before .before .args .b .now))
 few c = let f = all c .tracks .count .few in (omega (arith, c .before .before .number .ensures), omega (arith, c .before .before .number .ensures, c .loop-test .taken))
 
 -- the entry at hand
@@ -41,7 +44,7 @@ loop-holds : tie.Need-loop-holds Inv-loop μ-loop
 unfolding skip
 loop-holds c =
     let a = c .before .before .before .args in
-    (omega arith, refl, omega arith, refl, rows-none (trackCells (a .b .now)) (λ k. refl) (a .t .now) 1)
+    (omega arith, refl, omega arith, refl, rows-none (trackCells (layoutOf (a .b .now))) (λ k. refl) (a .t .now) (trackRow 1))
 
 add-samples-before : tie.Need-add-samples-before Inv-loop μ-loop
 add-samples-before c = let h = few c in omega arith
@@ -87,11 +90,11 @@ loop-again c =
     let p = c .before .before .before .before .before .before .before .before .before .loop .p in
     let h = few (c .before .before .before .before .before .before .before .before) in (
       omega arith,
-      rw (c .number3 .ensures) (ap (trackEnd b) (c .before .before .before .before .before .before .before .before .before .loop .inv .1) ∙ sym (skip-snoc (trackEnd b) k 1)),
+      rw (c .number3 .ensures) (ap (trackEnd b) (c .before .before .before .before .before .before .before .before .before .loop .inv .1) ∙ sym (skip-snoc (trackEnd b) k (tracksAt b))),
       rw (c .before .before .before .before .before .before .before .samples-before .ensures) (before-grow b (all (c .before .before .before .before .before .before .before .before) .samples) (k + 1)),
       c .before .before .before .put-row .kept .0 ∙ c .before .before .before .before .before .before .before .before .before .loop .inv .3,
-      c .before .before .before .put-row .ensures ∙ rows-put (trackCells b) (λ m. refl) (a .t .now) 1 k (1 + k) (c .before .before .before .before .before .before .before .before .before .loop .inv .4)
-          (rw (c .before .before .before .before .before .before .number2 .ensures, c .before .before .before .before .before .length-size-at .ensures, c .before .before .before .before .before .before .before .samples-before .ensures, big-one b p) (track-row b k p (h .1) (c .before .before .before .before .before .before .before .before .before .loop .inv .1))) (omega arith) (omega (arith, c .before .before .before .before .before .before .before .before .before .before .before .before .before .pre .3)),
+      c .before .before .before .put-row .ensures ∙ rows-put (trackCells (layoutOf b)) (λ m. refl) (a .t .now) (trackRow 1) k (trackRow 1 + k) (c .before .before .before .before .before .before .before .before .before .loop .inv .4)
+          (rw (c .before .before .before .before .before .before .number2 .ensures, c .before .before .before .before .before .length-size-at .ensures, c .before .before .before .before .before .before .before .samples-before .ensures, big-one b p) (track-row b (all (c .before .before .before .before .before .before .before .before)) k p (h .1) (c .before .before .before .before .before .before .before .before .before .loop .inv .1))) (omega arith) (omega (arith, c .before .before .before .before .before .before .before .before .before .before .before .before .before .pre .3)),
     )
 
 same-length : tie.Need-same-length Inv-loop μ-loop

@@ -5,14 +5,14 @@ use mathlib.Core.Path.{_≡_, refl, sym, ap, _∙_}
 use Prim.Native.Nat.{_-_, _≤_}
 use Rattle.filling.proofs.references_at.Statement.{statement}
 use Rattle.words.specs.Walks.{skip}
-use Rattle.bundles.specs.Tracks.{trackEnd, referencesAt}
+use Rattle.bundles.specs.Tracks.{tracksAt, trackEnd, referencesAt}
 use Rattle.words.proofs.Entries.{skip-snoc}
 use Rattle.bundles.proofs.Sections.{TrackGood, track-good, accepted}
 use Rattle.filling.proofs.Rows.{track-sound}
 use Rattle.filling.proofs.references_at.Tie as tie
 
 abbrev Inv-loop : tie.InvT-loop
-Inv-loop b n p₀ i₀ p i = (i ≤ n) × (p ≡ skip (trackEnd b) i 1)
+Inv-loop b n p₀ i₀ p i = (i ≤ n) × (p ≡ skip (trackEnd b) i (tracksAt b))
 
 abbrev μ-loop : tie.MeasureT-loop
 μ-loop b n p₀ i₀ p i = n - i
@@ -51,7 +51,7 @@ loop-less c = search needs
 loop-again : tie.Need-loop-again Inv-loop μ-loop
 loop-again c =
     let b = c .before .before .before .before .before .args .b .now in
-    (omega arith, rw (c .number2 .ensures) (ap (trackEnd b) (c .before .before .loop .inv .1) ∙ sym (skip-snoc (trackEnd b) (c .before .before .loop .i) 1)))
+    (omega arith, rw (c .number2 .ensures) (ap (trackEnd b) (c .before .before .loop .inv .1) ∙ sym (skip-snoc (trackEnd b) (c .before .before .loop .i) (tracksAt b))))
 
 returns : tie.Need-returns Inv-loop μ-loop
 unfolding referencesAt

@@ -4,15 +4,16 @@ use native.Mathlib.Omega.{arith}
 use mathlib.Core.Path.{_≡_, _∙_}
 use Prim.Native.Nat.{_+_, _-_, _*_, _≤_, _<_}
 use Rattle.filling.proofs.samples_before.Statement.{statement}
+use Rattle.bundles.specs.Fields.{entrySize}
+use Rattle.bundles.specs.Bundles.{layoutOf}
 use Rattle.bundles.specs.Samples.{track, entriesAt, entryCount}
-use Rattle.words.proofs.Entries.{big-one}
 use Rattle.bundles.proofs.Sections.{Accepted, accepted}
 use Rattle.filling.specs.Filling.{samplesBefore}
 use Rattle.filling.proofs.Rows.{before-on, before-off, before-most, entries-inside}
 use Rattle.filling.proofs.samples_before.Tie as tie
 
 abbrev Inv-loop : tie.InvT-loop
-Inv-loop b start total least k n₀ n = n ≤ samplesBefore b k
+Inv-loop b start total least k n₀ n = n ≤ samplesBefore (layoutOf b) k
 
 abbrev μ-loop : tie.MeasureT-loop
 μ-loop b start total least k n₀ n = total - n
@@ -20,8 +21,8 @@ abbrev μ-loop : tie.MeasureT-loop
 all : (c : tie.In-loop Inv-loop μ-loop) → Accepted (c .before .before .before .args .b .now)
 all c = accepted (c .before .before .before .args .b .now) (c .before .before .before .pre .0)
 
-read : (c : tie.After-number Inv-loop μ-loop) → c .number .result ≡ track (c .before .before .before .before .args .b .now) (entriesAt (c .before .before .before .before .args .b .now) + c .before .before .loop .n * 13)
-read c = rw (← c .before .before .before .before .pre .1) (c .number .ensures ∙ big-one (c .before .before .before .before .args .b .now) (c .before .before .before .before .args .start + c .before .before .loop .n * 13))
+read : (c : tie.After-number Inv-loop μ-loop) → c .number .result ≡ track (c .before .before .before .before .args .b .now) (entriesAt (c .before .before .before .before .args .b .now) + c .before .before .loop .n * entrySize)
+read c = rw (← c .before .before .before .before .pre .1) (c .number .ensures)
 
 fewer : (c : tie.In-loop Inv-loop μ-loop) → c .before .loop .n < entryCount (c .before .before .before .args .b .now)
 fewer c = omega (arith, c .before .before .before .pre .2, c .loop-test .taken)

@@ -1,20 +1,19 @@
 -- A count beyond its limit reads as the limit. Assumes nothing.
 use borrow.Author.Needs.{needs}
-use native.Mathlib.Omega.{arith}
-use mathlib.Core.Path.{sym, _∙_}
+use mathlib.Core.Path.{ap, _∙_}
 use Rattle.tables.proofs.reference_total.Statement.{statement}
-use Rattle.tables.specs.Tables.{cell}
-use Rattle.tables.proofs.Layouts.{total-fits, total-most}
+use Rattle.bundles.specs.Limits.{referenceMost}
+use Rattle.tables.specs.Tables.{atMost}
 use Rattle.tables.proofs.reference_total.Tie as tie
 
 cell-requires : tie.Need-cell-requires
 cell-requires c κs = search needs
 
-returns : tie.Need-returns
-returns c = (c .before .cell .ensures ∙ sym (total-fits 64 (cell _ _ _) (rw (← c .before .cell .ensures) (c .if1 .taken))), c .if1 .taken)
+at-most-requires : tie.Need-at-most-requires
+at-most-requires c κs = search needs
 
-returns-2 : tie.Need-returns-2
-returns-2 c = (sym (total-most 64 (cell _ _ _) (rw (← c .before .cell .ensures) (c .if1 .left))), omega arith)
+returns : tie.Need-returns
+returns c = (c .at-most .ensures .0 ∙ ap (atMost referenceMost) (c .before .cell .ensures), c .at-most .ensures .1)
 
 pub reference-total-spec : {M : Type 1} → statement M
-reference-total-spec = tie.close (tie.spec cell-requires returns returns-2)
+reference-total-spec = tie.close (tie.spec cell-requires at-most-requires returns)

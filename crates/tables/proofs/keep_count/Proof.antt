@@ -1,15 +1,15 @@
--- A sample that there is not, a table without room for the flag, or one store. Assumes nothing.
+-- A sample that there is not, a table without room for the count, or one store. Assumes nothing.
 use borrow.Author.Needs.{needs}
 use native.Mathlib.Omega.{arith}
 use mathlib.Core.Path.{sym}
-use Rattle.tables.proofs.set_flag.Statement.{statement}
+use Rattle.tables.proofs.keep_count.Statement.{statement}
 use borrow.Author.Tests.{lt-ltb, le-ltb, eq-eqb, ne-eqb}
-use Rattle.tables.specs.Tables.{sampleTotal, flagged}
-use Rattle.tables.proofs.Flags.{set-beyond}
-use Rattle.tables.proofs.set_flag.Tie as tie
+use Rattle.tables.specs.Tables.{sampleTotal, withKeptCount}
+use Rattle.tables.proofs.KeptCounts.{set-beyond}
+use Rattle.tables.proofs.keep_count.Tie as tie
 
 returns : tie.Need-returns
-unfolding flagged
+unfolding withKeptCount
 returns c = rw (eq-eqb (c .before .before .args .n .0) 0 (c .if1 .taken))
 
 sample-total-requires : tie.Need-sample-total-requires
@@ -19,7 +19,7 @@ same-length : tie.Need-same-length
 same-length c = search needs
 
 returns-2 : tie.Need-returns-2
-unfolding flagged
+unfolding withKeptCount
 returns-2 c =
     let a = c .before .before .before .before .before .args in
     rw (ne-eqb (a .n .0) 0 (c .before .before .before .if1 .left), ← c .before .sample-total .ensures .0, lt-ltb (c .before .sample-total .result) (a .n .0) (c .if2 .taken))
@@ -43,7 +43,7 @@ same-length-2 : tie.Need-same-length-2
 same-length-2 c = search needs
 
 returns-3 : tie.Need-returns-3
-unfolding flagged
+unfolding withKeptCount
 returns-3 c =
     let a = c .before .before .before .before .before .before .args in
     rw (ne-eqb (a .n .0) 0 (c .before .before .before .before .if1 .left), le-ltb (sampleTotal (a .t .now)) (a .n .0) (omega (arith, c .before .before .sample-total .ensures .0)))
@@ -52,13 +52,13 @@ same-length-3 : tie.Need-same-length-3
 same-length-3 c = search needs
 
 returns-4 : tie.Need-returns-4
-unfolding flagged
+unfolding withKeptCount
 returns-4 c =
     let a = c .before .before .before .before .before .before .args in
     rw (ne-eqb (a .n .0) 0 (c .before .before .before .before .if1 .left), le-ltb (sampleTotal (a .t .now)) (a .n .0) (omega (arith, c .before .before .sample-total .ensures .0))) (sym (set-beyond (a .t .now) _ (a .v) (c .if3 .left)))
 
-pub set-flag-spec : {M : Type 1} → statement M
-set-flag-spec =
+pub keep-count-spec : {M : Type 1} → statement M
+keep-count-spec =
     tie.close
     (tie.spec
     returns
