@@ -2,7 +2,7 @@
 --
 --   at-count, at-entry, at-end      a section's verdict by its steps: refused at its count, refused at an entry, ended
 --   ended, refused-there, not-refused    what a section's answer says of its verdict
---   size-some, size-most, known-size     L as a number, and as a length size
+--   size-some, known-size                L as a number, and as a length size
 --   read-refused, read-accepted     what a record's answer says
 --   good-size                       L of a track entry without a refusal
 --   track-at                        a track by its number
@@ -30,9 +30,7 @@ use Rattle.numbers.specs.declared.MaybeKind.{MaybeKind}
 use Rattle.numbers.specs.declared.MaybeKind.the-variants.{Known, Unknown}
 use Rattle.records.specs.Read.{recordFault, lengthSize, recordOf, readAs}
 use Rattle.records.specs.declared.Record.{Record}
-use Rattle.records.specs.Layout.{layoutOf}
-use Rattle.records.proofs.Parsed.{parsed}
-use Rattle.records.proofs.Shapes.{row, value-below}
+use Rattle.records.proofs.Parsed.{parsed, length-size-most}
 use Rattle.bundles.specs.Recordings.{Track, noTrack}
 use Rattle.bundles.specs.Tracks.{trackCount, tracksAt, trackEnd, kindAt, recordAt, recordFaultAs, knownKind, knownSize, sizeAt, trackFault, trackOn, trackPlaces, tracks}
 use Rattle.bundles.specs.References.{lengthSizeOn}
@@ -70,9 +68,6 @@ not-refused (ok u) x h z = ok-refused h
 pub size-some : (k : Kind) (s : List ℕ) → 1 ≤ lengthSize k s
 size-some k s = omega arith
 
-pub size-most : (k : Kind) (s : List ℕ) → lengthSize k s ≤ 4
-size-most k s = let r = row k in let h = value-below (layoutOf k .size) (byteAt s 4) (r .size) in omega (arith, r .low)
-
 pub known-size : (n : ℕ) → 1 ≤ n → n ≤ 4 → (n ≡ 3 → ⊥) → inBytes (knownSize (lengthSizeOf n)) ≡ n
 known-size zero a b h = absurd (omega arith)
 known-size (suc zero) a b h = refl
@@ -82,7 +77,7 @@ known-size (suc (suc (suc (suc zero)))) a b h = refl
 known-size (suc (suc (suc (suc (suc n))))) a b h = absurd (omega arith)
 
 as-size : (k : MaybeKind) (s : List ℕ) → recordFaultAs k s ≡ 0 → inBytes (knownSize (lengthSizeOf (lengthSize (knownKind k) s))) ≡ lengthSize (knownKind k) s
-as-size (Known k) s e = known-size (lengthSize k s) (size-some k s) (size-most k s) (parsed k s e .head .known)
+as-size (Known k) s e = known-size (lengthSize k s) (size-some k s) (length-size-most k s) (parsed k s e .head .known)
 as-size Unknown s e = absurd (omega arith)
 
 -- a record's answer
@@ -92,11 +87,11 @@ read-refused k s n p e = by-number (recordFault k s)
     (λ z. ok-refused (rw z at e))
     (λ m z. let g : refused n p ≡ refused (suc m) 0 = rw z at e in let f : n ≡ suc m = cc in (z ∙ sym f, λ h. omega arith))
 
-pub read-accepted : (k : Kind) (s : List ℕ) (v : Record) → ok v ≡ readAs k s → (recordFault k s ≡ 0) × (v .fields .size ≡ lengthSize k s)
+pub read-accepted : (k : Kind) (s : List ℕ) (v : Record) → ok v ≡ readAs k s → (recordFault k s ≡ 0) × (v .fields .«length_size» ≡ lengthSize k s)
 unfolding readAs
 read-accepted k s v e =
     let a = and-ok (recordFault k s atPlace 0) (ok (recordOf k s)) (sym e) in
-    (at-ok (recordFault k s) 0 (a .0), ap (λ x. x .fields .size) (sym (ok-same (a .1))))
+    (at-ok (recordFault k s) 0 (a .0), ap (λ x. x .fields .«length_size») (sym (ok-same (a .1))))
 
 pub good-size : (b : List ℕ) (p : ℕ) → trackFault b p ≡ 0 → inBytes (trackOn b p .lengthSize) ≡ sizeAt b p
 unfolding sizeAt

@@ -35,22 +35,6 @@ use Rattle.words.proofs.Entries.{walk-keeps-here}
 use Rattle.bundles.proofs.Passing.{first-earlier}
 use Rattle.bundles.proofs.Sections.{count-good, track-good, reference-good, entries-inside, tracks-good, references-good, samples-good}
 
--- bridge: drop when record-refusal says NoneOr
-record-among : (n : ℕ) → 8 ≤ n → n ≤ 13 → n ∈ recordRefusals
-record-among n h l =
-    by-bool (eqb n 8) (λ q. List·Memᴰ·head (eqb-true _ _ q)) (λ a. List·Memᴰ·tail
-    (by-bool (eqb n 9) (λ q. List·Memᴰ·head (eqb-true _ _ q)) (λ b. List·Memᴰ·tail
-    (by-bool (eqb n 10) (λ q. List·Memᴰ·head (eqb-true _ _ q)) (λ c. List·Memᴰ·tail
-    (by-bool (eqb n 11) (λ q. List·Memᴰ·head (eqb-true _ _ q)) (λ d. List·Memᴰ·tail
-    (by-bool (eqb n 12) (λ q. List·Memᴰ·head (eqb-true _ _ q)) (λ e. List·Memᴰ·tail
-    (List·Memᴰ·head (pinned (eqb-false n 8 a) (eqb-false n 9 b) (eqb-false n 10 c) (eqb-false n 11 d) (eqb-false n 12 e))))))))))))
-  where
-    pinned : (n ≡ 8 → ⊥) → (n ≡ 9 → ⊥) → (n ≡ 10 → ⊥) → (n ≡ 11 → ⊥) → (n ≡ 12 → ⊥) → n ≡ 13
-    pinned a b c d e = omega arith
-
-record-none-or : (k : Kind) (s : List ℕ) → NoneOr recordRefusals (recordFault k s)
-record-none-or k s = ⊎-elim inl (λ w. inr (record-among (recordFault k s) (w .0) (w .1))) (record-refusal k s)
-
 -- none, or a refusal of a bundle
 abbrev OfBundle : ℕ → Type 0
 OfBundle n = NoneOr bundleRefusals n
@@ -107,7 +91,7 @@ module _ (b : List ℕ) where
 
   recordAs-of : (k : MaybeKind) (s : List ℕ) → OfBundle (recordFaultAs k s)
   unfolding some
-  recordAs-of (Known k) s = none-or-wider wider (record-none-or k s)
+  recordAs-of (Known k) s = none-or-wider wider (record-refusal k s)
   recordAs-of Unknown s = inr (has-from unknownKind bundleRefusals refl)
 
   track-of : (p : ℕ) → OfBundle (trackFault b p)

@@ -262,7 +262,7 @@ fn read_record(k: Kind, s: &[u8], end: usize) -> TrackRead
             let f = v.fields;
             TrackRead {
                 fault: 0,
-                size: f.size as u8,
+                size: f.length_size as u8,
                 end,
             }
         }

@@ -3,7 +3,7 @@
 --   entriesOf, sofar                      the entries of a sample; of the first n samples
 --   sofar-none, sofar-more, sofar-all     of none, of one sample more, of all
 --   namers-few, some-formed               no sample has more than bytes; one that has some is well formed
---   Counting, counting-start, -more, -end    a loop that counts and flags
+--   Counting, counting-start, -more, -end    a loop that counts, and keeps each count
 --   Putting, putting-start, -none, -some, -end    a loop that writes
 --   list-few                              the list is not too long for its numbers
 --   names-number, names-room, names-listed    what the call on a recording answers
@@ -32,9 +32,9 @@ use Rattle.samples.specs.Check.{check}
 use Rattle.bundles.specs.Limits.{bundleMost, sampleMost}
 use Rattle.bundles.specs.Recordings.{Recording, sampleCount, contentOf}
 use Rattle.bundles.specs.Readers.{firstLayout}
-use Rattle.tables.specs.Tables.{sampleTotal, layoutIn, recordingIn, tableMost, flagIn, flagged}
+use Rattle.tables.specs.Tables.{sampleTotal, layoutIn, recordingIn, tableMost, keptCountIn, withKeptCount}
 use Rattle.tables.proofs.Layouts.{samples-count, samples-most}
-use Rattle.tables.proofs.Flags.{flagged-recording, flagged-layout, flagged-case, flag-set, flag-kept}
+use Rattle.tables.proofs.KeptCounts.{kept-count-recording, kept-count-layout, kept-count-case, kept-count-set, kept-count-other}
 use Rattle.filling.specs.Filling.{filling, tableAfter}
 use Rattle.filling.specs.declared.Filled.the-variants.{Done}
 use Rattle.filling.proofs.Promises.{table-accepted, table-means}
@@ -110,7 +110,7 @@ module _ (r : Recording) (s : ℕ) where
       (λ m q f. absurd (h (ap length (namers-not r s n x e f))))
       (λ f. f)
 
--- A loop over the samples that has come behind sample n: count entries in all, and the flag of each sample so far.
+-- A loop over the samples that has come behind sample n: count entries in all, and the count kept beside each sample so far.
 module _ (b t₀ : List ℕ) (s : ℕ) where
   abbrev R : Recording
   R = recordingIn b t₀
@@ -121,7 +121,7 @@ module _ (b t₀ : List ℕ) (s : ℕ) where
     pub equal-length : length t ≡ length t₀
     pub inside : n ≤ sampleCount (layoutIn t₀)
     pub number : count ≡ length (sofar (recordingIn b t₀) s n)
-    pub flags : (m : ℕ) → 0 < m → m ≤ n → flagIn t m ≡ length (namersIn (recordingIn b t₀) s m)
+    pub counts : (m : ℕ) → 0 < m → m ≤ n → keptCountIn t m ≡ length (namersIn (recordingIn b t₀) s m)
     pub few : count ≤ n * bundleMost
 
   pub counting-start : Counting 0 0 t₀
@@ -132,7 +132,7 @@ module _ (b t₀ : List ℕ) (s : ℕ) where
         equal-length = refl;
         inside = omega arith;
         number = ap length (sym (sofar-none R s));
-        flags = λ m h l. absurd (omega arith);
+        counts = λ m h l. absurd (omega arith);
         few = omega arith;
       }
 
@@ -149,7 +149,7 @@ module _ (b t₀ : List ℕ) (s : ℕ) where
         let k = c .few in
         (omega arith, omega arith)
 
-    pub counting-more : tableMost ≤ length t₀ → Counting (n + 1) (count + f) (flagged t (n + 1) f)
+    pub counting-more : tableMost ≤ length t₀ → Counting (n + 1) (count + f) (withKeptCount t (n + 1) f)
     counting-more l =
         let a = counting-fits in
         let g = found in
@@ -159,28 +159,28 @@ module _ (b t₀ : List ℕ) (s : ℕ) where
         let z : sampleTotal t ≡ sampleCount (layoutIn t₀) = sym (samples-count t) ∙ ap sampleCount (c .lays) in
         let u = c .equal-length in
         record {
-          recording = flagged-recording b t (n + 1) f ∙ c .recording;
-          lays = flagged-layout t (n + 1) f ∙ c .lays;
-          equal-length = flagged-case t (n + 1) f (λ x. length x ≡ length t₀) u (length-set t _ f ∙ u);
+          recording = kept-count-recording b t (n + 1) f ∙ c .recording;
+          lays = kept-count-layout t (n + 1) f ∙ c .lays;
+          equal-length = kept-count-case t (n + 1) f (λ x. length x ≡ length t₀) u (length-set t _ f ∙ u);
           inside = omega arith;
           number = omega arith;
-          flags = λ m i j. by-bool (eqb m (n + 1))
+          counts = λ m i j. by-bool (eqb m (n + 1))
               (λ q.
               let v = eqb-true m (n + 1) q in
-              rw v (flag-set t (n + 1) f (omega arith) (omega arith) (omega arith) ∙ g))
+              rw v (kept-count-set t (n + 1) f (omega arith) (omega arith) (omega arith) ∙ g))
               (λ q.
               let v = eqb-false m (n + 1) q in
-              flag-kept t (n + 1) m f v ∙ c .flags m i (let o : m ≡ n + 1 → ⊥ = v in by-bool (leb m n) (λ y. leb-true m n y) (λ y. let x = leb-false m n y in absurd (o (omega arith)))));
+              kept-count-other t (n + 1) m f v ∙ c .counts m i (let o : m ≡ n + 1 → ⊥ = v in by-bool (leb m n) (λ y. leb-true m n y) (λ y. let x = leb-false m n y in absurd (o (omega arith)))));
           few = a .1;
         }
 
   pub counting-end : (n count : ℕ) (t : List ℕ) → Counting n count t → sampleCount (layoutIn t₀) ≤ n →
-      (count ≡ length (namingList (recordingIn b t₀) s)) × (recordingIn b t ≡ recordingIn b t₀) × ((m : ℕ) → 0 < m → m ≤ sampleCount (layoutIn t₀) → flagIn t m ≡ length (namersIn (recordingIn b t₀) s m))
+      (count ≡ length (namingList (recordingIn b t₀) s)) × (recordingIn b t ≡ recordingIn b t₀) × ((m : ℕ) → 0 < m → m ≤ sampleCount (layoutIn t₀) → keptCountIn t m ≡ length (namersIn (recordingIn b t₀) s m))
   unfolding recordingIn
   counting-end n count t c h =
       let i = c .inside in
       let e : n ≡ sampleCount (layoutIn t₀) = omega arith in
-      (c .number ∙ ap (λ (k : ℕ). length (sofar R s k)) e ∙ ap length (sofar-all R s), c .recording, λ m p q. c .flags m p (omega arith))
+      (c .number ∙ ap (λ (k : ℕ). length (sofar R s k)) e ∙ ap length (sofar-all R s), c .recording, λ m p q. c .counts m p (omega arith))
 
 -- A loop over the samples that has come behind sample n: the entries of the samples so far are written over the start of o, up to `at`.
 module _ (r : Recording) (s : ℕ) (o : List ℕ) where

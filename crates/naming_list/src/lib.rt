@@ -11,7 +11,7 @@ ghost use Rattle.samples.specs.Check.{check};
 ghost use Rattle.bundles.specs.Limits.{bundleMost};
 ghost use Rattle.bundles.specs.Recordings.{sampleCount};
 ghost use Rattle.bundles.specs.Readers.{firstLayout};
-ghost use Rattle.tables.specs.Tables.{tableMost, layoutIn, recordingIn, flagIn};
+ghost use Rattle.tables.specs.Tables.{tableMost, layoutIn, recordingIn, keptCountIn};
 ghost use Rattle.naming_list_rules.specs.Naming.{namer, namersIn, namingList, entrySize, listBytes, names, namesCall};
 ghost use Rattle.naming_list.specs.Steps.{namesWith, namesAt, namersFrom, listMost, withEntry, answerOf};
 use filling::Filled;
@@ -143,12 +143,12 @@ fn count_in(b: &[u8], t: &[u64], n: SampleNumber, s: SampleNumber) -> usize
     }
 }
 
-// How many extractors name sample s. The flag of each sample tells how many of them stand in it.
+// How many extractors name sample s. The count kept beside each sample tells how many of them stand in it.
 fn count_all(b: &[u8], t: &mut [u64], s: SampleNumber) -> usize
     requires { ⌜ (length (now b) ≤ bundleMost) × (tableMost ≤ length (now t)) ⌝ }
     ensures { λ r. ⌜ (r ≡ length (namingList (recordingIn (now (b .entry)) (now (t .entry))) (s .0)))
         × (recordingIn (now (b .entry)) (now (t .exit)) ≡ recordingIn (now (b .entry)) (now (t .entry)))
-        × ((m : ℕ) → 0 < m → m ≤ sampleCount (layoutIn (now (t .entry))) → flagIn (now (t .exit)) m ≡ length (namersIn (recordingIn (now (b .entry)) (now (t .entry))) (s .0) m)) ⌝ }
+        × ((m : ℕ) → 0 < m → m ≤ sampleCount (layoutIn (now (t .entry))) → keptCountIn (now (t .exit)) m ≡ length (namersIn (recordingIn (now (b .entry)) (now (t .entry))) (s .0) m)) ⌝ }
 {
     let total = tables::sample_count(t);
     let mut count: usize = 0;
@@ -156,17 +156,17 @@ fn count_all(b: &[u8], t: &mut [u64], s: SampleNumber) -> usize
     while n < total {
         n += 1;
         let found = count_in(b, t, SampleNumber(n), s);
-        tables::set_flag(t, SampleNumber(n), found as u64);
+        tables::keep_count(t, SampleNumber(n), found as u64);
         count += found;
     }
     count
 }
 
-// The naming list of sample s over the start of a buffer that has room, by a table with its flags set.
+// The naming list of sample s over the start of a buffer that has room, by a table with the counts kept.
 fn put_list(out: &mut [u8], b: &[u8], t: &[u64], s: SampleNumber)
     requires { ⌜ (length (now b) ≤ bundleMost)
         × (length (listBytes (namingList (recordingIn (now b) (now t)) (s .0))) ≤ length (now out))
-        × ((m : ℕ) → 0 < m → m ≤ sampleCount (layoutIn (now t)) → flagIn (now t) m ≡ length (namersIn (recordingIn (now b) (now t)) (s .0) m)) ⌝ }
+        × ((m : ℕ) → 0 < m → m ≤ sampleCount (layoutIn (now t)) → keptCountIn (now t) m ≡ length (namersIn (recordingIn (now b) (now t)) (s .0) m)) ⌝ }
     ensures { λ _. ⌜ now (out .exit) ≡ overwrite (now (out .entry)) (listBytes (namingList (recordingIn (now (b .entry)) (now (t .entry))) (s .0))) ⌝ }
 {
     let total = tables::sample_count(t);
@@ -174,7 +174,7 @@ fn put_list(out: &mut [u8], b: &[u8], t: &[u64], s: SampleNumber)
     let mut n: usize = 0;
     while n < total {
         n += 1;
-        if tables::flag(t, SampleNumber(n)) != 0 {
+        if tables::kept_count(t, SampleNumber(n)) != 0 {
             let k = judging::track_of(t, SampleNumber(n));
             let x = tables::sample_bytes(b, t, SampleNumber(n));
             let found = put_namers(out, at, t, SampleNumber(n), k, x, s);

@@ -52,7 +52,6 @@ use Rattle.audit_rules.specs.Rules.{lineAt, outcomeByLine, LinePerSample, Count
 use Rattle.audit_rules.proofs.Promises as auditing
 use Rattle.promises.specs.Refused.{InBundle, InSample}
 use Rattle.promises.specs.Refused as refusals
-use Rattle.promises.specs.Bridges as bridges
 
 -- Demand 1.
 -- That every entry takes any bytes and ends is what `rt check` proves of the code: no public function requires anything. Its answer is the
@@ -67,13 +66,13 @@ table-numbers = refl
 
 -- records read: 4 or 8 to 13, at 0 (crates/record_writer/proofs/Promise)
 pub read-refused : (kind : ℕ) (s : List ℕ) (n p : ℕ) → readRecord kind s ≡ refused n p → (p ≡ 0) × (n ∈ (4 ∷ recordRefusals))
-read-refused = bridges.read-refused
+read-refused = records.read-refusals
 
 -- records written: 4, 31 or 29, at 0 (crates/record_writer/proofs/Promise)
 pub write-refused :
     (kind : ℕ) (f : Fields) (sequences pictures extensions : List ℕ) (room n p : ℕ) →
     writeRecord kind f sequences pictures extensions room ≡ refused n p → (p ≡ 0) × (n ∈ (4 ∷ 31 ∷ 29 ∷ []))
-write-refused = bridges.write-refused
+write-refused = records.write-refusals
 
 -- samples checked: 4 or 11 at 0, or 14 to 22 at a place in the sample (crates/samples/proofs/Laws)
 pub check-refused : (kind l : ℕ) (s : List ℕ) (n p : ℕ) → checkAlone kind l s ≡ refused n p → AloneRefusal s n p

@@ -2,9 +2,7 @@
 --
 --   Demands   the demands, in their order and nearly in their words: read this first
 --   Refused   with which number, and where, a call on a bundle is refused
---   Bridges   refusal numbers of records by set
 --   Table     the marked cases M1 to M12 of document 01, and its bench bundle B0
 pub mod Demands
 pub mod Refused
-pub mod Bridges
 pub mod Table

@@ -18,7 +18,7 @@ use Rattle.bundles.specs.Limits.{countFault}
 use Rattle.bundles.specs.Recordings.{referencesFrom, samplesIn}
 use Rattle.bundles.specs.Tracks.{sizeAt, trackFault, tracksVerdict, tracks, referencesAt}
 use Rattle.bundles.specs.References.{noSuchTrack, referenceFault, referencesVerdict, references, samplesAt}
-use Rattle.bundles.specs.Samples.{orderFault, entryFault, samplesVerdict, sampleEntries, lengths, bytesAt}
+use Rattle.bundles.specs.Samples.{orderFault, entryFault, samplesVerdict, sampleEntries, lengths, byteCountAt}
 use Rattle.bundles.specs.Bundles.{endFault, bytesVerdict, bundleVerdict, layoutOf, recordingOf, meaning}
 use Rattle.bundles.specs.Readers.{firstLayout}
 use Rattle.links.specs.Links.{linkFault, linkedTrack, base, sampleNamed, nameFault}
@@ -163,7 +163,7 @@ unfolding table gives passes refuses fails recordVerdict bundle slice extractor 
     size type unitFault placesFrom topUnits border topBetween coverFault includedFault withIncluded units extractors
     contentVerdict check
     countFault referencesFrom samplesIn sizeAt trackFault tracksVerdict tracks referencesAt noSuchTrack referenceFault referencesVerdict
-    references samplesAt orderFault entryFault samplesVerdict sampleEntries lengths bytesAt endFault bytesVerdict bundleVerdict layoutOf
+    references samplesAt orderFault entryFault samplesVerdict sampleEntries lengths byteCountAt endFault bytesVerdict bundleVerdict layoutOf
     recordingOf meaning
     linkFault linkedTrack base sampleNamed nameFault
     among copyEnd copied borderFault copyFault

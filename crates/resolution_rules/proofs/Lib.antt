@@ -10,7 +10,6 @@
 --   Sizes      how much a good sample delivers, at most
 --   Extracted  what the function on two samples gives
 --   Readers    the reader of the first layout is sound
---   Bridges    refusal numbers of the crates below by set
 pub mod Promises
 pub mod Delivered
 pub mod Good
@@ -21,4 +20,3 @@ pub mod Amounts
 pub mod Sizes
 pub mod Extracted
 pub mod Readers
-pub mod Bridges

@@ -23,7 +23,6 @@ use Rattle.bundles.proofs.Promises.{limits-kept, references-join, samples-tile,
 use Rattle.words.proofs.Rows.{nth-none, nth-beyond}
 use Rattle.links.proofs.Order.{bundle-rise}
 use Rattle.resolution_rules.specs.Readers.{Sound}
-use Rattle.resolution_rules.proofs.Bridges.{bundle-set}
 use Rattle.resolution_rules.proofs.Calls.{by-count}
 
 module _ (b : List ℕ) (r : Recording) (e : meaning b ≡ ok r) where
@@ -79,5 +78,5 @@ firstLayout-sound = record {
   inside = λ b r n e h l. inside b r e n h l;
   placed = λ b r n e h l. placed b r e n h l;
   replacing = bytes-replaced;
-  refusal = λ b m p e. let w = refusals-within b m p (refused-verdict b m p e) in (bundle-set m (w .some) (w .most), w .place);
+  refusal = λ b m p e. let w = refusals-within b m p (refused-verdict b m p e) in (w .number, w .place);
 }

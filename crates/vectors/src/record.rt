@@ -47,7 +47,7 @@ fn print_record(s: &[u8], r: Record) {
     print::number(f.compatibility);
     print::number(f.level);
     print_flag(complete);
-    print::number(f.size);
+    print::number(f.length_size);
     print_sets(s, f.sequences, sequences);
     print_sets(s, f.pictures, pictures);
     print_trailer(s, trailer, extensions);

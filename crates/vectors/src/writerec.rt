@@ -46,7 +46,7 @@ fn fields_of(kind: u32, front: &[u8], pictures: &[u8], last: &[u8]) -> Fields {
         compatibility: request::number(front, 1),
         level: request::number(front, 2),
         complete: flag(kind, request::number(front, 3)),
-        size: size(request::number(front, 4)),
+        length_size: size(request::number(front, 4)),
         sequences: request::number(front, 5),
         pictures: request::number(pictures, 0),
         trailer: trailer(last),

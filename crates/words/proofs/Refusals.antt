@@ -122,28 +122,6 @@ pub none-or-wider : {ns ms : List ℕ} {n : ℕ} → ((m : ℕ) → m ∈ ns →
 none-or-wider f (inl z) = inl z
 none-or-wider {n = n} f (inr w) = inr (f n w)
 
--- a refusal number that is none, or lies from a to b
-abbrev pub Within : ℕ → ℕ → ℕ → Type 0
-Within a b n = (n ≡ 0) ⊎ ((a ≤ n) × (n ≤ b))
-
-module _ (a b : ℕ) where
-  pub within-if : (n : ℕ) (t : Bool) → a ≤ n → n ≤ b → Within a b (n if t)
-  within-if n true h k = inr (h, k)
-  within-if n false h k = inl refl
-
-  pub within-orElse : (n m : ℕ) → Within a b n → Within a b m → Within a b (n orElse m)
-  within-orElse zero m h k = k
-  within-orElse (suc n) m h k = h
-
-  pub within-firstOf : (f : ℕ → ℕ) (ps : List ℕ) → ((p : ℕ) → Within a b (f p)) → Within a b (firstOf f ps)
-  unfolding firstOf
-  within-firstOf f [] h = inl refl
-  within-firstOf f (p ∷ ps) h = within-orElse (f p) (firstOf f ps) (h p) (within-firstOf f ps h)
-
-  pub within-some : {n : ℕ} → Within a b n → 0 < n → (a ≤ n) × (n ≤ b)
-  within-some (inl z) e = absurd (omega arith)
-  within-some (inr w) e = w
-
 -- the first refusal number of a list
 pub firstOf-none : (f : ℕ → ℕ) {p : ℕ} (ps : List ℕ) → firstOf f ps ≡ 0 → List·Memᴰ p ps → f p ≡ 0
 unfolding firstOf

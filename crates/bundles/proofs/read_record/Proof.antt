@@ -3,7 +3,8 @@ use borrow.Author.Needs.{needs}
 use Rattle.bundles.proofs.read_record.Statement.{statement}
 use native.Mathlib.Omega.{arith}
 use mathlib.Core.Path.{refl, sym}
-use Rattle.bundles.proofs.Checking.{size-most, read-refused, read-accepted}
+use Rattle.records.proofs.Parsed.{length-size-most}
+use Rattle.bundles.proofs.Checking.{read-refused, read-accepted}
 use Rattle.bundles.proofs.read_record.Tie as tie
 
 read-as-requires : tie.Need-read-as-requires
@@ -19,7 +20,7 @@ cast-t9 : tie.Need-cast-t9
 cast-t9 c =
     let a = c .before .before .before .before .before .before .before .args in
     let e = read-accepted (a .k) (a .s .now) (c .before .before .before .v .given .0 .0) (rw (c .before .before .before .v .given .1) at (c .before .before .before .before .before .read-as .ensures)) in
-    let m = size-most (a .k) (a .s .now) in
+    let m = length-size-most (a .k) (a .s .now) in
     omega arith
 
 returns : tie.Need-returns

@@ -1,4 +1,4 @@
--- The loop's invariant: the extractors of the samples so far are counted, and each sample's flag tells how many stand in it. Assumes nothing.
+-- The loop's invariant: the extractors of the samples so far are counted, and the count kept beside each sample tells how many stand in it. Assumes nothing.
 use borrow.Author.Needs.{needs}
 use native.Mathlib.Omega.{arith}
 use Prim.Native.Nat.{_-_, _≤_, _<_}
@@ -32,8 +32,8 @@ add-n c = let h = next c in omega arith
 count-in-requires : tie.Need-count-in-requires Inv-loop μ-loop
 count-in-requires c κs = c .before .before .before .before .before .before .before .pre .0
 
-set-flag-requires : tie.Need-set-flag-requires Inv-loop μ-loop
-set-flag-requires c κs = search needs
+keep-count-requires : tie.Need-keep-count-requires Inv-loop μ-loop
+keep-count-requires c κs = search needs
 
 add-count : tie.Need-add-count Inv-loop μ-loop
 add-count c = let h = next (c .before .before .before .before .before .before) in let f = counting-fits _ _ _ _ _ _ (c .before .before .before .before .before .before .before .loop .inv) (h .0) (c .before .before .before .before .before .before .before .before .before .before .before .before .pre .0) (c .before .before .before .before .count-in .ensures) in omega arith
@@ -42,7 +42,7 @@ loop-less : tie.Need-loop-less Inv-loop μ-loop
 loop-less c = let h = c .before .before .before .before .before .before .loop-test .taken in omega arith
 
 loop-again : tie.Need-loop-again Inv-loop μ-loop
-loop-again c = rw (c .before .before .set-flag .ensures) (counting-more _ _ _ _ _ _ (c .before .before .before .before .before .before .before .loop .inv) (next (c .before .before .before .before .before .before) .0) (c .before .before .before .before .before .before .before .before .before .before .before .before .pre .0) (c .before .before .before .before .count-in .ensures) (c .before .before .before .before .before .before .before .before .before .before .before .before .pre .1))
+loop-again c = rw (c .before .before .keep-count .ensures) (counting-more _ _ _ _ _ _ (c .before .before .before .before .before .before .before .loop .inv) (next (c .before .before .before .before .before .before) .0) (c .before .before .before .before .before .before .before .before .before .before .before .before .pre .0) (c .before .before .before .before .count-in .ensures) (c .before .before .before .before .before .before .before .before .before .before .before .before .pre .1))
 
 same-length : tie.Need-same-length Inv-loop μ-loop
 same-length c = c .before .loop .inv .equal-length
@@ -60,7 +60,7 @@ count-all-spec =
     loop-holds
     add-n
     count-in-requires
-    set-flag-requires
+    keep-count-requires
     add-count
     loop-less
     loop-again

@@ -34,17 +34,17 @@ next : (c : tie.In-loop Inv-loop μ-loop) → (c .before .loop .n < sampleCount 
 unfolding recordingIn
 next c = (rw (c .before .before .sample-count .ensures) at (c .loop-test .taken), samples-most (c .before .before .before .before .before .before .args .t .now))
 
--- its flag
-flag : (c : tie.After-flag Inv-loop μ-loop) → c .flag .result ≡ length (namersIn (R (c .before)) (c .before .before .before .before .before .before .before .args .s .0) (c .before .before .loop .n + 1))
+-- the count kept beside it
+kept : (c : tie.After-kept-count Inv-loop μ-loop) → c .kept-count .result ≡ length (namersIn (R (c .before)) (c .before .before .before .before .before .before .before .args .s .0) (c .before .before .loop .n + 1))
 unfolding recordingIn
-flag c = let h = next (c .before) .0 in c .flag .ensures ∙ c .before .before .before .before .before .before .before .pre .2 _ (omega arith) (omega arith)
+kept c = let h = next (c .before) .0 in c .kept-count .ensures ∙ c .before .before .before .before .before .before .before .pre .2 _ (omega arith) (omega arith)
 
 -- the sample, which is well formed
 same : (c : tie.After-put-namers-arg Inv-loop μ-loop) → sample (c .before .before .track-of .result) (c .before .sample-bytes .result .now) ≡ sampleOf (R (c .before .before .before .before .before)) (c .before .before .before .before .before .before .loop .n + 1)
 same c = let a = c .before .before .before .before .before .before .before .before .before .before .before .args in sample-from (a .b .now) (a .t .now) (c .before .before .before .before .before .before .loop .n + 1) (c .before .before .track-of .ensures) (c .before .sample-bytes .ensures)
 
 formed : (c : tie.After-put-namers-arg Inv-loop μ-loop) → check (sample (c .before .before .track-of .result) (c .before .sample-bytes .result .now)) ≡ ok tt
-formed c = some-formed (R (c .before .before .before .before .before)) (c .before .before .before .before .before .before .before .before .before .before .before .args .s .0) (c .before .before .before .before .before .before .loop .n + 1) _ (same c) (λ z. c .before .before .before .if1 .taken (flag (c .before .before .before .before) ∙ z))
+formed c = some-formed (R (c .before .before .before .before .before)) (c .before .before .before .before .before .before .before .before .before .before .before .args .s .0) (c .before .before .before .before .before .before .loop .n + 1) _ (same c) (λ z. c .before .before .before .if1 .taken (kept (c .before .before .before .before) ∙ z))
 
 -- its extractors that name s
 namers : (c : tie.After-put-namers-arg Inv-loop μ-loop) → namersFrom (layoutIn (c .before .before .before .before .before .before .before .before .before .before .before .args .t .now)) (c .before .before .before .before .before .before .before .before .before .before .before .args .s .0) (c .before .before .before .before .before .before .loop .n + 1) (sample (c .before .before .track-of .result) (c .before .sample-bytes .result .now)) 0 ≡ namersIn (R (c .before .before .before .before .before)) (c .before .before .before .before .before .before .before .before .before .before .before .args .s .0) (c .before .before .before .before .before .before .loop .n + 1)
@@ -72,8 +72,8 @@ loop-holds c = putting-start _ _ _
 add-n : tie.Need-add-n Inv-loop μ-loop
 add-n c = let h = next c in omega arith
 
-flag-requires : tie.Need-flag-requires Inv-loop μ-loop
-flag-requires c κs = search needs
+kept-count-requires : tie.Need-kept-count-requires Inv-loop μ-loop
+kept-count-requires c κs = search needs
 
 track-of-requires : tie.Need-track-of-requires Inv-loop μ-loop
 track-of-requires c κs = search needs
@@ -112,7 +112,7 @@ loop-less-2 : tie.Need-loop-less-2 Inv-loop μ-loop
 loop-less-2 c = let h = c .before .before .loop-test .taken in omega arith
 
 loop-again-2 : tie.Need-loop-again-2 Inv-loop μ-loop
-loop-again-2 c = putting-none _ _ _ (c .before .before .before .before .before .before .before .before .pre .1) _ _ _ (c .before .before .before .loop .inv) (next (c .before .before) .0) (sym (flag (c .before)) ∙ c .if1 .left)
+loop-again-2 c = putting-none _ _ _ (c .before .before .before .before .before .before .before .before .pre .1) _ _ _ (c .before .before .before .loop .inv) (next (c .before .before) .0) (sym (kept (c .before)) ∙ c .if1 .left)
 
 same-length : tie.Need-same-length Inv-loop μ-loop
 same-length c = putting-length _ _ _ (c .before .before .before .before .before .before .pre .1) _ _ _ (c .before .loop .inv)
@@ -130,7 +130,7 @@ put-list-spec =
     sample-count-requires
     loop-holds
     add-n
-    flag-requires
+    kept-count-requires
     track-of-requires
     sample-bytes-requires
     put-namers-requires
