@@ -69,18 +69,16 @@ fn references_at(b: &[u8]) -> usize
     p
 }
 
-// The length size of the track entry at a place: one byte of its record.
+// The length size of the track entry at a place, as its record states it.
 fn length_size_at(b: &[u8], at: usize) -> usize
     requires { ⌜ trackFault (now b) at ≡ 0 ⌝ }
     ensures { λ r. ⌜ r ≡ sizeAt (now (b .entry)) at ⌝ }
 {
     let known = Kind::from_number(numbers::byte(b, at) as u32);
+    let start = at + 3;
+    let end = start + numbers::number(b, at + 1, 2);
     match known {
-        MaybeKind::Known(k) => {
-            let layout = records::layouts::layout_of(k);
-            let size = layout.size;
-            numbers::number(b, at + 7, 1) % size.unit % size.low + 1
-        }
+        MaybeKind::Known(k) => records::length_size(k, &b[start..end]),
         MaybeKind::Unknown => 1,
     }
 }

@@ -18,7 +18,7 @@ use Rattle.words.specs.Refusals.{_if_, _orElse_, Answer, refused, ok, _atPlace_
 use Rattle.words.specs.Buffers.{within}
 use Rattle.numbers.specs.Kinds.{kindOf, onKind}
 use Rattle.numbers.specs.declared.Kind.{Kind}
-use Rattle.records.specs.Layout.{recordLayout, bit, flagOf}
+use Rattle.records.specs.Layout.{recordLayout, bit, completeFlag, flagOf}
 use Rattle.records.specs.Read.{readRecord}
 use Rattle.records.specs.declared.High.{High}
 use Rattle.records.specs.declared.Trailer.{Trailer}
@@ -27,7 +27,8 @@ use Rattle.records.specs.declared.Fields.{Fields}
 use Rattle.records.specs.declared.Part.{Part}
 use Rattle.records.specs.declared.Record.{Record}
 use Rattle.record_writer.specs.Write.{writeAs}
-use Rattle.record_numbers.specs.Indices.{profile, compatibility, level, completeRepresentation, lengthSize, sequenceCount, pictureCount}
+use Rattle.record_numbers.specs.Indices.{profile, compatibility, level, completeRepresentation, lengthSize}
+use Rattle.record_numbers.specs.Indices.{sequenceCount, pictureCount}
 use Rattle.record_numbers.specs.Indices.{trailer, chromaFormat, lumaDepth, chromaDepth, extensionCount}
 use Rattle.record_numbers.specs.Indices.{numberCount, trailerNone, trailerPresent}
 
@@ -56,7 +57,7 @@ abbrev pub _at_ : List ℕ → ℕ → ℕ
 ns at i = getD ns i 0
 
 abbrev pub hasComplete : Kind → Bool
-hasComplete k = 0 <? recordLayout k .flags
+hasComplete k = completeFlag <? recordLayout k .flags
 
 abbrev pub flagMost : Kind → ℕ
 flagMost k = pick (hasComplete k) 1 0

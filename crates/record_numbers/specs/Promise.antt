@@ -10,7 +10,8 @@ use Rattle.numbers.specs.declared.Kind.{Kind}
 use Rattle.numbers.specs.declared.MaybeKind.the-variants.{Known}
 use Rattle.records.specs.Read.{readRecord}
 use Rattle.records.specs.declared.Record.{Record}
-use Rattle.record_numbers.specs.Indices.{sequenceStart, sequenceLength, pictureStart, pictureLength, extensionStart, extensionLength, numberCount}
+use Rattle.record_numbers.specs.Indices.{sequenceStart, sequenceLength, pictureStart, pictureLength}
+use Rattle.record_numbers.specs.Indices.{extensionStart, extensionLength, numberCount}
 use Rattle.record_numbers.specs.Numbers.{numbersOf, readNumbers, _at_, numbersFault, fieldsFrom, writeNumbers}
 
 -- the sets of a record s, by the starts and lengths of its numbers

@@ -21,6 +21,7 @@ use Rattle.records.specs.declared.Flag.{Flag}
 use Rattle.records.specs.declared.Fields.{Fields}
 use Rattle.records.specs.declared.Record.{Record}
 
+-- a new flag is one more here, and one more in `fieldsOf`
 abbrev pub flagsOf : Fields → List Flag
 flagsOf f = f .complete ∷ []
 

@@ -10,6 +10,7 @@
 --   recordLayout k                             the row of kind k
 --   pictureTypes                               the types of picture sets
 --   bit f, flagOf has n, flagFits has f        a flag as a bit, as it is read, and whether it fits
+--   completeFlag                               which flag complete_representation is: the first, 0
 --   flagIn n i b                               flag i, from 0, of a byte that begins with n flags
 --   flagsByte i fs, flagsFit n i fs            flags from i on: what they count in a byte, and whether a byte of n flags has them
 --   missing s p, byteFault s h p               the refusal of a byte that must be there, and of one with fixed bits
@@ -125,6 +126,9 @@ flagFits false Set = false
 flagFits true Absent = false
 flagFits true Clear = true
 flagFits true Set = true
+
+abbrev pub completeFlag : ℕ
+completeFlag = 0
 
 -- Flags of a byte, the first on top: flag i counts 128, 64, ..; a byte of n flags has the first n.
 abbrev pub flagIn : ℕ → ℕ → ℕ → Flag

@@ -22,7 +22,7 @@ use Rattle.numbers.specs.Kinds.{kindOf, onKind}
 use Rattle.numbers.specs.declared.Kind.{Kind}
 use Rattle.sets.specs.Sets.{setsFault, setsEnd}
 use Rattle.records.specs.Layout.{version, versionAt, profileAt, compatibilityAt, levelAt, lengthSizeAt, countAt, headSize, badSize}
-use Rattle.records.specs.Layout.{recordLayout, valueIn, pictureTypes, flagIn, missing, byteFault}
+use Rattle.records.specs.Layout.{recordLayout, valueIn, pictureTypes, completeFlag, flagIn, missing, byteFault}
 use Rattle.records.specs.Trailers.{extensionTypes, ending, endingOf}
 use Rattle.records.specs.declared.Trailer.{Trailer}
 use Rattle.records.specs.declared.Fields.{Fields}
@@ -86,7 +86,7 @@ module _ (k : Kind) (s : List ℕ) where
         profile = byteAt s profileAt;
         compatibility = byteAt s compatibilityAt;
         level = byteAt s levelAt;
-        complete = flagIn (recordLayout k .flags) 0 (byteAt s lengthSizeAt);
+        complete = flagIn (recordLayout k .flags) completeFlag (byteAt s lengthSizeAt);
         «length_size» = lengthSize;
         sequences = sequenceCount;
         pictures = pictureCount;

@@ -67,8 +67,8 @@ module _ (s : List ℕ) (q : ℕ) where
         extensions = byteAt s (q + 3);
       }
 
--- What ends a record: the bytes before its sets; their refusal where they are read from bytes at a place; how many sets there are; whether its
--- numbers fit their bits; and whether it may end a record of a kind and a profile.
+-- What ends a record: the bytes before its sets; their refusal where they are read from bytes at a place; how many sets there are;
+-- whether its numbers fit their bits; and whether it may end a record of a kind and a profile.
 pub record Ending : Type 0 where
   pub head : List ℕ
   pub fault : List ℕ → ℕ → ℕ
