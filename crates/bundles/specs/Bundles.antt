@@ -1,5 +1,13 @@
 -- Section four of a bundle b: sample bytes (01, 'The bundle', 4). The count, equal to the sum of the lengths; samples lie without gaps; the
 -- bundle ends there. And the whole: its first refusal front to back, or the recording that it means.
+--
+--   endFault b p total           the refusal of section four at p, where the lengths add to total: 7 or 2
+--   bundleVerdict b              the bundle's first refusal, section by section
+--   BundleRefusal b n p          n at p is a refusal that a bundle can have
+--   layoutOf b, recordingOf b    what its sections mean
+--   meaning b                    its refusal, or its recording
+--   contentsAt b, contentAt b n  where the samples' bytes start, and those of sample n
+--   SamplesTile b contents       the contents lie in section four without gaps
 use Prim.Native.Nat.{ℕ, suc, _+_, _-_, _≤_, _<_}
 use mathlib.Core.Path.{_≡_}
 use mathlib.Core.List.{List, [], map}

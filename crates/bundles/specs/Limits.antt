@@ -1,4 +1,10 @@
 -- The limits of a bundle b (01, 'The bundle'), and the refusals that every section shares: 2 and 3.
+--
+--   bundleMost                     the most bytes of a bundle
+--   trackLeast, trackMost          the fewest and the most tracks
+--   referenceMost, sampleMost      the most references, the most samples
+--   cut b p n                      2: fewer than n bytes from p on
+--   countFault b p n least most    2 or 3, of a count of n bytes at p
 use Prim.Native.Nat.{ℕ, _+_}
 use mathlib.Core.List.{List}
 use lib.ListN.{length}

@@ -1,4 +1,13 @@
 -- Section two of a bundle b: references (01, 'The bundle', 2). The count; each: from-track, to-track.
+--
+--   referenceCount b             the count
+--   from b p, to b p             the two tracks of the reference at p
+--   noSuchTrack b k              whether there is no track k
+--   lengthSizeOn b k             L of track k
+--   referenceFault b p           its refusal: 2 or 5
+--   referencesVerdict b          the section's first refusal
+--   references b                 what it means
+--   samplesAt b                  where section three starts
 use Prim.Native.Nat.{ℕ, _+_, _*_}
 use mathlib.Core.List.{List, map}
 use mathlib.Core.Bool.{Bool, _||_, not}

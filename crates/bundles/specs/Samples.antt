@@ -1,5 +1,15 @@
 -- Section three of a bundle b: samples (01, 'The bundle', 3). The count; each: track, decode time, length.
 -- Entries have one size and are numbered from 1: entry n is sample n's. An entry is judged beside the one before it.
+--
+--   orderFault e f               6: whether the entry f may not come after the entry e
+--   entryCount b                 the count
+--   entriesAt b, entryAt b n     where the first entry stands, and entry n
+--   track b p, time b p, lengthAt b p    what the entry at p says
+--   entryOn b p                  its track and its decode time
+--   entryFault b n               the refusal of entry n: 2 or 6
+--   samplesVerdict b             the section's first refusal
+--   sampleEntries b, lengths b   what it means: the entries, and the samples' lengths
+--   byteCountAt b                where section four starts
 use Prim.Native.Nat.{ℕ, _+_, _-_, _*_}
 use mathlib.Core.List.{List, map}
 use mathlib.Core.Bool.{Bool, _&&_}

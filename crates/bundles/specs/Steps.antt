@@ -1,4 +1,9 @@
 -- What the steps of the check say to each other.
+--
+--   LengthSizes b sizes          sizes holds the length size of each track
+--   ReadTrack b p r              r is what was read of the track entry at p
+--   sectionOf r                  a section's answer
+--   TracksChecked b r sizes      what the check of section one answers
 use Prim.Native.Nat.{ℕ, _≤_, _<_}
 use mathlib.Core.Path.{_≡_}
 use mathlib.Core.List.{List}

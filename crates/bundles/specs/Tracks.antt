@@ -1,5 +1,14 @@
 -- Section one of a bundle b: tracks (01, 'The bundle', 1). The count; each: kind, record length, the record.
 -- A place p is where an entry starts. Places do not stop at faults: the first refusal is what counts, and what lies behind it has no use.
+--
+--   trackCount b, tracksAt b     the count, and where the first entry stands
+--   kindAt b p, recordAt b p     the kind and the record of the entry at p
+--   recordLength b p, trackEnd b p    the record's length, and where the entry ends
+--   sizeAt b p                   L, its length size, as a number
+--   trackFault b p               its refusal: 2, 4, or the record's
+--   tracksVerdict b              the section's first refusal
+--   tracks b                     what it means
+--   referencesAt b               where section two starts
 use Prim.Native.Nat.{ℕ, _+_}
 use mathlib.Core.List.{List, map}
 use Rattle.words.specs.RefusalNumbers.{unknownKind}
