@@ -6,7 +6,6 @@
 --   before-on, before-off, before-most, before-grow    how many samples stand before a track's, found by going on
 --   track-sound, reference-sound, entry-sound   an entry of an accepted bundle, by its number
 --   startOf, start-first, start-next, start-inside    where a sample's bytes start
---   size-read                                   the length size is one byte of the record
 use Prim.Native.Nat.{ℕ, zero, suc, _+_, _-_, _*_, _%_, _≤_, _<_}
 use mathlib.Core.Path.{_≡_, refl, ap, sym, _∙_}
 use mathlib.Core.List.{List, [], _∷_, _++_, map}
@@ -26,9 +25,6 @@ use Rattle.words.proofs.Rows.{rows-length, rows-more, take-sum-le, nth-upto}
 use Rattle.numbers.specs.Sizes.{inBytes}
 use Rattle.numbers.specs.declared.Kind.{Kind}
 use Rattle.numbers.specs.declared.MaybeKind.the-variants.{Known, Unknown}
-use Rattle.records.specs.Layout as records
-use Rattle.records.specs.Read.{recordFault}
-use Rattle.records.proofs.Parsed.{parsed}
 use Rattle.bundles.specs.Fields.{trackHeadSize, toOffset, trackNumberSize, referenceCountSize, referenceSize, entrySize, byteCountSize}
 use Rattle.bundles.specs.Recordings.{Entry, noTrack, noReference, noEntry, timeOf, contentOf}
 use Rattle.bundles.specs.Tracks.{trackCount, tracksAt, trackEnd, trackFault, recordLength, kindAt, recordAt, recordFaultAs, sizeAt, trackOn, tracks, referencesAt}
@@ -178,23 +174,3 @@ sample-row b i p good h e =
 
     start : contentAt b (i + 1) ≡ startOf b i
     start = (unfold contentAt in let s : i + 1 - 1 ≡ i = omega arith in ap (λ (k : ℕ). contentsAt b + sum (take k (lengths b))) s)
-
--- the length size is one byte of the record
-module _ (b : List ℕ) (p : ℕ) (k : Kind) (good : trackFault b p ≡ 0) (known : kindAt b p ≡ Known k) where
-  enough : 5 < recordLength b p
-  enough =
-      let g = track-good b p good in
-      let e : recordFault k (recordAt b p) ≡ 0 = rw known at (g .whole) in
-      let n = part-length b (p + trackHeadSize) (recordLength b p) (g .inside) in
-      omega (arith, parsed k (recordAt b p) e .head .there)
-
-  pub size-there : p + 8 ≤ length b
-  size-there = let e = enough in let g = track-good b p good .inside in omega arith
-
-  pub size-read : big b (p + 7) 1 % records.layoutOf k .size .unit % records.layoutOf k .size .low + 1 ≡ sizeAt b p
-  unfolding sizeAt
-  size-read =
-      let e = enough in
-      let s : p + trackHeadSize + 4 ≡ p + 7 = omega arith in
-      let q : byteAt (recordAt b p) 4 ≡ byteAt b (p + 7) = getD-take (recordLength b p) (drop (p + trackHeadSize) b) 4 0 (omega arith) ∙ getD-drop (p + trackHeadSize) b 4 0 ∙ ap (byteAt b) s in
-      rw (known, q, big-one b (p + 7))

@@ -75,8 +75,8 @@ fn length_size_at(b: &[u8], at: usize) -> usize
     ensures { λ r. ⌜ r ≡ sizeAt (now (b .entry)) at ⌝ }
 {
     let known = Kind::from_number(numbers::byte(b, at) as u32);
-    let start = at + 3;
-    let end = start + numbers::number(b, at + 1, 2);
+    let start = at + fields::TRACK_HEAD_SIZE;
+    let end = start + numbers::number(b, at + fields::RECORD_LENGTH_OFFSET, fields::RECORD_LENGTH_SIZE);
     match known {
         MaybeKind::Known(k) => records::length_size(k, &b[start..end]),
         MaybeKind::Unknown => 1,

@@ -5,7 +5,8 @@ use native.Mathlib.Nat.{add-sub-cancel-left}
 use mathlib.Core.Path.{_≡_, sym, _∙_}
 use Prim.Native.Nat.{_+_}
 use Rattle.numbers.specs.declared.MaybeKind.the-variants.{Known, Unknown}
-use Rattle.bundles.specs.Tracks.{kindAt, recordSize, recordAt, recordFaultAs, sizeAt}
+use Rattle.bundles.specs.Fields.{trackHeadSize}
+use Rattle.bundles.specs.Tracks.{kindAt, recordLength, recordAt, recordFaultAs, sizeAt}
 use Rattle.bundles.proofs.Sections.{TrackGood, track-good}
 use Rattle.filling.proofs.length_size_at.Statement.{statement}
 use Rattle.filling.proofs.length_size_at.Tie as tie
@@ -58,7 +59,7 @@ unfolding sizeAt
 returns c =
     let a = c .before .before .before .before .before .before .before .before .before .args in
     let k : kindAt (a .b .now) (a .at) ≡ Known (c .before .before .before .known .given .0 .0) = rw (← c .before .before .before .before .before .before .before .byte .ensures) (sym (c .before .before .before .before .before .before .from-number .ensures) ∙ c .before .before .before .known .given .1) in
-    rw (k, ← add-sub-cancel-left (a .at + 3) (recordSize (a .b .now) (a .at)), ← c .before .before .before .before .before .number .ensures) (c .length-size .ensures)
+    rw (k, ← add-sub-cancel-left (a .at + trackHeadSize) (recordLength (a .b .now) (a .at)), ← c .before .before .before .before .before .number .ensures) (c .length-size .ensures)
 
 returns-2 : tie.Need-returns-2
 returns-2 c =
