@@ -22,7 +22,7 @@ unfolding recordingIn
 count-in-table b t e = e
 
 -- a table that was filled: whatever is said by the table that is left
-module _ (b t : List ℕ) (done : filling b (length t) ≡ Done) {s : List ℕ} (f : s ≡ tableAfter b t) (room : ℕ) where
+module _ (b t : List ℕ) (done : filling firstLayout b (length t) ≡ Done) {s : List ℕ} (f : s ≡ tableAfter firstLayout b t) (room : ℕ) where
   pub lines-filled : within room (ok (lines (recordingIn b s))) ≡ auditCall firstLayout b room
   lines-filled = rw (f, table-means b t done) (sym (audit-means firstLayout b room (table-accepted b t done)))
 

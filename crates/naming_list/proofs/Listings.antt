@@ -276,7 +276,7 @@ module _ (r : Recording) (s room : ℕ) where
     names-listed h = rw g (within-room room (listBytes (namingList r s)) h)
 
 -- the call by a table that was filled
-module _ (b t : List ℕ) (done : filling b (length t) ≡ Done) where
-  pub call-filled : {u : List ℕ} → u ≡ tableAfter b t → (s room : ℕ) → within room (names (recordingIn b u) s) ≡ namesCall firstLayout b s room
+module _ (b t : List ℕ) (done : filling firstLayout b (length t) ≡ Done) where
+  pub call-filled : {u : List ℕ} → u ≡ tableAfter firstLayout b t → (s room : ℕ) → within room (names (recordingIn b u) s) ≡ namesCall firstLayout b s room
   unfolding namesCall
   call-filled f s room = rw (f, table-means b t done, table-accepted b t done)

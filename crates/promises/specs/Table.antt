@@ -9,11 +9,13 @@ use Rattle.words.specs.Lists.{keep, some, nth, lastThat, each, upto, sum}
 use Rattle.words.specs.Walks.{entries, skip}
 use Rattle.words.specs.Bytes.{big, bytes, cuts}
 use Rattle.sets.specs.Sets.{setFault}
-use Rattle.records.specs.Read.{byteFault, trailerFault, headFault, sequencesEnd, picturesEnd, recordFault, readAs, readRecord}
+use Rattle.records.specs.Layout.{byteFault}
+use Rattle.records.specs.Trailers.{valuesFault}
+use Rattle.records.specs.Read.{headFault, sequencesEnd, picturesEnd, recordFault, readAs, readRecord}
 use Rattle.records.specs.declared.Record.{Record}
 use Rattle.units.specs.Units.{size, type, unitFault, placesFrom, topUnits, border, topBetween}
 use Rattle.units.specs.Aggregators.{coverFault, includedFault, withIncluded, units, extractors}
-use Rattle.samples.specs.Check.{contentVerdict, check, checkAlone}
+use Rattle.samples.specs.Check.{insideVerdict, coverVerdict, contentVerdict, check, checkAlone}
 use Rattle.bundles.specs.Limits.{countFault}
 use Rattle.bundles.specs.Recordings.{referencesFrom, samplesIn}
 use Rattle.bundles.specs.Tracks.{sizeAt, trackFault, tracksVerdict, tracks, referencesAt}
@@ -22,7 +24,7 @@ use Rattle.bundles.specs.Samples.{orderFault, entryFault, samplesVerdict, sampl
 use Rattle.bundles.specs.Bundles.{endFault, bytesVerdict, bundleVerdict, layoutOf, recordingOf, meaning}
 use Rattle.bundles.specs.Readers.{firstLayout}
 use Rattle.links.specs.Links.{linkFault, linkedTrack, base, sampleNamed, nameFault}
-use Rattle.copies.specs.Copies.{among, copyEnd, copied, borderFault, copyFault}
+use Rattle.copies.specs.Copies.{copyEnd, copied, borderFault, copyFault}
 use Rattle.resolution_rules.specs.Resolving.{sampleOf, named, nameFaultAt, copyFaultAt, extractFault, judged}
 use Rattle.resolution_rules.specs.Resolving.{copiedAt, deliveredAt, delivered}
 use Rattle.resolution_rules.specs.Calls.{written, output, numberFault, resolve, resolveCall}
@@ -159,14 +161,14 @@ marked : map (λ row. row .answer) table ≡ map (λ row. row .expected) table
 unfolding table gives passes refuses fails recordVerdict bundle slice extractor including covering resolved second
     firstOf first keep some nth lastThat each upto sum entries skip big bytes cuts
     setFault
-    byteFault trailerFault headFault sequencesEnd picturesEnd recordFault readAs readRecord
+    byteFault valuesFault headFault sequencesEnd picturesEnd recordFault readAs readRecord
     size type unitFault placesFrom topUnits border topBetween coverFault includedFault withIncluded units extractors
-    contentVerdict check
+    insideVerdict coverVerdict contentVerdict check
     countFault referencesFrom samplesIn sizeAt trackFault tracksVerdict tracks referencesAt noSuchTrack referenceFault referencesVerdict
     references samplesAt orderFault entryFault samplesVerdict sampleEntries lengths byteCountAt endFault bytesVerdict bundleVerdict layoutOf
     recordingOf meaning
     linkFault linkedTrack base sampleNamed nameFault
-    among copyEnd copied borderFault copyFault
+    copyEnd copied borderFault copyFault
     sampleOf named nameFaultAt copyFaultAt extractFault copiedAt deliveredAt delivered judged written output numberFault resolve
     resolveCall
     lineBytes lineOf lines auditCall

@@ -119,22 +119,22 @@ stands-same : (f g : ℕ → ℕ) (a : Answer Span) → ((u : Span) → a ≡ ok
 stands-same f g (refused m p) h = refl
 stands-same f g (ok u) h = rw (h u refl)
 
-pub filled-refused : (b : List ℕ) (room : ℕ) (f : Refusal) → filling b room ≡ Refused f → firstLayout .means b ≡ refused (f .number) (f .place .0)
+pub filled-refused : (b : List ℕ) (room : ℕ) (f : Refusal) → filling firstLayout b room ≡ Refused f → firstLayout .means b ≡ refused (f .number) (f .place .0)
 filled-refused b room f e = verdict-refuses b (f .number) (f .place .0) (says-refused b room f e)
 
 -- a table that was filled
-module _ (b t : List ℕ) (done : filling b (length t) ≡ Done) where
+module _ (b t : List ℕ) (done : filling firstLayout b (length t) ≡ Done) where
   abbrev R : Recording
   R = recordingOf b
 
   accepted : firstLayout .means b ≡ ok R
   accepted = table-accepted b t done
 
-  starts-at : (n : ℕ) → 0 < n → n ≤ sampleCount (R .layout) → startIn (tableAfter b t) n ≡ firstLayout .contentAt b n
+  starts-at : (n : ℕ) → 0 < n → n ≤ sampleCount (R .layout) → startIn (tableAfter firstLayout b t) n ≡ firstLayout .contentAt b n
   starts-at = table-starts b t R accepted done
 
   -- whatever is said by the table that is left
-  module _ {s : List ℕ} (f : s ≡ tableAfter b t) (n i : ℕ) where
+  module _ {s : List ℕ} (f : s ≡ tableAfter firstLayout b t) (n i : ℕ) where
     pub call-filled : within i (resolve (recordingIn b s) n) ≡ resolveCall firstLayout b n i
     call-filled = rw (f, table-means b t done) (sym (call-means firstLayout b n i accepted))
 
@@ -148,10 +148,10 @@ module _ (b t : List ℕ) (done : filling b (length t) ≡ Done) where
     unfolding placeCall
     place-filled =
         rw (f, table-means b t done)
-        (stands-same (startIn (tableAfter b t)) (firstLayout .contentAt b) (resolveUnit R n i) (λ u e. let w = found-there R n i u e in starts-at (u .sample) (w .0) (w .1))
+        (stands-same (startIn (tableAfter firstLayout b t)) (firstLayout .contentAt b) (resolveUnit R n i) (λ u e. let w = found-there R n i u e in starts-at (u .sample) (w .0) (w .1))
         ∙ ap (placedBy (firstLayout .contentAt b)) (sym (unit-means firstLayout b n i accepted)))
 
-  pub starts-inside : {s : List ℕ} → s ≡ tableAfter b t → (m : ℕ) → 0 < m → m ≤ sampleCount (layoutIn s) → startIn s m ≤ length b
+  pub starts-inside : {s : List ℕ} → s ≡ tableAfter firstLayout b t → (m : ℕ) → 0 < m → m ≤ sampleCount (layoutIn s) → startIn s m ≤ length b
   starts-inside {s} f m h l =
       let y : layoutIn s ≡ R .layout = ap layoutIn f ∙ table-lays-out b t R accepted done in
       let k = rw y at l in
