@@ -76,7 +76,12 @@ fn length_size_at(b: &[u8], at: usize) -> usize
 {
     let known = Kind::from_number(numbers::byte(b, at) as u32);
     let start = at + fields::TRACK_HEAD_SIZE;
-    let end = start + numbers::number(b, at + fields::RECORD_LENGTH_OFFSET, fields::RECORD_LENGTH_SIZE);
+    let end = start
+        + numbers::number(
+            b,
+            at + fields::RECORD_LENGTH_OFFSET,
+            fields::RECORD_LENGTH_SIZE,
+        );
     match known {
         MaybeKind::Known(k) => records::length_size(k, &b[start..end]),
         MaybeKind::Unknown => 1,

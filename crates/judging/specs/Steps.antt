@@ -64,7 +64,9 @@ unfoldable pub amountAt : Recording → ℕ → Sample → ℕ → UnitAmount
 amountAt r n x p = byUnit x p (λ f. copiedAmount (extracting r n f)) (copiedAmount (refusedAmount 0)) (ownAmount x p)
 
 unfoldable pub judgement : Recording → ℕ → Answer Amount
-judgement r n = judged r n andThen ok (record { count = length (delivered r n); «own_bytes» = ownBytes r n; «copied_bytes» = copiedBytes r n })
+judgement r n =
+    judged r n andThen
+    ok (record { count = length (delivered r n); «own_bytes» = ownBytes r n; «copied_bytes» = copiedBytes r n })
 
 unfoldable pub judgementIn : List ℕ → List ℕ → ℕ → Answer Amount
 judgementIn b t n = (bundleTooLong if bundleMost <? length b) atPlace 0 andThen judgement (recordingIn b t) n

@@ -2,3 +2,4 @@
 pub mod Kinds
 pub mod Sizes
 pub mod Places
+pub mod Answers

@@ -27,6 +27,12 @@ pub struct Refusal {
     pub place: ByteOffset,
 }
 
+// What a call that writes answers: a refusal, after which nothing is written, or how much it wrote.
+pub enum Written {
+    Refused(Refusal),
+    Count(usize),
+}
+
 // The kind of a track.
 pub enum Kind {
     Avc,
