@@ -4,6 +4,7 @@
  * Decoder configuration records read and written, samples checked and resolved to plain NAL units, a whole
  * recording (a bundle) audited, the extractors that name a sample listed. Layouts are those of
  * ISO/IEC 14496-15:2010, 5.2.4.1 and Annexes A and B.
+ * docs/FORMAT.md has all rules: the bundle, records, units, resolving, and what to do about each refusal.
  *
  * Link with libpuddockle.a:  cc -Iinclude program.c -Ltarget/staticlib -lpuddockle
  *
