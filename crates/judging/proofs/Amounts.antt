@@ -1,10 +1,10 @@
 -- What the steps of the code give for a unit of a sample. Assumes nothing.
 --
 --   sample-is, sample-from             a sample by its track and its bytes
---   contents-most                       the samples that a table gives with a bundle have at most so many bytes as the bundle
---   extracting-refused, -named         an extractor by what it names
+--   contents-most                      the samples that a table gives with a bundle have at most so many bytes as the bundle
+--   by-name-refused, by-name-sample    an extractor by what it names
 --   extracting-fault, -good            its refusal number; what it delivers without one
---   spans-all                          the output size of units
+--   spans-total                        the bytes of units
 --   Amounts                            what an amount says of the unit at p
 --   unit-amounts                       the amount of a unit that is no aggregator says it
 use Prim.Native.Nat.{ℕ, _+_, _*_, _≤_, _<_}
@@ -16,14 +16,13 @@ use native.Mathlib.Omega.{arith}
 use borrow.Author.Tests.{ne-eqb}
 use lib.Dec.{leb, eqb·suc-zero}
 use lib.ListN.{length, length-map, length-take, length-drop}
-use Rattle.words.specs.Tests.{_≤?_}
 use Rattle.words.specs.Refusals.{ok, _atPlace_}
 use Rattle.words.specs.Lists.{nth, sum, upto}
 use Rattle.words.proofs.Tests.{by-bool, by-number}
 use Rattle.words.proofs.Refusals.{orElse-none}
 use Rattle.words.proofs.Lists.{nth-mem}
 use Rattle.numbers.proofs.Laws.{L-some}
-use Rattle.units.specs.Units.{Sample, sample, end, size, isAggregator, isExtractor}
+use Rattle.units.specs.Units.{Sample, sample, size, isAggregator, isExtractor}
 use Rattle.units.specs.Extractors.{trackRefIndex, sampleOffset, dataOffset, dataLength}
 use Rattle.units.specs.Aggregators.{units}
 use Rattle.units.specs.Steps.{extractorOf}
@@ -35,13 +34,15 @@ use Rattle.bundles.specs.Recordings.{Recording, contentOf}
 use Rattle.tables.specs.Tables.{inside, contentIn, sampleTotal, layoutIn, recordingIn}
 use Rattle.links.specs.Links.{sampleNamed, nameFault}
 use Rattle.links.proofs.Words.{nth-zero, nth-over}
-use Rattle.copies.specs.Copies.{copied, copyFault}
-use Rattle.copies.specs.Written.{refusal, taken, copyOf}
-use Rattle.copies.specs.declared.Copy.{Copy}
+use Rattle.copies.specs.Copies.{copied}
+use Rattle.copies.specs.Written.{taken, copyOf}
 use Rattle.copies.proofs.Answers.{fault-of}
-use Rattle.resolution_rules.specs.Resolving.{sampleOf, Span, spanOf, spansOf, own, named, linked, nameFaultAt, copyFaultAt, extractFault, copiedAt, deliveredAt}
-use Rattle.judging.specs.Steps.{trackFor, extracting, amountAt}
-use Rattle.resolution_rules.proofs.Delivered.{delivered-unit, delivered-extractor, unitJudge, unit-judge, unit-passes, outputSize, size-one}
+use Rattle.resolution_rules.specs.Resolving.{sampleOf, spanOf, spansOf, own, named, linked, nameFaultAt, copyFaultAt, extractFault, copiedAt, deliveredAt}
+use Rattle.resolution_rules.specs.Amounts.{totalSize}
+use Rattle.judging.specs.Steps.{trackFor, byName, extracting, copiedAmount, amountAt}
+use Rattle.judging.specs.declared.UnitAmount.{UnitAmount}
+use Rattle.resolution_rules.proofs.Delivered.{delivered-unit, delivered-extractor, unitJudge, unit-judge, unit-passes}
+use Rattle.resolution_rules.proofs.Amounts.{size-total, ownAt, copiedSizeAt, own-unit, own-extractor, copied-other, copied-extractor}
 use Rattle.resolution_rules.proofs.Good.{own-length, extract-rules}
 use Rattle.resolution_rules.proofs.Exactly.{extractor-mem}
 use Rattle.resolution_rules.proofs.Calls.{by-count}
@@ -77,41 +78,45 @@ module _ (b t : List ℕ) where
       rw (← w .2) (inside-most _ _))
 
 -- an extractor by what it names
-module _ (r : Recording) (n : ℕ) (f : Extractor) where
-  pub extracting-refused : {g : ℕ} → nameFault (r .layout) n (f .«track_ref_index») (f .«sample_offset») ≡ g → 0 < g → refusal g ≡ extracting r n f
-  unfolding extracting
-  extracting-refused {g} e h = rw (e, ne-eqb g 0 (λ z. omega arith))
+module _ {A : Type 0} (r : Recording) (n : ℕ) (f : Extractor) (none found : ℕ → A) where
+  abbrev Fault : ℕ
+  Fault = nameFault (r .layout) n (f .«track_ref_index») (f .«sample_offset»)
 
-  pub extracting-named : {m : ℕ} → nameFault (r .layout) n (f .«track_ref_index») (f .«sample_offset») ≡ 0 → sampleNamed (r .layout) n (f .«track_ref_index») (f .«sample_offset») ≡ m → copyOf (sampleOf r m) (f .«data_offset» .0) (f .«data_length») ≡ extracting r n f
-  unfolding extracting
-  extracting-named e g = rw (e, g)
+  pub by-name-refused : {g : ℕ} → Fault ≡ g → 0 < g → byName r n f none found ≡ none g
+  unfolding byName
+  by-name-refused {g} e h = rw (e, ne-eqb g 0 (λ z. omega arith))
 
--- the output size of units
-pub spans-all : (m : ℕ) (z : Sample) (qs : List ℕ) → outputSize (spansOf m z qs) ≡ 4 * length qs + sum (map (size z) qs)
-unfolding outputSize sum
-spans-all m z [] = refl
-spans-all m z (q ∷ qs) = let below = spans-all m z qs in omega arith
+  pub by-name-sample : {m : ℕ} → Fault ≡ 0 → sampleNamed (r .layout) n (f .«track_ref_index») (f .«sample_offset») ≡ m → byName r n f none found ≡ found m
+  unfolding byName
+  by-name-sample e g = rw (e, g)
+
+-- the bytes of units
+pub spans-total : (m : ℕ) (z : Sample) (qs : List ℕ) → totalSize (spansOf m z qs) ≡ sum (map (size z) qs)
+unfolding totalSize sum
+spans-total m z [] = refl
+spans-total m z (q ∷ qs) = let below = spans-total m z qs in omega arith
 
 -- An amount of the unit at p: its refusal number, or the number of units that it delivers, and of their bytes.
-pub record Amounts (r : Recording) (n c p : ℕ) (a : Copy) : Type 0 where
+pub record Amounts (r : Recording) (n c p : ℕ) (a : UnitAmount) : Type 0 where
   pub judge : unitJudge r n p ≡ a .fault atPlace p
   pub number : a .fault ≡ 0 → length (deliveredAt r n p) ≡ a .count
-  pub all : a .fault ≡ 0 → outputSize (deliveredAt r n p) ≡ 4 * a .count + a .bytes
+  pub own : a .fault ≡ 0 → ownAt r n p ≡ a .own
+  pub copied : a .fault ≡ 0 → copiedSizeAt r n p ≡ a .copied
   pub few : a .fault ≡ 0 → a .count ≤ c
-  pub small : a .fault ≡ 0 → 4 * a .count + a .bytes ≤ c * 4
+  pub small : a .fault ≡ 0 → a .own + a .copied ≤ c * 4
 
 module _ (r : Recording) (n : ℕ) where
   abbrev Z : ℕ → Sample
   Z p = linked r n p
 
   pub extracting-fault : (p : ℕ) → extracting r n (extractorOf (own r n) p) .fault ≡ extractFault r n p
-  unfolding extracting extractFault nameFaultAt copyFaultAt named
+  unfolding extracting byName extractFault nameFaultAt copyFaultAt named
   extracting-fault p = by-number (nameFault (r .layout) n (trackRefIndex (own r n) p) (sampleOffset (own r n) p))
       (λ z. rw z (fault-of (Z p) (dataOffset (own r n) p) (dataLength (own r n) p)))
       (λ k z. rw (z, eqb·suc-zero k))
 
   pub extracting-good : (p : ℕ) → extractFault r n p ≡ 0 → extracting r n (extractorOf (own r n) p) ≡ taken (Z p) (copied (Z p) (dataOffset (own r n) p) (dataLength (own r n) p))
-  unfolding extracting copyOf extractFault nameFaultAt copyFaultAt named
+  unfolding extracting byName copyOf extractFault nameFaultAt copyFaultAt named
   extracting-good p e =
       let a = orElse-none (nameFault (r .layout) n (trackRefIndex (own r n) p) (sampleOffset (own r n) p)) _ e in
       rw (a .0, a .1)
@@ -119,8 +124,8 @@ module _ (r : Recording) (n : ℕ) where
   -- samples of at most c bytes
   module _ (c : ℕ) (most : (m : ℕ) → length (contentOf r m) ≤ c) where
     module _ (p : ℕ) (t : isExtractor (own r n) p ≡ true) where
-      abbrev A : Copy
-      A = extracting r n (extractorOf (own r n) p)
+      abbrev A : UnitAmount
+      A = copiedAmount (extracting r n (extractorOf (own r n) p))
 
       good : A .fault ≡ 0 → extractFault r n p ≡ 0
       good z = sym (extracting-fault p) ∙ z
@@ -132,9 +137,15 @@ module _ (r : Recording) (n : ℕ) where
           record {
             judge = unit-judge r n p t ∙ ap (λ (k : ℕ). k atPlace p) (sym (extracting-fault p));
             number = λ z. rw (delivered-extractor r n p t, extracting-good p (good z)) (length-map qs (spanOf (named r n p) (Z p)));
-            all = λ z. rw (delivered-extractor r n p t, extracting-good p (good z)) (spans-all (named r n p) (Z p) qs);
+            own = λ z. own-extractor r n p t;
+            copied = λ z. rw (copied-extractor r n p t, extracting-good p (good z)) (spans-total (named r n p) (Z p) qs);
             few = λ z. let k = copied-count r n p (extract-rules r n p (good z)) in let l = most (named r n p) in let e = length-map qs (spanOf (named r n p) (Z p)) in rw (extracting-good p (good z)) (omega arith);
-            small = λ z. let k = copied-most r n p (extract-rules r n p (good z)) in let l = most (named r n p) in let e = spans-all (named r n p) (Z p) qs in rw (extracting-good p (good z)) (omega arith);
+            small = λ z.
+                let k = copied-most r n p (extract-rules r n p (good z)) in
+                let l = most (named r n p) in
+                let o = size-total (copiedAt r n p) in
+                let e = spans-total (named r n p) (Z p) qs in
+                rw (extracting-good p (good z)) (omega arith);
           }
 
     module _ (f : check (own r n) ≡ ok tt) (p : ℕ) (m : List·Memᴰ p (units (own r n))) (a : isAggregator (own r n) p ≡ false) where
@@ -147,11 +158,11 @@ module _ (r : Recording) (n : ℕ) where
           let l = own-length r n in
           let b = most n in
           let s = L-some (own r n .lengthSize) in
-          let z = size-one (spanOf n (own r n) p) in
           rw t (record {
             judge = unit-passes r n p t;
             number = λ o. rw (delivered-unit r n p a t);
-            all = λ o. rw (delivered-unit r n p a t) (omega arith);
+            own = λ o. own-unit r n p a t;
+            copied = λ o. copied-other r n p t;
             few = λ o. omega arith;
             small = λ o. omega arith;
           }))

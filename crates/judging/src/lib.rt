@@ -22,10 +22,19 @@ use units::Extractor;
 use units::MaybeExtractor;
 use units::Track;
 
-// How many units a sample delivers, and how many bytes they take in the output.
+// How many units a sample delivers, and how many bytes they have: of its own, and copied by its extractors.
 pub struct Amount {
     pub count: usize,
-    pub size: usize,
+    pub own: usize,
+    pub copied: usize,
+}
+
+// The same of one unit of a sample; or its refusal, where it is an extractor.
+pub struct UnitAmount {
+    pub fault: u8,
+    pub count: usize,
+    pub own: usize,
+    pub copied: usize,
 }
 
 // A sample is good, or refused.
@@ -78,24 +87,41 @@ fn extract(b: &[u8], t: &[u64], n: SampleNumber, f: Extractor) -> Copy
 }
 
 // What the unit at a place of sample n, which is x, delivers if it is no aggregator.
-pub fn amount_at(b: &[u8], t: &[u64], n: SampleNumber, k: Track, x: &[u8], at: ByteOffset) -> Copy
+pub fn amount_at(
+    b: &[u8],
+    t: &[u64],
+    n: SampleNumber,
+    k: Track,
+    x: &[u8],
+    at: ByteOffset,
+) -> UnitAmount
     ensures { λ r. ⌜ r ≡ amountAt (recordingIn (now (b .entry)) (now (t .entry))) (n .0) (sample k (now (x .entry))) (at .0) ⌝ }
 {
     if units::type_at(k, x, at) != units::EXTRACTOR {
         let l = k.length_size;
-        return Copy {
+        return UnitAmount {
             fault: 0,
             count: 1,
-            bytes: l.number(x, at.0),
+            own: l.number(x, at.0),
+            copied: 0,
         };
     }
     let found = unit_steps::extractor_at(k, x, at, ByteOffset(x.len()));
     match found {
-        MaybeExtractor::Extractor(f) => extract(b, t, n, f),
-        MaybeExtractor::Nothing => Copy {
+        MaybeExtractor::Extractor(f) => {
+            let copy = extract(b, t, n, f);
+            UnitAmount {
+                fault: copy.fault,
+                count: copy.count,
+                own: 0,
+                copied: copy.bytes,
+            }
+        }
+        MaybeExtractor::Nothing => UnitAmount {
             fault: 0,
             count: 0,
-            bytes: 0,
+            own: 0,
+            copied: 0,
         },
     }
 }
@@ -108,7 +134,8 @@ fn measure(b: &[u8], t: &[u64], n: SampleNumber, k: Track, x: &[u8]) -> Judged
     let l = k.length_size;
     let w = l.bytes();
     let mut count: usize = 0;
-    let mut size: usize = 0;
+    let mut own: usize = 0;
+    let mut copied: usize = 0;
     let mut p: usize = 0;
     while p < x.len() {
         if units::type_at(k, x, ByteOffset(p)) == units::AGGREGATOR {
@@ -122,11 +149,12 @@ fn measure(b: &[u8], t: &[u64], n: SampleNumber, k: Track, x: &[u8]) -> Judged
                 });
             }
             count += a.count;
-            size = size + copies::LENGTH_BEFORE * a.count + a.bytes;
+            own += a.own;
+            copied += a.copied;
             p = p + w + l.number(x, p);
         }
     }
-    Judged::Good(Amount { count, size })
+    Judged::Good(Amount { count, own, copied })
 }
 
 // 14 to 28 of sample n, or how much it delivers; a number that no sample has is one without bytes, which delivers nothing. A bundle too

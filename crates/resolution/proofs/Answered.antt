@@ -5,37 +5,37 @@
 --   find-number, find-sample, find-past, find-good    one delivered unit
 --   found-inside                           it lies in its sample
 --   part-same                              it is the part of the bundle that is promised
+--   filled-refused                         a bundle is refused as filling the table was
 --   call-filled, unit-filled, part-filled, place-filled    the calls by a table that was filled
 --   starts-inside                          samples start within the bundle
-use Prim.Native.Nat.{ℕ, _-_, _≤_, _<_}
+use Prim.Native.Nat.{ℕ, _≤_, _<_}
 use mathlib.Core.Path.{_≡_, refl, ap, sym, _∙_}
-use mathlib.Core.List.{List, []}
+use mathlib.Core.List.{List}
 use native.Mathlib.Omega.{arith}
 use lib.ListN.{length}
-use Rattle.words.specs.Refusals.{Answer, refused, ok, _andThen_}
+use Rattle.words.specs.Refusals.{Answer, refused, ok}
 use Rattle.words.specs.RefusalNumbers.{outputTooLong}
 use Rattle.words.specs.Lists.{nth}
 use Rattle.words.specs.Buffers.{within}
-use Rattle.words.proofs.Refusals.{at-ok, at-none, at-refused, and-ok, by-verdict, ok-same, ok-refused}
+use Rattle.words.proofs.Refusals.{at-ok, at-refused, and-ok, ok-same}
 use Rattle.words.proofs.Lists.{nth-mem}
 use Rattle.words.proofs.Buffers.{within-room, within-not}
 use Rattle.bundles.specs.Recordings.{Recording, sampleCount}
-use Rattle.bundles.specs.Samples.{lengths}
-use Rattle.bundles.specs.Bundles.{meaning, recordingOf, contentAt}
-use Rattle.bundles.proofs.Promises.{sum-exact}
-use Rattle.words.proofs.Rows.{take-sum-le}
+use Rattle.numbers.specs.declared.Refusal.{Refusal}
+use Rattle.bundles.specs.Bundles.{recordingOf}
+use Rattle.bundles.specs.Readers.{Reader, firstLayout}
 use Rattle.tables.specs.Tables.{layoutIn, recordingIn, startIn}
 use Rattle.filling.specs.Filling.{filling, tableAfter}
-use Rattle.filling.specs.declared.Filled.the-variants.{Done}
-use Rattle.filling.proofs.Promises.{table-accepted, table-means, table-starts, table-lays-out}
+use Rattle.filling.specs.declared.Filled.the-variants.{Refused, Done}
+use Rattle.filling.proofs.Promises.{says-refused, table-accepted, table-means, table-starts, table-lays-out}
 use Rattle.resolution_rules.specs.Resolving.{Span, delivered, judged}
-use Rattle.resolution_rules.specs.Calls.{output, noSpan, numberFault, resolve, unitOf, placedBy, resolveCall, unitCall, placeCall, unitPart, spanBytes}
-use Rattle.judging.specs.Steps.{judgement}
-use Rattle.resolution.specs.Steps.{partOf}
-use Rattle.judging.specs.declared.Amount.{Amount}
+use Rattle.resolution_rules.specs.Calls.{output, noSpan, numberFault, resolve, resolveUnit, placedBy, resolveCall, unitCall, placeCall, unitPart}
+use Rattle.resolution.specs.Steps.{foundBytes}
+use Rattle.resolution_rules.specs.Readers.{Sound}
 use Rattle.resolution_rules.proofs.Delivered.{Inside}
 use Rattle.resolution_rules.proofs.Good.{good-rules}
 use Rattle.resolution_rules.proofs.Exactly.{delivered-plain, delivered-there}
+use Rattle.resolution_rules.proofs.Readers.{firstLayout-sound, verdict-refuses}
 use Rattle.resolution_rules.proofs.Calls.{number-bad, by-count, call-means, unit-means, span-in}
 
 pub number-some : (count n : ℕ) → numberFault count n ≡ 0 → (0 < n) × (n ≤ count)
@@ -64,28 +64,28 @@ module _ (r : Recording) (n : ℕ) where
       sample-resolved e h = rw (g, e) (within-room room (output r (delivered r n)) h)
 
   module _ (i : ℕ) where
-    pub find-number : {f : ℕ} → f ≡ numberFault (sampleCount (r .layout)) n → (f ≡ 0 → ⊥) → unitOf r n i ≡ refused f 0
-    unfolding unitOf
+    pub find-number : {f : ℕ} → f ≡ numberFault (sampleCount (r .layout)) n → (f ≡ 0 → ⊥) → resolveUnit r n i ≡ refused f 0
+    unfolding resolveUnit
     find-number e h = rw (at-refused 0 e h)
 
     module _ (g : numberFault (sampleCount (r .layout)) n ≡ 0) where
-      pub find-sample : {m q : ℕ} → judged r n ≡ refused m q → unitOf r n i ≡ refused m q
-      unfolding unitOf
+      pub find-sample : {m q : ℕ} → judged r n ≡ refused m q → resolveUnit r n i ≡ refused m q
+      unfolding resolveUnit
       find-sample e = rw (g, e)
 
       module _ (j : judged r n ≡ ok tt) where
-        pub find-past : {f : ℕ} → f ≡ numberFault (length (delivered r n)) i → (f ≡ 0 → ⊥) → unitOf r n i ≡ refused f 0
-        unfolding unitOf
+        pub find-past : {f : ℕ} → f ≡ numberFault (length (delivered r n)) i → (f ≡ 0 → ⊥) → resolveUnit r n i ≡ refused f 0
+        unfolding resolveUnit
         find-past e h = rw (g, j, at-refused 0 e h)
 
-        pub find-good : numberFault (length (delivered r n)) i ≡ 0 → unitOf r n i ≡ ok (nth (delivered r n) i noSpan)
-        unfolding unitOf
+        pub find-good : numberFault (length (delivered r n)) i ≡ 0 → resolveUnit r n i ≡ ok (nth (delivered r n) i noSpan)
+        unfolding resolveUnit
         find-good e = rw (g, j, e)
 
     -- a unit that was found
-    module _ (u : Span) (e : unitOf r n i ≡ ok u) where
+    module _ (u : Span) (e : resolveUnit r n i ≡ ok u) where
       parts : (numberFault (sampleCount (r .layout)) n ≡ 0) × (judged r n ≡ ok tt) × (numberFault (length (delivered r n)) i ≡ 0) × (nth (delivered r n) i noSpan ≡ u)
-      unfolding unitOf
+      unfolding resolveUnit
       parts =
           let a = and-ok _ _ e in
           let b = and-ok (judged r n) _ (a .1) in
@@ -105,51 +105,55 @@ module _ (r : Recording) (n : ℕ) where
           let k = number-some _ _ (w .0) in
           rw (← w .3) (delivered-there r n (good-rules r n (w .1)) (k .0) (k .1) (nth (delivered r n) i noSpan) (nth-mem (delivered r n) i noSpan (s .0) (s .1)))
 
--- an accepted bundle
-module _ (b : List ℕ) (r : Recording) (e : meaning b ≡ ok r) (n i : ℕ) where
-  by-answer : (a : Answer Span) → unitOf r n i ≡ a → partOf r a ≡ unitPart b a
+-- a bundle that is accepted by a sound reader
+module _ (reader : Reader) (sound : Sound reader) (b : List ℕ) (r : Recording) (e : reader .means b ≡ ok r) (n i : ℕ) where
+  by-answer : (a : Answer Span) → resolveUnit r n i ≡ a → foundBytes r a ≡ unitPart reader b a
   by-answer (refused m p) f = refl
-  by-answer (ok u) f = let t = found-there r n i u f in sym (span-in b r e u (t .0) (t .1) (found-inside r n i u f))
+  by-answer (ok u) f = let t = found-there r n i u f in sym (span-in reader sound b r e u (t .0) (t .1) (found-inside r n i u f))
 
-  pub part-same : partOf r (unitOf r n i) ≡ unitPart b (unitCall b n i)
-  part-same = by-answer (unitOf r n i) refl ∙ ap (unitPart b) (sym (unit-means b n i e))
-
--- where a sample starts in an accepted bundle
-content-most : (b : List ℕ) (r : Recording) → meaning b ≡ ok r → (n : ℕ) → contentAt b n ≤ length b
-unfolding contentAt
-content-most b r e n = let a = take-sum-le (lengths b) (n - 1) in let z = sum-exact b r e .1 in omega arith
+  pub part-same : foundBytes r (resolveUnit r n i) ≡ unitPart reader b (unitCall reader b n i)
+  part-same = by-answer (resolveUnit r n i) refl ∙ ap (unitPart reader b) (sym (unit-means reader b n i e))
 
 -- where a unit stands, by two tellings of where samples start
 stands-same : (f g : ℕ → ℕ) (a : Answer Span) → ((u : Span) → a ≡ ok u → f (u .sample) ≡ g (u .sample)) → placedBy f a ≡ placedBy g a
 stands-same f g (refused m p) h = refl
 stands-same f g (ok u) h = rw (h u refl)
 
+pub filled-refused : (b : List ℕ) (room : ℕ) (f : Refusal) → filling b room ≡ Refused f → firstLayout .means b ≡ refused (f .number) (f .place .0)
+filled-refused b room f e = verdict-refuses b (f .number) (f .place .0) (says-refused b room f e)
+
 -- a table that was filled
 module _ (b t : List ℕ) (done : filling b (length t) ≡ Done) where
-  starts-at : (n : ℕ) → 0 < n → n ≤ sampleCount (recordingOf b .layout) → startIn (tableAfter b t) n ≡ contentAt b n
-  starts-at = table-starts b t (recordingOf b) (table-accepted b t done) done
+  abbrev R : Recording
+  R = recordingOf b
+
+  accepted : firstLayout .means b ≡ ok R
+  accepted = table-accepted b t done
+
+  starts-at : (n : ℕ) → 0 < n → n ≤ sampleCount (R .layout) → startIn (tableAfter b t) n ≡ firstLayout .contentAt b n
+  starts-at = table-starts b t R accepted done
 
   -- whatever is said by the table that is left
   module _ {s : List ℕ} (f : s ≡ tableAfter b t) (n i : ℕ) where
-    pub call-filled : within i (resolve (recordingIn b s) n) ≡ resolveCall b n i
-    call-filled = rw (f, table-means b t done) (sym (call-means b n i (table-accepted b t done)))
+    pub call-filled : within i (resolve (recordingIn b s) n) ≡ resolveCall firstLayout b n i
+    call-filled = rw (f, table-means b t done) (sym (call-means firstLayout b n i accepted))
 
-    pub unit-filled : unitOf (recordingIn b s) n i ≡ unitCall b n i
-    unit-filled = rw (f, table-means b t done) (sym (unit-means b n i (table-accepted b t done)))
+    pub unit-filled : resolveUnit (recordingIn b s) n i ≡ unitCall firstLayout b n i
+    unit-filled = rw (f, table-means b t done) (sym (unit-means firstLayout b n i accepted))
 
-    pub part-filled : partOf (recordingIn b s) (unitOf (recordingIn b s) n i) ≡ unitPart b (unitCall b n i)
-    part-filled = rw (f, table-means b t done) (part-same b (recordingOf b) (table-accepted b t done) n i)
+    pub part-filled : foundBytes (recordingIn b s) (resolveUnit (recordingIn b s) n i) ≡ unitPart firstLayout b (unitCall firstLayout b n i)
+    part-filled = rw (f, table-means b t done) (part-same firstLayout firstLayout-sound b R accepted n i)
 
-    pub place-filled : placedBy (startIn s) (unitOf (recordingIn b s) n i) ≡ placeCall b n i
+    pub place-filled : placedBy (startIn s) (resolveUnit (recordingIn b s) n i) ≡ placeCall firstLayout b n i
     unfolding placeCall
     place-filled =
         rw (f, table-means b t done)
-        (stands-same (startIn (tableAfter b t)) (contentAt b) (unitOf (recordingOf b) n i) (λ u e. let w = found-there (recordingOf b) n i u e in starts-at (u .sample) (w .0) (w .1))
-        ∙ ap (placedBy (contentAt b)) (sym (unit-means b n i (table-accepted b t done))))
+        (stands-same (startIn (tableAfter b t)) (firstLayout .contentAt b) (resolveUnit R n i) (λ u e. let w = found-there R n i u e in starts-at (u .sample) (w .0) (w .1))
+        ∙ ap (placedBy (firstLayout .contentAt b)) (sym (unit-means firstLayout b n i accepted)))
 
   pub starts-inside : {s : List ℕ} → s ≡ tableAfter b t → (m : ℕ) → 0 < m → m ≤ sampleCount (layoutIn s) → startIn s m ≤ length b
   starts-inside {s} f m h l =
-      let y : layoutIn s ≡ recordingOf b .layout = ap layoutIn f ∙ table-lays-out b t (recordingOf b) (table-accepted b t done) done in
+      let y : layoutIn s ≡ R .layout = ap layoutIn f ∙ table-lays-out b t R accepted done in
       let k = rw y at l in
-      let c = content-most b (recordingOf b) (table-accepted b t done) m in
-      rw (f, starts-at m h k) c
+      let c = firstLayout-sound .inside b R m accepted h k in
+      rw (f, starts-at m h k) (omega arith)

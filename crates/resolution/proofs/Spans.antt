@@ -6,15 +6,15 @@
 --   Seeking, seeking-start, -skip, -found, -take, -end    a loop that looks for the ith delivered unit
 use Prim.Native.Nat.{ℕ, _-_, _≤_, _<_}
 use mathlib.Core.Path.{_≡_, refl, ap, sym, _∙_}
-use mathlib.Core.List.{_∷_, [], List·Memᴰ}
+use mathlib.Core.List.{List·Memᴰ}
 use mathlib.Core.Bool.{true, false}
 use native.Mathlib.Omega.{arith}
-use borrow.Author.Tests.{ne-eqb, lt-ltb, le-ltb}
+use borrow.Author.Tests.{lt-ltb, le-ltb}
 use lib.ListN.{length, length-map}
 use Rattle.words.specs.Refusals.{ok}
 use Rattle.words.specs.Lists.{nth}
 use Rattle.words.proofs.Tests.{by-bool}
-use Rattle.words.proofs.Refusals.{at-ok, first-ok, orElse-none, and-ok}
+use Rattle.words.proofs.Refusals.{at-ok, first-ok, orElse-none}
 use Rattle.words.proofs.Lists.{nth-mem}
 use Rattle.units.specs.Units.{Sample, end, next, isAggregator, isExtractor}
 use Rattle.units.specs.Extractors.{trackRefIndex, sampleOffset, dataOffset, dataLength}
@@ -26,39 +26,38 @@ use Rattle.samples.specs.Check.{check}
 use Rattle.samples.proofs.Laws.{extractor-step}
 use Rattle.bundles.specs.Recordings.{Recording, contentOf}
 use Rattle.links.specs.Links.{sampleNamed, nameFault}
-use Rattle.links.proofs.Words.{nth-over}
 use Rattle.copies.specs.Copies.{copied}
 use Rattle.copies.specs.Written.{copiedPlace}
-use Rattle.copies.specs.declared.Copy.{Copy}
 use Rattle.copies.proofs.Answers.{good-whole, place-good}
 use Rattle.words.proofs.Numbered.{nth-none}
 use Rattle.bundles.specs.Limits.{bundleMost}
 use Rattle.resolution_rules.specs.Resolving.{sampleOf, spanOf, own, named, linked, nameFaultAt, copyFaultAt, extractFault, copiedAt, deliveredAt, delivered, judged}
 use Rattle.resolution_rules.specs.Calls.{noSpan}
 use Rattle.judging.specs.Steps.{amountAt}
+use Rattle.judging.specs.declared.UnitAmount.{UnitAmount}
 use Rattle.resolution.specs.Steps.{copiedSpan, spanAt}
 use Rattle.words.proofs.Joined.{nth-map, nth-front, nth-back}
 use Rattle.resolution_rules.proofs.Delivered.{delivered-unit, delivered-extractor, unitJudge, unit-judge, extractors-units, judged-extractors}
 use Rattle.resolution_rules.proofs.Good.{good-rules}
 use Rattle.resolution_rules.proofs.Exactly.{extractor-mem}
-use Rattle.judging.proofs.Amounts.{Amounts}
-use Rattle.judging.proofs.Counting.{left, left-end, left-skip, left-take, left-start, Passing, passing-start, passing-skip, passing-take, passing-mem, passing-amounts}
+use Rattle.judging.proofs.Amounts.{Amounts, by-name-refused, by-name-sample}
+use Rattle.judging.proofs.Counting.{remaining, remaining-end, remaining-skip, remaining-take, remaining-start, Passing, passing-start, passing-skip, passing-take, passing-mem, passing-amounts}
 
 -- what an extractor with the fields f stands for, by what it names
 module _ (r : Recording) (n : ℕ) (f : Extractor) (i : ℕ) where
   pub span-refused : {g : ℕ} → nameFault (r .layout) n (f .«track_ref_index») (f .«sample_offset») ≡ g → 0 < g → copiedSpan r n f i ≡ noSpan
   unfolding copiedSpan
-  span-refused {g} e h = rw (e, ne-eqb g 0 (λ z. omega arith))
+  span-refused e h = by-name-refused r n f _ _ e h
 
   module _ {m : ℕ} (g : nameFault (r .layout) n (f .«track_ref_index») (f .«sample_offset») ≡ 0) (j : sampleNamed (r .layout) n (f .«track_ref_index») (f .«sample_offset») ≡ m)
       {z : Sample} (e : z ≡ sampleOf r m) {q : ℕ} (k : q ≡ copiedPlace z (f .«data_offset» .0) (f .«data_length») i) where
     pub span-past : end z ≤ q → copiedSpan r n f i ≡ noSpan
     unfolding copiedSpan
-    span-past h = rw (g, j, ← e, ← k, le-ltb q (end z) h)
+    span-past h = by-name-sample r n f _ _ g j ∙ rw (← e, ← k, le-ltb q (end z) h)
 
     pub span-here : q < end z → copiedSpan r n f i ≡ spanOf m z q
     unfolding copiedSpan
-    span-here h = rw (g, j, ← e, ← k, lt-ltb q (end z) h)
+    span-here h = by-name-sample r n f _ _ g j ∙ rw (← e, ← k, lt-ltb q (end z) h)
 
 module _ (r : Recording) (n : ℕ) where
   copied-here : (p i : ℕ) → extractFault r n p ≡ 0 → 0 < i → i ≤ length (copiedAt r n p) → copiedSpan r n (extractorOf (own r n) p) i ≡ nth (copiedAt r n p) i noSpan
@@ -88,24 +87,24 @@ module _ (r : Recording) (n : ℕ) where
       rw (t, d, one) (unfold nth in refl))
 
 module _ (r : Recording) (n : ℕ) (x : Sample) where
-  -- the ith delivered unit is the one at rest of those that are left from p on
+  -- the ith delivered unit is the one at rest of those that remain from p on
   pub record Seeking (i p rest : ℕ) : Type 0 where
     pub passing : Passing r n x p
     pub good : judged r n ≡ ok tt
     pub bounded : (m : ℕ) → length (contentOf r m) ≤ bundleMost
     pub some : 0 < rest
-    pub same : nth (delivered r n) i noSpan ≡ nth (left r n x p) rest noSpan
+    pub same : nth (delivered r n) i noSpan ≡ nth (remaining r n x p) rest noSpan
 
   pub seeking-start : (i : ℕ) → x ≡ own r n → judged r n ≡ ok tt → ((m : ℕ) → length (contentOf r m) ≤ bundleMost) → 0 < i → Seeking i 0 i
   seeking-start i e g l h =
       let f : check x ≡ ok tt = rw e (good-rules r n g .formed) in
-      record { passing = passing-start r n x e f; good = g; bounded = l; some = h; same = ap (λ us. nth us i noSpan) (sym (left-start r n x e f)) }
+      record { passing = passing-start r n x e f; good = g; bounded = l; some = h; same = ap (λ us. nth us i noSpan) (sym (remaining-start r n x e f)) }
 
   module _ (i p rest : ℕ) (c : Seeking i p rest) where
     pub seeking-skip : p < end x → isAggregator x p ≡ true → Seeking i (includedStart x p) rest
-    seeking-skip h t = record { passing = passing-skip r n x p (c .passing) h t; good = c .good; bounded = c .bounded; some = c .some; same = c .same ∙ rw (left-skip r n x p (c .passing) h t) }
+    seeking-skip h t = record { passing = passing-skip r n x p (c .passing) h t; good = c .good; bounded = c .bounded; some = c .some; same = c .same ∙ rw (remaining-skip r n x p (c .passing) h t) }
 
-    module _ (h : p < end x) (t : isAggregator x p ≡ false) {a : Copy} (e : a ≡ amountAt r n x p) where
+    module _ (h : p < end x) (t : isAggregator x p ≡ false) {a : UnitAmount} (e : a ≡ amountAt r n x p) where
       amounts : Amounts r n bundleMost p a
       amounts = rw e (passing-amounts r n x p (c .passing) h t (c .bounded))
 
@@ -124,7 +123,7 @@ module _ (r : Recording) (n : ℕ) (x : Sample) where
           let k = amounts .number sound in
           let f = rw s at (c .passing .formed) in
           let g : spanAt r n x p rest ≡ nth (deliveredAt r n p) rest noSpan = rw s (at-good r n f p rest (rw s at mem) (rw s at t) (c .good) (c .some) (omega arith)) in
-          g ∙ sym (c .same ∙ rw (left-take r n x p h t) (nth-front (deliveredAt r n p) (left r n x (next x p)) rest noSpan (omega arith)))
+          g ∙ sym (c .same ∙ rw (remaining-take r n x p h t) (nth-front (deliveredAt r n p) (remaining r n x (next x p)) rest noSpan (omega arith)))
 
       pub seeking-take : a .count < rest → Seeking i (next x p) (rest - a .count)
       seeking-take l =
@@ -134,8 +133,8 @@ module _ (r : Recording) (n : ℕ) (x : Sample) where
             good = c .good;
             bounded = c .bounded;
             some = omega arith;
-            same = c .same ∙ rw (left-take r n x p h t, ← k) (nth-back (deliveredAt r n p) (left r n x (next x p)) rest noSpan (omega arith));
+            same = c .same ∙ rw (remaining-take r n x p h t, ← k) (nth-back (deliveredAt r n p) (remaining r n x (next x p)) rest noSpan (omega arith));
           }
 
     pub seeking-end : end x ≤ p → nth (delivered r n) i noSpan ≡ noSpan
-    seeking-end h = c .same ∙ rw (left-end r n x p h) (nth-none rest noSpan)
+    seeking-end h = c .same ∙ rw (remaining-end r n x p h) (nth-none rest noSpan)

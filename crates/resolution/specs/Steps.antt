@@ -3,56 +3,40 @@
 --   spanFor u             a delivered unit as the code has it
 --   copiedSpan r n f i    the ith unit that an extractor with the fields f in sample n stands for; no unit where there is none
 --   spanAt r n x p i      the ith unit that is delivered for the unit at p of sample n, which is x, if that is no aggregator
---   partOf r a            the bytes of a unit that was found; empty if refused
+--   foundBytes r a            the bytes of a unit that was found; empty if refused
 --   extractBytes r n f    what is written for an extractor with the fields f in sample n: nothing where it is refused
---   bytesAt r n x p       what is written for the unit at p of sample n, which is x, if it is no aggregator
+--   outputAt r n x p       what is written for the unit at p of sample n, which is x, if it is no aggregator
 use Prim.Native.Nat.{ℕ}
 use mathlib.Core.List.{List, []}
-use Rattle.words.specs.Tests.{_≡?_, _<?_, pick}
+use Rattle.words.specs.Tests.{_<?_, pick}
 use Rattle.words.specs.Refusals.{Answer, refused, ok}
-use Rattle.units.specs.Units.{Sample, end, isExtractor}
-use Rattle.units.specs.Steps.{extractorAt}
-use Rattle.units.specs.declared.Extractor as fields
-use Rattle.units.specs.declared.MaybeExtractor.{MaybeExtractor}
-use Rattle.units.specs.declared.MaybeExtractor.the-variants.{Extractor, Nothing}
+use Rattle.units.specs.Units.{Sample, end}
+use Rattle.units.specs.declared.Extractor.{Extractor}
 use Rattle.bundles.specs.Recordings.{Recording}
-use Rattle.links.specs.Links.{sampleNamed, nameFault}
 use Rattle.copies.specs.Written.{withLength, copyBytes, copiedPlace}
 use Rattle.resolution_rules.specs.Resolving.{sampleOf, Span, spanOf}
 use Rattle.resolution_rules.specs.Calls.{noSpan, spanBytes}
+use Rattle.judging.specs.Steps.{byName, byUnit}
 use Rattle.resolution.specs.declared.UnitSpan.{UnitSpan}
 
 abbrev pub spanFor : UnitSpan → Span
 spanFor u = record { sample = u .sample .0; start = u .start .0; size = u .size }
 
-unfoldable pub copiedSpan : Recording → ℕ → fields.Extractor → ℕ → Span
-copiedSpan r n f i =
-    let fault = nameFault (r .layout) n (f .«track_ref_index») (f .«sample_offset») in
-    let named = sampleNamed (r .layout) n (f .«track_ref_index») (f .«sample_offset») in
-    let z = sampleOf r named in
+unfoldable pub copiedSpan : Recording → ℕ → Extractor → ℕ → Span
+copiedSpan r n f i = byName r n f (λ fault. noSpan) (λ m.
+    let z = sampleOf r m in
     let place = copiedPlace z (f .«data_offset» .0) (f .«data_length») i in
-    pick (fault ≡? 0) (pick (place <? end z) (spanOf named z place) noSpan) noSpan
-
-abbrev pub copiedSpanBy : Recording → ℕ → MaybeExtractor → ℕ → Span
-copiedSpanBy r n (Extractor f) i = copiedSpan r n f i
-copiedSpanBy r n Nothing i = noSpan
+    pick (place <? end z) (spanOf m z place) noSpan)
 
 unfoldable pub spanAt : Recording → ℕ → Sample → ℕ → ℕ → Span
-spanAt r n x p i = pick (isExtractor x p) (copiedSpanBy r n (extractorAt x (end x) p) i) (spanOf n x p)
+spanAt r n x p i = byUnit x p (λ f. copiedSpan r n f i) noSpan (spanOf n x p)
 
-abbrev pub partOf : Recording → Answer Span → List ℕ
-partOf r (refused n p) = []
-partOf r (ok u) = spanBytes r u
+abbrev pub foundBytes : Recording → Answer Span → List ℕ
+foundBytes r (refused n p) = []
+foundBytes r (ok u) = spanBytes r u
 
-unfoldable pub extractBytes : Recording → ℕ → fields.Extractor → List ℕ
-extractBytes r n f =
-    let fault = nameFault (r .layout) n (f .«track_ref_index») (f .«sample_offset») in
-    let named = sampleNamed (r .layout) n (f .«track_ref_index») (f .«sample_offset») in
-    pick (fault ≡? 0) (copyBytes (sampleOf r named) (f .«data_offset» .0) (f .«data_length»)) []
+unfoldable pub extractBytes : Recording → ℕ → Extractor → List ℕ
+extractBytes r n f = byName r n f (λ fault. []) (λ m. copyBytes (sampleOf r m) (f .«data_offset» .0) (f .«data_length»))
 
-abbrev pub extractBytesBy : Recording → ℕ → MaybeExtractor → List ℕ
-extractBytesBy r n (Extractor f) = extractBytes r n f
-extractBytesBy r n Nothing = []
-
-unfoldable pub bytesAt : Recording → ℕ → Sample → ℕ → List ℕ
-bytesAt r n x p = pick (isExtractor x p) (extractBytesBy r n (extractorAt x (end x) p)) (withLength x p)
+unfoldable pub outputAt : Recording → ℕ → Sample → ℕ → List ℕ
+outputAt r n x p = byUnit x p (extractBytes r n) [] (withLength x p)

@@ -5,13 +5,12 @@ ghost use lib.ListN.{length};
 ghost use Rattle.words.specs.Refusals.{refused, ok};
 ghost use Rattle.words.specs.Lists.{nth};
 ghost use Rattle.units.specs.Units.{sample, next};
-ghost use Rattle.samples.specs.Check.{check};
 ghost use Rattle.bundles.specs.Limits.{bundleMost};
 ghost use Rattle.bundles.specs.Recordings.{sampleCount};
 ghost use Rattle.tables.specs.Tables.{layoutIn, recordingIn, startIn};
 ghost use Rattle.resolution_rules.specs.Resolving.{sampleOf, spanOf, delivered, judged};
-ghost use Rattle.resolution_rules.specs.Calls.{noSpan, unitOf, placedBy};
-ghost use Rattle.resolution.specs.Steps.{spanFor, copiedSpan, spanAt, partOf};
+ghost use Rattle.resolution_rules.specs.Calls.{noSpan, resolveUnit, placedBy};
+ghost use Rattle.resolution.specs.Steps.{spanFor, copiedSpan, spanAt, foundBytes};
 ghost use Rattle.resolution.specs.Answers.{unitAnswerOf, placeAnswerOf};
 use crate::UnitFound;
 use crate::UnitPart;
@@ -101,17 +100,17 @@ fn find(b: &[u8], t: &[u64], n: SampleNumber, k: Track, x: &[u8], i: usize) -> U
 {
     let l = k.length_size;
     let w = l.bytes();
-    let mut left = i;
+    let mut rest = i;
     let mut p: usize = 0;
     while p < x.len() {
         if units::type_at(k, x, ByteOffset(p)) == units::AGGREGATOR {
             p = p + w + LengthSize::HEADER + w;
         } else {
             let a = judging::amount_at(b, t, n, k, x, ByteOffset(p));
-            if left <= a.count {
-                return span_at(b, t, n, k, x, p, left);
+            if rest <= a.count {
+                return span_at(b, t, n, k, x, p, rest);
             }
-            left -= a.count;
+            rest -= a.count;
             p = p + w + l.number(x, p);
         }
     }
@@ -131,7 +130,7 @@ pub(crate) fn refused(number: u8) -> UnitFound
 // The ith unit that sample n delivers: 30, 14 to 28, 30 for i, or the unit.
 pub(crate) fn find_unit(b: &[u8], t: &[u64], n: SampleNumber, i: usize) -> UnitFound
     requires { ⌜ length (now b) ≤ bundleMost ⌝ }
-    ensures { λ r. ⌜ unitAnswerOf r ≡ unitOf (recordingIn (now (b .entry)) (now (t .entry))) (n .0) i ⌝ }
+    ensures { λ r. ⌜ unitAnswerOf r ≡ resolveUnit (recordingIn (now (b .entry)) (now (t .entry))) (n .0) i ⌝ }
 {
     let fault = judging::number_fault(tables::sample_count(t), n.0);
     if fault != 0 {
@@ -165,7 +164,7 @@ pub(crate) fn unplaced(number: u8) -> UnitPlaced
 // Where the ith unit that sample n delivers stands, by a table in which samples start within the bundle.
 pub(crate) fn place_unit(b: &[u8], t: &[u64], n: SampleNumber, i: usize) -> UnitPlaced
     requires { ⌜ (length (now b) ≤ bundleMost) × ((m : ℕ) → 0 < m → m ≤ sampleCount (layoutIn (now t)) → startIn (now t) m ≤ length (now b)) ⌝ }
-    ensures { λ r. ⌜ placeAnswerOf r ≡ placedBy (startIn (now (t .entry))) (unitOf (recordingIn (now (b .entry)) (now (t .entry))) (n .0) i) ⌝ }
+    ensures { λ r. ⌜ placeAnswerOf r ≡ placedBy (startIn (now (t .entry))) (resolveUnit (recordingIn (now (b .entry)) (now (t .entry))) (n .0) i) ⌝ }
 {
     let found = find_unit(b, t, n, i);
     match found {
@@ -184,7 +183,7 @@ pub(crate) fn place_unit(b: &[u8], t: &[u64], n: SampleNumber, i: usize) -> Unit
 // The bytes of the ith unit that sample n delivers; empty if refused.
 pub(crate) fn unit_part<'a>(b: &'a [u8], t: &[u64], n: SampleNumber, i: usize) -> &'a [u8]
     requires { ⌜ length (now b) ≤ bundleMost ⌝ }
-    ensures { λ r. ⌜ now r ≡ partOf (recordingIn (now (b .entry)) (now (t .entry))) (unitOf (recordingIn (now (b .entry)) (now (t .entry))) (n .0) i) ⌝ }
+    ensures { λ r. ⌜ now r ≡ foundBytes (recordingIn (now (b .entry)) (now (t .entry))) (resolveUnit (recordingIn (now (b .entry)) (now (t .entry))) (n .0) i) ⌝ }
 {
     let found = find_unit(b, t, n, i);
     match found {

@@ -5,6 +5,7 @@ mod writing;
 ghost use mathlib.Core.Path.{_≡_};
 ghost use lib.ListN.{length};
 ghost use Rattle.words.specs.Buffers.{Wrote};
+ghost use Rattle.bundles.specs.Readers.{firstLayout};
 ghost use Rattle.resolution_rules.specs.Calls.{resolveCall, unitCall, placeCall, unitPart};
 ghost use Rattle.resolution.specs.Answers.{answerOf, unitAnswerOf, placeAnswerOf};
 use filling::Filled;
@@ -47,7 +48,7 @@ pub enum Resolved {
 // A sample resolved: 1 to 13, 30, 14 to 28, 29; or each delivered unit after a 4-byte length, over the start of the buffer, and how many
 // bytes that is. After a refusal the buffer is as it was.
 pub fn resolve(b: &[u8], n: SampleNumber, out: &mut [u8]) -> Resolved
-    ensures { λ r. ⌜ Wrote (now (out .entry)) (now (out .exit)) (answerOf r) (resolveCall (now (b .entry)) (n .0) (length (now (out .entry)))) ⌝ }
+    ensures { λ r. ⌜ Wrote (now (out .entry)) (now (out .exit)) (answerOf r) (resolveCall firstLayout (now (b .entry)) (n .0) (length (now (out .entry)))) ⌝ }
 {
     let mut t = [0u64; tables::TABLE_SIZE];
     let filled = filling::fill_table(b, &mut t);
@@ -61,7 +62,7 @@ pub fn resolve(b: &[u8], n: SampleNumber, out: &mut [u8]) -> Resolved
 
 // The kth unit that a sample delivers: 1 to 13, 30, 14 to 28, 30 for k, or where it stands.
 pub fn unit_answer(b: &[u8], n: SampleNumber, k: usize) -> UnitFound
-    ensures { λ r. ⌜ unitAnswerOf r ≡ unitCall (now (b .entry)) (n .0) k ⌝ }
+    ensures { λ r. ⌜ unitAnswerOf r ≡ unitCall firstLayout (now (b .entry)) (n .0) k ⌝ }
 {
     let mut t = [0u64; tables::TABLE_SIZE];
     let filled = filling::fill_table(b, &mut t);
@@ -75,7 +76,7 @@ pub fn unit_answer(b: &[u8], n: SampleNumber, k: usize) -> UnitFound
 
 // Its bytes, as a part of the bundle; empty if refused.
 pub fn unit_bytes<'a>(b: &'a [u8], n: SampleNumber, k: usize) -> &'a [u8]
-    ensures { λ r. ⌜ now r ≡ unitPart (now (b .entry)) (unitCall (now (b .entry)) (n .0) k) ⌝ }
+    ensures { λ r. ⌜ now r ≡ unitPart firstLayout (now (b .entry)) (unitCall firstLayout (now (b .entry)) (n .0) k) ⌝ }
 {
     let mut t = [0u64; tables::TABLE_SIZE];
     let filled = filling::fill_table(b, &mut t);
@@ -89,7 +90,7 @@ pub fn unit_bytes<'a>(b: &'a [u8], n: SampleNumber, k: usize) -> &'a [u8]
 
 // Where in the bundle its bytes stand.
 pub fn unit_place(b: &[u8], n: SampleNumber, k: usize) -> UnitPlaced
-    ensures { λ r. ⌜ placeAnswerOf r ≡ placeCall (now (b .entry)) (n .0) k ⌝ }
+    ensures { λ r. ⌜ placeAnswerOf r ≡ placeCall firstLayout (now (b .entry)) (n .0) k ⌝ }
 {
     let mut t = [0u64; tables::TABLE_SIZE];
     let filled = filling::fill_table(b, &mut t);

@@ -10,7 +10,7 @@ ghost use Rattle.tables.specs.Tables.{recordingIn};
 ghost use Rattle.copies.specs.Written.{withLength, putCount};
 ghost use Rattle.resolution_rules.specs.Resolving.{sampleOf, delivered, judged};
 ghost use Rattle.resolution_rules.specs.Calls.{output, resolve};
-ghost use Rattle.resolution.specs.Steps.{extractBytes, bytesAt};
+ghost use Rattle.resolution.specs.Steps.{extractBytes, outputAt};
 ghost use Rattle.resolution.specs.Answers.{answerOf};
 use crate::Resolved;
 use judging::Judged;
@@ -77,9 +77,9 @@ fn put_at(
     x: &[u8],
     p: usize,
 ) -> usize
-    requires { ⌜ (next (sample k (now x)) p ≤ length (now x)) × (at + length (bytesAt (recordingIn (now b) (now t)) (n .0) (sample k (now x)) p) ≤ length (now out)) ⌝ }
-    ensures { λ r. ⌜ (r ≡ length (bytesAt (recordingIn (now (b .entry)) (now (t .entry))) (n .0) (sample k (now (x .entry))) p))
-        × (now (out .exit) ≡ put (now (out .entry)) at (bytesAt (recordingIn (now (b .entry)) (now (t .entry))) (n .0) (sample k (now (x .entry))) p)) ⌝ }
+    requires { ⌜ (next (sample k (now x)) p ≤ length (now x)) × (at + length (outputAt (recordingIn (now b) (now t)) (n .0) (sample k (now x)) p) ≤ length (now out)) ⌝ }
+    ensures { λ r. ⌜ (r ≡ length (outputAt (recordingIn (now (b .entry)) (now (t .entry))) (n .0) (sample k (now (x .entry))) p))
+        × (now (out .exit) ≡ put (now (out .entry)) at (outputAt (recordingIn (now (b .entry)) (now (t .entry))) (n .0) (sample k (now (x .entry))) p)) ⌝ }
 {
     if units::type_at(k, x, ByteOffset(p)) != units::EXTRACTOR {
         return put_own(out, at, k, x, p);
@@ -136,13 +136,14 @@ pub(crate) fn resolve_sample(b: &[u8], t: &[u64], n: SampleNumber, out: &mut [u8
     match judged {
         Judged::Refused(f) => Resolved::Refused(f),
         Judged::Good(a) => {
-            if out.len() < a.size {
+            let size = a.own + a.copied + copies::LENGTH_BEFORE * a.count;
+            if out.len() < size {
                 return refused(refusals::OUTPUT_TOO_LONG);
             }
             let k = judging::track_of(t, n);
             let x = tables::sample_bytes(b, t, n);
             write_units(out, b, t, n, k, x);
-            Resolved::Count(a.size)
+            Resolved::Count(size)
         }
     }
 }

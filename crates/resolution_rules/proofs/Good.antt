@@ -2,18 +2,20 @@
 --
 --   extract-rules, rules-extract    an extractor without 23 to 28 follows the rules, both ways
 --   good-rules, rules-good          so does a sample without 14 to 28
---   judged-refused                  a refusal of a sample is 14 to 28, at a place in the sample
+--   judged-refused                  a refusal of a sample is one of its set, at a place in the sample
 --   judged-first, first-judged      it is that of the check, or of the first extractor that is refused, both ways
---   extract-range                   a refusal of an extractor is 23 to 28
+--   extract-range                   a refusal of an extractor is one of its set
 --   own-length                      the bytes of sample n
-use Prim.Native.Nat.{ℕ, zero, suc, _≤_, _<_}
-use mathlib.Core.Path.{_≡_, refl, _∙_}
-use mathlib.Core.List.{List·Memᴰ}
+use Prim.Native.Nat.{ℕ, zero, suc, _<_}
+use mathlib.Core.Path.{_≡_, refl, _∙_, subst}
+use mathlib.Core.List.{List·Memᴰ, Memᴰ·append-left, Memᴰ·append-right}
 use mathlib.Core.Logic.{_⊎_, inl, inr}
 use native.Mathlib.Omega.{arith}
 use lib.ListN.{length}
+use Rattle.words.specs.RefusalNumbers.{formRefusals, nameRefusals, copyRefusals, extractorRefusals}
 use Rattle.words.specs.Refusals.{refused, ok}
-use Rattle.words.proofs.Refusals.{orElse-none, at-ok, at-none, at-from, and-ok, by-verdict, first-ok, first-all, first-from, Within, within-orElse, within-some}
+use Rattle.words.specs.Lists.{_∈_}
+use Rattle.words.proofs.Refusals.{orElse-none, at-ok, at-none, at-from, and-ok, by-verdict, first-ok, first-all, first-from, NoneOr, none-or-orElse, none-or-wider, none-or-some}
 use Rattle.words.proofs.Lists.{keep-from, Rising, rising-keep}
 use Rattle.units.specs.Units.{end, isExtractor}
 use Rattle.units.specs.Extractors.{trackRefIndex, sampleOffset, dataOffset, dataLength}
@@ -27,16 +29,12 @@ use Rattle.copies.proofs.Copied.{copy-rules, rules-copy, copy-range}
 use Rattle.resolution_rules.specs.Resolving.{sampleOf, own, named, linked, nameFaultAt, copyFaultAt, extractFault, judged}
 use Rattle.resolution_rules.specs.Rules.{Extracts, Good, JudgedRefusal, FirstRefused}
 use Rattle.words.proofs.Joined.{first-earliest, first-here}
+use Rattle.resolution_rules.proofs.Bridges.{form-set, name-set, copy-set}
 use Rattle.resolution_rules.proofs.Delivered.{extractJudge}
 
 pub own-length : (r : Recording) (n : ℕ) → end (sampleOf r n) ≡ length (contentOf r n)
 unfolding sampleOf
 own-length r n = refl
-
--- a refusal number in wider bounds
-wider : (a b c d n : ℕ) → a ≤ c → d ≤ b → Within c d n → Within a b n
-wider a b c d n h l (inl z) = inl z
-wider a b c d n h l (inr w) = inr (omega arith, omega arith)
 
 module _ (r : Recording) (n : ℕ) where
   pub extract-rules : (p : ℕ) → extractFault r n p ≡ 0 → Extracts r n p
@@ -56,11 +54,11 @@ module _ (r : Recording) (n : ℕ) where
       let m = in-track (r .layout) n _ _ (x .there) in
       rw (name-good (r .layout) n (trackRefIndex (own r n) p) (sampleOffset (own r n) p) (m .0)) (rules-copy (linked r n p) (dataOffset (own r n) p) (dataLength (own r n) p) (x .copy))
 
-  pub extract-range : (p : ℕ) → Within 23 28 (extractFault r n p)
+  pub extract-range : (p : ℕ) → NoneOr extractorRefusals (extractFault r n p)
   unfolding extractFault nameFaultAt copyFaultAt
-  extract-range p = within-orElse 23 28 _ _
-      (wider 23 28 23 24 _ (omega arith) (omega arith) (name-range (r .layout) n (trackRefIndex (own r n) p) (sampleOffset (own r n) p)))
-      (wider 23 28 25 28 _ (omega arith) (omega arith) (copy-range (linked r n p) (dataOffset (own r n) p) (dataLength (own r n) p)))
+  extract-range p = none-or-orElse extractorRefusals _ _
+      (none-or-wider (λ m w. Memᴰ·append-left copyRefusals w) (name-set (name-range (r .layout) n (trackRefIndex (own r n) p) (sampleOffset (own r n) p))))
+      (none-or-wider (λ m w. Memᴰ·append-right nameRefusals w) (copy-set (copy-range (linked r n p) (dataOffset (own r n) p) (dataLength (own r n) p))))
 
   pub good-rules : judged r n ≡ ok tt → Good r n
   unfolding judged
@@ -84,13 +82,13 @@ module _ (r : Recording) (n : ℕ) where
       let s : refused a c ≡ refused m p = rw v at e in
       let k = check-refusals (own r n) m p (v ∙ s) in
       let l = own-length r n in
-      (k .0, omega arith, omega arith))
+      (Memᴰ·append-left extractorRefusals (form-set m (k .0) (k .1)), omega arith))
       (λ v.
       let w = first-from (extractJudge r n) (extractors (own r n)) (rw v at e) in
       let f = at-from (extractFault r n (w .0)) (w .0) (w .2) in
-      let g = within-some 23 28 (extract-range (w .0)) (f .2) in
+      let g = none-or-some extractorRefusals (extract-range (w .0)) (f .2) in
       let i = extractor-inside v (w .0) (w .1) in
-      (omega arith, omega arith, omega arith))
+      (Memᴰ·append-right formRefusals (subst (λ k. k ∈ extractorRefusals) (f .0) g), omega arith))
 
   extractors-rise : Rising _<_ (extractors (own r n))
   unfolding extractors

@@ -6,13 +6,19 @@
 --   Exactly    what a good sample delivers
 --   Once       every unit is delivered once, in its place
 --   Calls      what the calls answer
+--   Amounts    own and copied bytes as sums over all units
 --   Sizes      how much a good sample delivers, at most
 --   Extracted  what the function on two samples gives
+--   Readers    the reader of the first layout is sound
+--   Bridges    refusal numbers of the crates below by set
 pub mod Promises
 pub mod Delivered
 pub mod Good
 pub mod Exactly
 pub mod Once
 pub mod Calls
+pub mod Amounts
 pub mod Sizes
 pub mod Extracted
+pub mod Readers
+pub mod Bridges

@@ -5,17 +5,16 @@
 --   unit-once          a unit that is neither an aggregator nor an extractor is delivered once
 --   covered-once       also one that an aggregator covers by reference
 --   included-once      also one that an aggregator includes
---   bundle-apart       in an accepted bundle no extractor names its own sample
+--   different-apart    where references join different tracks no extractor of a good sample names its own sample
 use Prim.Native.Nat.{ℕ, _+_, _<_}
 use mathlib.Core.Path.{_≡_, refl, ap, sym, _∙_}
-use mathlib.Core.List.{List, [], _∷_, _++_, map, List·Memᴰ, Memᴰ·of-map}
-use mathlib.Core.Bool.{Bool, true, false, not, _&&_}
+use mathlib.Core.List.{[], _∷_, _++_, map, List·Memᴰ, Memᴰ·of-map}
+use mathlib.Core.Bool.{Bool, true, false}
 use native.Mathlib.Omega.{arith}
 use borrow.Author.Tests.{eq-eqb, ne-eqb, eqb-true, eqb-false, leb-true, ltb-true}
 use lib.Dec.{eqb}
 use lib.ListN.{length}
 use Rattle.words.specs.Tests.{pick, _<?_, _≡?_}
-use Rattle.words.specs.Refusals.{ok}
 use Rattle.words.specs.Lists.{keep, each}
 use Rattle.words.proofs.Tests.{by-bool, and-both}
 use Rattle.words.proofs.Lists.{each-append, each-cong, keep-mem, keep-from, keep-nothing, keep-cong, rising-keep}
@@ -25,12 +24,12 @@ use Rattle.units.specs.Aggregators.{coverEnd, included, units}
 use Rattle.units.proofs.Walks.{units-rise, units-top, units-included}
 use Rattle.samples.proofs.Laws.{covered-clear, included-inside}
 use Rattle.bundles.specs.Recordings.{Recording, trackOf}
-use Rattle.bundles.specs.Bundles.{meaning}
-use Rattle.bundles.proofs.Promises.{references-join}
 use Rattle.links.proofs.Links.{in-track, link-good, linked-reference}
 use Rattle.copies.specs.Copies.{copied}
 use Rattle.words.proofs.Kept.{keep-each, each-keep, keep-yes}
 use Rattle.resolution_rules.specs.Resolving.{Span, spanOf, spansOf, own, named, linked, copiedAt, deliveredAt, delivered}
+use Rattle.resolution_rules.specs.Amounts.{deliversItself}
+use Rattle.resolution_rules.specs.Readers.{DifferentTracks}
 use Rattle.resolution_rules.specs.Rules.{Good, Apart, timesDelivered}
 use Rattle.words.proofs.Joined.{keep-and, each-single, map-keep, keep-one, rising-cut}
 use Rattle.resolution_rules.proofs.Delivered.{delivered-unit, delivered-aggregator, delivered-extractor}
@@ -44,10 +43,6 @@ module _ (r : Recording) (n : ℕ) where
       ap (each (deliveredAt r n)) (rising-cut q (units (own r n)) (units-rise (own r n)) m)
       ∙ each-append (deliveredAt r n) (keep (λ p. p <? q) (units (own r n))) (q ∷ keep (λ p. q <? p) (units (own r n)))
 
-  -- neither an aggregator nor an extractor
-  abbrev pub delivers-itself : ℕ → Bool
-  delivers-itself p = not (isAggregator (own r n) p) && not (isExtractor (own r n) p)
-
   abbrev from-own : Span → Bool
   from-own u = (u .sample) ≡? n
 
@@ -57,7 +52,7 @@ module _ (r : Recording) (n : ℕ) where
       let w = Memᴰ·of-map (spanOf (named r n p) (linked r n p)) (copied (linked r n p) (dataOffset (own r n) p) (dataLength (own r n) p)) m in
       rw (← w .2) (ne-eqb (named r n p) n h))
 
-  one-own : Apart r n → (p : ℕ) → List·Memᴰ p (units (own r n)) → keep from-own (deliveredAt r n p) ≡ pick (delivers-itself p) (spanOf n (own r n) p ∷ []) []
+  one-own : Apart r n → (p : ℕ) → List·Memᴰ p (units (own r n)) → keep from-own (deliveredAt r n p) ≡ pick (deliversItself r n p) (spanOf n (own r n) p ∷ []) []
   one-own h p m =
       by-bool (isAggregator (own r n) p)
       (λ a. rw (delivered-aggregator r n p a, a) (unfold keep in refl))
@@ -66,19 +61,19 @@ module _ (r : Recording) (n : ℕ) where
       (λ e. rw (delivered-unit r n p a e, a, e) (keep-yes from-own (spanOf n (own r n) p) [] (eq-eqb n n refl) ∙ ap (λ l. spanOf n (own r n) p ∷ l) (unfold keep in refl))))
 
   -- what is delivered of the sample itself
-  pub own-delivered : Apart r n → keep from-own (delivered r n) ≡ spansOf n (own r n) (keep delivers-itself (units (own r n)))
+  pub own-delivered : Apart r n → keep from-own (delivered r n) ≡ spansOf n (own r n) (keep (deliversItself r n) (units (own r n)))
   unfolding delivered
   own-delivered h =
       keep-each from-own (deliveredAt r n) (units (own r n))
       ∙ each-cong _ _ (units (own r n)) (one-own h)
-      ∙ sym (each-keep (λ p. spanOf n (own r n) p ∷ []) delivers-itself (units (own r n)))
-      ∙ each-single (spanOf n (own r n)) (keep delivers-itself (units (own r n)))
+      ∙ sym (each-keep (λ p. spanOf n (own r n) p ∷ []) (deliversItself r n) (units (own r n)))
+      ∙ each-single (spanOf n (own r n)) (keep (deliversItself r n) (units (own r n)))
 
   pub unit-once : Apart r n → (q : ℕ) → List·Memᴰ q (units (own r n)) → isAggregator (own r n) q ≡ false → isExtractor (own r n) q ≡ false → timesDelivered r n q ≡ 1
   unit-once h q m a e =
       let at-start : Span → Bool = λ u. (u .start) ≡? q + L (own r n) in
-      let ps = keep delivers-itself (units (own r n)) in
-      let one : keep (λ p. p ≡? q) ps ≡ q ∷ [] = keep-one q ps (rising-keep _<_ delivers-itself (units (own r n)) (units-rise (own r n))) (keep-mem delivers-itself (units (own r n)) m (rw (a, e))) in
+      let ps = keep (deliversItself r n) (units (own r n)) in
+      let one : keep (λ p. p ≡? q) ps ≡ q ∷ [] = keep-one q ps (rising-keep _<_ (deliversItself r n) (units (own r n)) (units-rise (own r n))) (keep-mem (deliversItself r n) (units (own r n)) m (rw (a, e))) in
       let starts : keep (λ p. (p + L (own r n)) ≡? q + L (own r n)) ps ≡ keep (λ p. p ≡? q) ps = keep-cong _ _ ps (λ p. same-start p q (L (own r n))) in
       ap length (keep-and from-own at-start (delivered r n) ∙ ap (keep at-start) (own-delivered h) ∙ map-keep at-start (spanOf n (own r n)) ps ∙ ap (map (spanOf n (own r n))) (starts ∙ one))
     where
@@ -99,10 +94,10 @@ module _ (r : Recording) (n : ℕ) where
     pub included-once : (q : ℕ) → List·Memᴰ q (included (own r n) p) → isExtractor (own r n) q ≡ false → timesDelivered r n q ≡ 1
     included-once q k e = unit-once h q (units-included (own r n) p q m t k) (included-inside (own r n) (g .formed) p m t q k .2) e
 
-pub bundle-apart : (b : List ℕ) (r : Recording) → meaning b ≡ ok r → (n : ℕ) → Good r n → Apart r n
-bundle-apart b r e n g p m z =
+pub different-apart : (r : Recording) → DifferentTracks (r .layout) → (n : ℕ) → Good r n → Apart r n
+different-apart r different n g p m z =
     let x = g .extracts p m in
     let i = x .index in
     let k = linked-reference (r .layout) n (trackRefIndex (own r n) p) (link-good (r .layout) n (trackRefIndex (own r n) p) (i .0) (i .1)) in
     let t = in-track (r .layout) n _ _ (x .there) in
-    references-join b r e (k .there) .apart (k .from ∙ ap (trackOf (r .layout)) (sym z) ∙ t .2 ∙ sym (k .to))
+    different (k .reference) (k .there) (k .from ∙ ap (trackOf (r .layout)) (sym z) ∙ t .2 ∙ sym (k .to))

@@ -5,14 +5,12 @@
 --   copied-most, copied-count    what an extractor delivers: in the output four times the bytes of the sample named at most, and no more units than bytes
 --   at-most, at-count            the same for any unit, in a recording whose samples have at most c bytes
 --   delivered-most, delivered-count    for the whole sample
---   content-most                 the samples of an accepted bundle have at most so many bytes as the bundle
 use Prim.Native.Nat.{ℕ, _+_, _*_, _≤_}
 use mathlib.Core.Path.{_≡_, refl, ap, _∙_}
 use mathlib.Core.List.{List, [], _∷_, map, List·Memᴰ, List·Memᴰ·head, List·Memᴰ·tail}
-use mathlib.Core.Logic.{⊎-elim}
 use native.Mathlib.Omega.{arith}
 use native.Mathlib.Nat.{suc-mul, zero-mul, mul-le-mul-right}
-use lib.ListN.{length, length-map, length-take, length-drop}
+use lib.ListN.{length, length-map}
 use Rattle.words.specs.Refusals.{ok}
 use Rattle.words.specs.Lists.{each, sum}
 use Rattle.words.proofs.Tests.{by-bool}
@@ -23,10 +21,7 @@ use Rattle.units.specs.Aggregators.{units}
 use Rattle.units.proofs.Walks.{units-rise}
 use Rattle.samples.specs.Check.{check}
 use Rattle.samples.proofs.Laws.{unit-inside}
-use Rattle.bundles.specs.Recordings.{Recording, sampleCount, contentOf}
-use Rattle.bundles.specs.Bundles.{meaning}
-use Rattle.bundles.proofs.Promises.{samples-all}
-use Rattle.links.proofs.Words.{nth-zero, nth-over}
+use Rattle.bundles.specs.Recordings.{Recording, contentOf}
 use Rattle.copies.specs.Copies.{copied}
 use Rattle.copies.proofs.Copied as copy
 use Rattle.copies.proofs.Sizes.{copied-size}
@@ -37,7 +32,6 @@ use Rattle.words.proofs.Joined.{each-length}
 use Rattle.resolution_rules.proofs.Delivered.{delivered-unit, delivered-aggregator, delivered-extractor, outputSize, size-none, size-one, size-append}
 use Rattle.resolution_rules.proofs.Good.{own-length}
 use Rattle.resolution_rules.proofs.Exactly.{extractor-mem}
-use Rattle.resolution_rules.proofs.Calls.{by-count, content-part}
 
 pub sum-most : {A : Type 0} (f : A → ℕ) (k : ℕ) (xs : List A) → ((x : A) → List·Memᴰ x xs → f x ≤ k) → sum (map f xs) ≤ length xs * k
 unfolding sum
@@ -130,11 +124,3 @@ module _ (r : Recording) (n : ℕ) where
         let few : length (units (own r n)) ≤ c = omega arith in
         let k = mul-le-mul-right c few in
         rw (each-length (deliveredAt r n) (units (own r n))) (omega arith)
-
-pub content-most : (b : List ℕ) (r : Recording) → meaning b ≡ ok r → (m : ℕ) → length (contentOf r m) ≤ length b
-content-most b r e m = by-count (sampleCount (r .layout)) m
-    (λ h. let k : contentOf r m ≡ [] = ⊎-elim
-    (λ z. rw z (nth-zero (r .contents) []))
-    (λ l. let a = samples-all b r e in nth-over (r .contents) m [] (omega arith)) h in
-    rw k (omega arith))
-    (λ h l. rw (content-part b r e m h l) (simp (length-take, length-drop) (omega arith)))

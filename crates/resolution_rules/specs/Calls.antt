@@ -1,16 +1,20 @@
 -- What the calls on a bundle answer (01, 'Resolving', 'Numbers for no'): 1 to 13 first, then 30, then 14 to 28, then 29; for one delivered
--- unit 30 again, for its number, after 28.
+-- unit 30 again, for its number, after 28. A reader says what a bundle b means; each order of refusals stands here once, for all calls.
 --
---   spanBytes r u           the bytes of a delivered unit
---   output r us             delivered units, each after a 4-byte length
---   numberFault count n     30
---   resolve r n             sample n resolved
---   unitOf r n k            the kth unit that sample n delivers
---   resolveCall b n room    the call on a bundle, with room for the output
---   unitCall b n k          the call for one unit
---   placeCall b n k         the call for where in the bundle that unit stands
---   spanIn b u              a delivered unit as a part of the bundle
---   unitPart b a            that part for the answer of unitCall; empty if refused
+--   spanBytes r u                  the bytes of a delivered unit
+--   written r u, output r us       a delivered unit after a 4-byte length; delivered units so
+--   numberFault count n            30
+--   onSample r n a                 30 for the sample number n, else a
+--   onGood r n a                   30, then 14 to 28 of sample n, else a
+--   onMeaning, onBundle            1 to 13 of a bundle by a reader, else what is said of its recording
+--   resolve r n                    sample n resolved
+--   resolveUnit r n k              the kth unit that sample n delivers
+--   resolveCall reader b n room    the call on a bundle, with room for the output
+--   unitCall reader b n k          the call for one unit
+--   placedBy starts a              where a unit stands, by where samples start
+--   placeCall reader b n k         the call for where in the bundle that unit stands
+--   spanIn reader b u              a delivered unit as a part of the bundle
+--   unitPart reader b a            that part for the answer of unitCall; empty if refused
 use Prim.Native.Nat.{ℕ, _+_}
 use mathlib.Core.List.{List, [], _++_}
 use lib.ListN.{length}
@@ -21,7 +25,7 @@ use Rattle.words.specs.Lists.{each, nth}
 use Rattle.words.specs.Bytes.{bytes, part}
 use Rattle.words.specs.Buffers.{within}
 use Rattle.bundles.specs.Recordings.{Recording, sampleCount, contentOf}
-use Rattle.bundles.specs.Bundles.{meaning, contentAt}
+use Rattle.bundles.specs.Readers.{Reader}
 use Rattle.copies.specs.Written.{lengthBefore}
 use Rattle.resolution_rules.specs.Resolving.{Span, delivered, judged}
 
@@ -41,18 +45,32 @@ numberFault count n =
     noSuchNumber if n ≡? 0 orElse
     noSuchNumber if count <? n
 
+-- On a recording: 30 first; 30, then 14 to 28.
+module _ {A : Type 0} (r : Recording) (n : ℕ) where
+  abbrev pub onSample : Answer A → Answer A
+  onSample a = numberFault (sampleCount (r .layout)) n atPlace 0 andThen a
+
+  abbrev pub onGood : Answer A → Answer A
+  onGood a = onSample (judged r n andThen a)
+
+-- On a bundle: 1 to 13 first.
+abbrev pub onMeaning : {A : Type 0} → Answer Recording → (Recording → Answer A) → Answer A
+onMeaning (refused n p) call = refused n p
+onMeaning (ok r) call = call r
+
+abbrev pub onBundle : {A : Type 0} → Reader → List ℕ → (Recording → Answer A) → Answer A
+onBundle reader b call = onMeaning (reader .means b) call
+
 -- there is no unit 0
 abbrev pub noSpan : Span
 noSpan = record { sample = 0; start = 0; size = 0 }
 
 module _ (r : Recording) (n : ℕ) where
   unfoldable pub resolve : Answer (List ℕ)
-  resolve = numberFault (sampleCount (r .layout)) n atPlace 0 andThen judged r n andThen ok (output r (delivered r n))
+  resolve = onGood r n (ok (output r (delivered r n)))
 
-  unfoldable pub unitOf : ℕ → Answer Span
-  unitOf k =
-      numberFault (sampleCount (r .layout)) n atPlace 0 andThen judged r n andThen
-      numberFault (length (delivered r n)) k atPlace 0 andThen ok (nth (delivered r n) k noSpan)
+  unfoldable pub resolveUnit : ℕ → Answer Span
+  resolveUnit k = onGood r n (numberFault (length (delivered r n)) k atPlace 0 andThen ok (nth (delivered r n) k noSpan))
 
 -- A part of the bundle: where it starts, and its size.
 pub record BundlePart : Type 0 where
@@ -64,23 +82,18 @@ abbrev pub placedBy : (ℕ → ℕ) → Answer Span → Answer BundlePart
 placedBy starts (refused n p) = refused n p
 placedBy starts (ok u) = ok (record { start = starts (u .sample) + u .start; size = u .size })
 
--- 1 to 13, else what is said of the recording
-abbrev pub onBundle : {A : Type 0} → Answer Recording → (Recording → Answer A) → Answer A
-onBundle (refused n p) call = refused n p
-onBundle (ok r) call = call r
-
-module _ (b : List ℕ) where
+module _ (reader : Reader) (b : List ℕ) where
   unfoldable pub resolveCall : ℕ → ℕ → Answer (List ℕ)
-  resolveCall n room = within room (onBundle (meaning b) (λ r. resolve r n))
+  resolveCall n room = within room (onBundle reader b (λ r. resolve r n))
 
   unfoldable pub unitCall : ℕ → ℕ → Answer Span
-  unitCall n k = onBundle (meaning b) (λ r. unitOf r n k)
+  unitCall n k = onBundle reader b (λ r. resolveUnit r n k)
 
   unfoldable pub placeCall : ℕ → ℕ → Answer BundlePart
-  placeCall n k = placedBy (contentAt b) (unitCall n k)
+  placeCall n k = placedBy (reader .contentAt b) (unitCall n k)
 
   unfoldable pub spanIn : Span → List ℕ
-  spanIn u = part b (contentAt b (u .sample) + u .start) (u .size)
+  spanIn u = part b (reader .contentAt b (u .sample) + u .start) (u .size)
 
   abbrev pub unitPart : Answer Span → List ℕ
   unitPart (refused n p) = []

@@ -1,10 +1,10 @@
 -- An extractor's fields say what it delivers; any other unit is one. Assumes nothing.
 use borrow.Author.Needs.{needs}
-use mathlib.Core.Path.{_≡_, sym, _∙_}
+use mathlib.Core.Path.{_≡_, ap, sym, _∙_}
 use Rattle.judging.proofs.amount_at.Statement.{statement}
 use borrow.Author.Tests.{eq-eqb, ne-eqb}
 use Rattle.units.specs.Units.{sample, size, isExtractor}
-use Rattle.judging.specs.Steps.{amountAt}
+use Rattle.judging.specs.Steps.{copiedAmount, amountAt}
 use mathlib.Core.Bool.{true, false}
 use Rattle.judging.proofs.amount_at.Tie as tie
 
@@ -39,7 +39,7 @@ enum-told c = search needs
 
 returns-2 : tie.Need-returns-2
 unfolding amountAt
-returns-2 c = rw (extractor (c .before .before .before .before .before), ← c .before .before .before .before .extractor-at .ensures, c .before .before .found .given .1) (c .extract .ensures)
+returns-2 c = rw (extractor (c .before .before .before .before .before), ← c .before .before .before .before .extractor-at .ensures, c .before .before .found .given .1) (ap copiedAmount (c .extract .ensures))
 
 returns-3 : tie.Need-returns-3
 unfolding amountAt

@@ -19,10 +19,10 @@ use Rattle.judging.proofs.Counting.{Passing, passing-skip, passing-take
 use Rattle.judging.proofs.measure.Tie as tie
 
 abbrev Inv-loop : tie.InvT-loop
-Inv-loop b t n k x l w count₀ size₀ p₀ count size p = Judging (recordingIn b t) (n .0) (sample k x) p count size
+Inv-loop b t n k x l w count₀ own₀ copied₀ p₀ count own copied p = Judging (recordingIn b t) (n .0) (sample k x) p count own copied
 
 abbrev μ-loop : tie.MeasureT-loop
-μ-loop b t n k x l w count₀ size₀ p₀ count size p = length x - p
+μ-loop b t n k x l w count₀ own₀ copied₀ p₀ count own copied p = length x - p
 
 -- the sample, and the place of the unit at hand
 abbrev At : Type 0
@@ -51,11 +51,11 @@ skips c = passing-skip _ _ _ _ (c .before .before .before .loop .inv .passing) (
 takes : (c : tie.Else1 Inv-loop μ-loop) → next (X (c .before .before)) (P (c .before .before)) ≤ length (c .before .before .before .before .before .before .before .before .args .x .now)
 takes c = passing-take _ _ _ _ (c .before .before .before .loop .inv .passing) (c .before .before .loop-test .taken) (other c) .walking .inside
 
-few : (c : tie.Else2 Inv-loop μ-loop) → (c .before .before .amount-at .result .count ≤ bundleMost) × (4 * c .before .before .amount-at .result .count + c .before .before .amount-at .result .bytes ≤ 67108864)
-few c = judging-few _ _ _ _ _ _ (c .before .before .before .before .before .before .loop .inv) (c .before .before .before .before .before .loop-test .taken) (other (c .before .before .before)) (c .before .before .amount-at .ensures) (c .if2 .left)
+few : (c : tie.Else2 Inv-loop μ-loop) → (c .before .before .amount-at .result .count ≤ bundleMost) × (c .before .before .amount-at .result .own + c .before .before .amount-at .result .copied ≤ bundleMost * 4)
+few c = judging-few _ _ _ _ _ _ _ (c .before .before .before .before .before .before .loop .inv) (c .before .before .before .before .before .loop-test .taken) (other (c .before .before .before)) (c .before .before .amount-at .ensures) (c .if2 .left)
 
-small : (c : tie.Else2 Inv-loop μ-loop) → (c .before .before .before .before .before .before .loop .count ≤ 281474976710656) × (c .before .before .before .before .before .before .loop .size ≤ 1125899906842624) × (length (c .before .before .before .before .before .before .before .before .before .before .before .args .x .now) ≤ bundleMost)
-small c = judging-fits _ _ _ _ _ _ (c .before .before .before .before .before .before .loop .inv)
+small : (c : tie.Else2 Inv-loop μ-loop) → (c .before .before .before .before .before .before .loop .count ≤ 281474976710656) × (c .before .before .before .before .before .before .loop .own + c .before .before .before .before .before .before .loop .copied ≤ 1125899906842624) × (length (c .before .before .before .before .before .before .before .before .before .before .before .args .x .now) ≤ bundleMost)
+small c = judging-fits _ _ _ _ _ _ _ (c .before .before .before .before .before .before .loop .inv)
 
 ends : (c : tie.After-number Inv-loop μ-loop) → P (c .before .before .before .before .before .before .before .before .before) + c .before .before .before .before .before .before .before .before .before .before .before .bytes .result + c .number .result ≡ next (X (c .before .before .before .before .before .before .before .before .before)) (P (c .before .before .before .before .before .before .before .before .before))
 ends c = let a = c .before .before .before .before .before .before .before .before .before .before .before .before .before .before .before .args in next-is (a .k) (a .x .now) _ _ _ (c .before .before .before .before .before .before .before .before .before .before .before .bytes .ensures .0) (c .number .ensures)
@@ -82,28 +82,25 @@ loop-less : tie.Need-loop-less Inv-loop μ-loop
 loop-less c = let w = skips c .walking in omega arith
 
 loop-again : tie.Need-loop-again Inv-loop μ-loop
-loop-again c = rw (c .before .before .before .before .bytes .ensures .0) (judging-skip _ _ _ _ _ _ (c .before .before .before .loop .inv) (c .before .before .loop-test .taken) (aggregator c))
+loop-again c = rw (c .before .before .before .before .bytes .ensures .0) (judging-skip _ _ _ _ _ _ _ (c .before .before .before .loop .inv) (c .before .before .loop-test .taken) (aggregator c))
 
 amount-at-requires : tie.Need-amount-at-requires Inv-loop μ-loop
 amount-at-requires c κs = search needs
 
 returns : tie.Need-returns Inv-loop μ-loop
-returns c = sym (judging-refused _ _ _ _ _ _ (c .before .before .before .before .before .before .loop .inv) (c .before .before .before .before .before .loop-test .taken) (other (c .before .before .before)) (c .before .before .amount-at .ensures) (c .if2 .taken))
+returns c = sym (judging-refused _ _ _ _ _ _ _ (c .before .before .before .before .before .before .loop .inv) (c .before .before .before .before .before .loop-test .taken) (other (c .before .before .before)) (c .before .before .amount-at .ensures) (c .if2 .taken))
 
 add-count : tie.Need-add-count Inv-loop μ-loop
 add-count c = let f = few (c .before) in let s = small (c .before) in omega arith
 
-mul-size : tie.Need-mul-size Inv-loop μ-loop
-mul-size c = let f = few (c .before .before) in omega arith
+add-own : tie.Need-add-own Inv-loop μ-loop
+add-own c = let f = few (c .before .before) in let s = small (c .before .before) in omega arith
 
-add-size : tie.Need-add-size Inv-loop μ-loop
-add-size c = let f = few (c .before .before) in let s = small (c .before .before) in omega arith
-
-add-size-2 : tie.Need-add-size-2 Inv-loop μ-loop
-add-size-2 c = let f = few (c .before .before .before) in let s = small (c .before .before .before) in omega arith
+add-copied : tie.Need-add-copied Inv-loop μ-loop
+add-copied c = let f = few (c .before .before .before) in let s = small (c .before .before .before) in omega arith
 
 add-p-4 : tie.Need-add-p-4 Inv-loop μ-loop
-add-p-4 c = let w = takes (c .before .before .before .before .before .before) in omega arith
+add-p-4 c = let w = takes (c .before .before .before .before .before .before) in let s = small (c .before .before .before) in omega arith
 
 number-requires : tie.Need-number-requires Inv-loop μ-loop
 number-requires c κs = search needs
@@ -116,10 +113,10 @@ loop-less-2 c = let w = takes (c .before .before .before .before .before .before
 
 loop-again-2 : tie.Need-loop-again-2 Inv-loop μ-loop
 unfolding size
-loop-again-2 c = rw (c .number .ensures, c .before .before .before .before .before .before .before .before .before .before .before .bytes .ensures .0) (judging-take _ _ _ _ _ _ (c .before .before .before .before .before .before .before .before .before .before .loop .inv) (c .before .before .before .before .before .before .before .before .before .loop-test .taken) (other (c .before .before .before .before .before .before .before)) (c .before .before .before .before .before .before .amount-at .ensures) (c .before .before .before .before .if2 .left))
+loop-again-2 c = rw (c .number .ensures, c .before .before .before .before .before .before .before .before .before .before .before .bytes .ensures .0) (judging-take _ _ _ _ _ _ _ (c .before .before .before .before .before .before .before .before .before .before .loop .inv) (c .before .before .before .before .before .before .before .before .before .loop-test .taken) (other (c .before .before .before .before .before .before .before)) (c .before .before .before .before .before .before .amount-at .ensures) (c .before .before .before .before .if2 .left))
 
 returns-2 : tie.Need-returns-2 Inv-loop μ-loop
-returns-2 c = sym (judging-end _ _ _ _ _ _ (c .before .loop .inv) (c .loop-test .left))
+returns-2 c = sym (judging-end _ _ _ _ _ _ _ (c .before .loop .inv) (c .loop-test .left))
 
 pub measure-spec : {M : Type 1} → statement M
 measure-spec =
@@ -138,9 +135,8 @@ measure-spec =
     amount-at-requires
     returns
     add-count
-    mul-size
-    add-size
-    add-size-2
+    add-own
+    add-copied
     add-p-4
     number-requires
     add-p-5

@@ -5,9 +5,10 @@ use mathlib.Core.Path.{sym, _∙_}
 use lib.ListN.{length}
 use Rattle.resolution.proofs.resolve.Statement.{statement}
 use Rattle.words.proofs.Buffers.{refuse}
-use Rattle.filling.proofs.Promises.{says-refused, never-short, table-short}
+use Rattle.bundles.specs.Readers.{firstLayout}
+use Rattle.filling.proofs.Promises.{never-short, table-short}
 use Rattle.resolution_rules.proofs.Calls.{call-bundle}
-use Rattle.resolution.proofs.Answered.{call-filled}
+use Rattle.resolution.proofs.Answered.{filled-refused, call-filled}
 use Rattle.resolution.proofs.resolve.Tie as tie
 
 slice-aggregate-fill-table : tie.Need-slice-aggregate-fill-table
@@ -37,7 +38,7 @@ resolve-sample-requires c κs = table-short _ _ (sym (c .before .before .before 
 returns : tie.Need-returns
 returns c =
     let a = c .before .before .before .before .before .before .before .before .args in
-    refuse (call-bundle (a .b .now) (a .n .0) _ (says-refused (a .b .now) _ (c .before .filled .given .0 .0) (sym (c .before .before .before .before .fill-table .ensures .0) ∙ c .before .filled .given .1)))
+    refuse (call-bundle firstLayout (a .b .now) (a .n .0) _ (filled-refused (a .b .now) _ (c .before .filled .given .0 .0) (sym (c .before .before .before .before .fill-table .ensures .0) ∙ c .before .filled .given .1)))
 
 returns-2 : tie.Need-returns-2
 returns-2 c = absurd (never-short _ _ _ (omega arith) (sym (c .before .before .before .before .fill-table .ensures .0) ∙ c .before .enum-told .given .1))

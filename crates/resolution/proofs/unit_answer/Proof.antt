@@ -3,9 +3,10 @@ use borrow.Author.Needs.{needs}
 use native.Mathlib.Omega.{arith}
 use mathlib.Core.Path.{sym, _∙_}
 use Rattle.resolution.proofs.unit_answer.Statement.{statement}
-use Rattle.filling.proofs.Promises.{says-refused, never-short, table-short}
+use Rattle.bundles.specs.Readers.{firstLayout}
+use Rattle.filling.proofs.Promises.{never-short, table-short}
 use Rattle.resolution_rules.proofs.Calls.{unit-bundle}
-use Rattle.resolution.proofs.Answered.{unit-filled}
+use Rattle.resolution.proofs.Answered.{filled-refused, unit-filled}
 use Rattle.resolution.proofs.unit_answer.Tie as tie
 
 slice-aggregate-fill-table : tie.Need-slice-aggregate-fill-table
@@ -35,7 +36,7 @@ find-unit-requires c κs = table-short _ _ (sym (c .before .before .before .befo
 returns : tie.Need-returns
 returns c =
     let a = c .before .before .before .before .before .before .before .args in
-    sym (unit-bundle (a .b .now) (a .n .0) (a .k) (says-refused (a .b .now) _ (c .before .filled .given .0 .0) (sym (c .before .before .before .before .fill-table .ensures .0) ∙ c .before .filled .given .1)))
+    sym (unit-bundle firstLayout (a .b .now) (a .n .0) (a .k) (filled-refused (a .b .now) _ (c .before .filled .given .0 .0) (sym (c .before .before .before .before .fill-table .ensures .0) ∙ c .before .filled .given .1)))
 
 returns-2 : tie.Need-returns-2
 returns-2 c = absurd (never-short _ _ _ (omega arith) (sym (c .before .before .before .before .fill-table .ensures .0) ∙ c .before .enum-told .given .1))

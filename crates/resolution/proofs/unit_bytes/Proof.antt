@@ -3,10 +3,11 @@ use borrow.Author.Needs.{needs}
 use native.Mathlib.Omega.{arith}
 use mathlib.Core.Path.{sym, ap, _∙_}
 use Rattle.resolution.proofs.unit_bytes.Statement.{statement}
-use Rattle.filling.proofs.Promises.{says-refused, never-short, table-short}
+use Rattle.bundles.specs.Readers.{firstLayout}
+use Rattle.filling.proofs.Promises.{never-short, table-short}
 use Rattle.resolution_rules.specs.Calls.{unitPart}
 use Rattle.resolution_rules.proofs.Calls.{unit-bundle}
-use Rattle.resolution.proofs.Answered.{part-filled}
+use Rattle.resolution.proofs.Answered.{filled-refused, part-filled}
 use Rattle.resolution.proofs.unit_bytes.Tie as tie
 
 slice-aggregate-fill-table : tie.Need-slice-aggregate-fill-table
@@ -39,7 +40,7 @@ unit-part-requires c κs = table-short _ _ (sym (c .before .before .before .befo
 returns : tie.Need-returns
 returns c =
     let a = c .before .before .before .before .before .before .before .args in
-    sym (ap (unitPart (a .b .now)) (unit-bundle (a .b .now) (a .n .0) (a .k) (says-refused (a .b .now) _ _ (sym (c .before .before .before .before .fill-table .ensures .0) ∙ c .before .enum-told .given .1))))
+    sym (ap (unitPart firstLayout (a .b .now)) (unit-bundle firstLayout (a .b .now) (a .n .0) (a .k) (filled-refused (a .b .now) _ _ (sym (c .before .before .before .before .fill-table .ensures .0) ∙ c .before .enum-told .given .1))))
 
 returns-2 : tie.Need-returns-2
 returns-2 c = absurd (never-short _ _ _ (omega arith) (sym (c .before .before .before .before .fill-table .ensures .0) ∙ c .before .enum-told2 .given .1))

@@ -2,11 +2,11 @@
 use borrow.Author.Needs.{needs}
 use native.Mathlib.Omega.{arith}
 use mathlib.Core.Path.{sym, ap, _∙_}
-use Rattle.bundles.specs.Bundles.{contentAt}
-use Rattle.filling.proofs.Promises.{says-refused, never-short, table-short}
+use Rattle.bundles.specs.Readers.{firstLayout}
+use Rattle.filling.proofs.Promises.{never-short, table-short}
 use Rattle.resolution_rules.specs.Calls.{placedBy, placeCall}
 use Rattle.resolution_rules.proofs.Calls.{unit-bundle}
-use Rattle.resolution.proofs.Answered.{place-filled, starts-inside}
+use Rattle.resolution.proofs.Answered.{filled-refused, place-filled, starts-inside}
 use Rattle.resolution.proofs.unit_place.Statement.{statement}
 use Rattle.resolution.proofs.unit_place.Tie as tie
 
@@ -40,7 +40,7 @@ returns : tie.Need-returns
 unfolding placeCall
 returns c =
     let a = c .before .before .before .before .before .before .before .args in
-    sym (ap (placedBy (contentAt (a .b .now))) (unit-bundle (a .b .now) (a .n .0) (a .k) (says-refused (a .b .now) _ (c .before .filled .given .0 .0) (sym (c .before .before .before .before .fill-table .ensures .0) ∙ c .before .filled .given .1))))
+    sym (ap (placedBy (firstLayout .contentAt (a .b .now))) (unit-bundle firstLayout (a .b .now) (a .n .0) (a .k) (filled-refused (a .b .now) _ (c .before .filled .given .0 .0) (sym (c .before .before .before .before .fill-table .ensures .0) ∙ c .before .filled .given .1))))
 
 returns-2 : tie.Need-returns-2
 returns-2 c = absurd (never-short _ _ _ (omega arith) (sym (c .before .before .before .before .fill-table .ensures .0) ∙ c .before .enum-told .given .1))

@@ -1,4 +1,4 @@
--- The loop's invariant: the unit looked for is the one at `left` of those that are left. Assumes nothing.
+-- The loop's invariant: the unit looked for is the one at `rest` of those that remain. Assumes nothing.
 use borrow.Author.Needs.{needs}
 use native.Mathlib.Omega.{arith}
 use mathlib.Core.Path.{_≡_, sym, _∙_}
@@ -19,10 +19,10 @@ use Rattle.resolution.proofs.Spans.{Seeking, seeking-start, seeking-ski
 use Rattle.resolution.proofs.finding.find.Tie as tie
 
 abbrev Inv-loop : tie.InvT-loop
-Inv-loop b t n k x i l w left₀ p₀ left p = Seeking (recordingIn b t) (n .0) (sample k x) i p left
+Inv-loop b t n k x i l w rest₀ p₀ rest p = Seeking (recordingIn b t) (n .0) (sample k x) i p rest
 
 abbrev μ-loop : tie.MeasureT-loop
-μ-loop b t n k x i l w left₀ p₀ left p = length x - p
+μ-loop b t n k x i l w rest₀ p₀ rest p = length x - p
 
 -- the sample, and the place of the unit at hand
 abbrev At : Type 0
@@ -89,8 +89,8 @@ span-at-requires c κs = takes (c .before .before .before)
 returns : tie.Need-returns Inv-loop μ-loop
 returns c = c .span-at .ensures ∙ seeking-found _ _ _ _ _ _ (c .before .before .before .before .before .before .before .loop .inv) (c .before .before .before .before .before .before .loop-test .taken) (other (c .before .before .before .before)) (c .before .before .before .amount-at .ensures) (c .before .if2 .taken)
 
-sub-left : tie.Need-sub-left Inv-loop μ-loop
-sub-left c = search needs
+sub-rest : tie.Need-sub-rest Inv-loop μ-loop
+sub-rest c = search needs
 
 add-p-4 : tie.Need-add-p-4 Inv-loop μ-loop
 add-p-4 c = let w = takes (c .before .before .before .before) in omega arith
@@ -131,7 +131,7 @@ find-spec =
     amount-at-requires
     span-at-requires
     returns
-    sub-left
+    sub-rest
     add-p-4
     number-requires
     add-p-5

@@ -3,12 +3,11 @@ use borrow.Author.Needs.{needs}
 use mathlib.Core.Path.{_≡_, sym, ap, _∙_}
 use lib.ListN.{length}
 use Rattle.resolution.proofs.finding.find_unit.Statement.{statement}
-use Rattle.units.specs.Units.{sample}
 use Rattle.tables.specs.Tables.{recordingIn}
 use Rattle.words.specs.Refusals.{ok}
 use Rattle.bundles.specs.Recordings.{Recording, sampleCount}
 use Rattle.resolution_rules.specs.Resolving.{delivered, judged}
-use Rattle.resolution_rules.specs.Calls.{output, numberFault}
+use Rattle.resolution_rules.specs.Calls.{numberFault}
 use Rattle.judging.specs.Steps.{answerOf}
 use Rattle.judging.proofs.Amounts.{sample-from}
 use Rattle.judging.proofs.Judgements.{judged-refused, judged-good}
@@ -27,10 +26,11 @@ sound : (c : tie.Else1) → numberFault (sampleCount (R c .layout)) (c .before .
 sound c = sym (fault (c .before)) ∙ c .if1 .left
 
 -- the sample is good
-good : (c : tie.After-judged2) → let n = c .before .before .before .before .before .before .before .before .args .n .0 in (judged (R (c .before .before .before)) n ≡ ok tt) × (c .judged2 .given .0 .0 .count ≡ length (delivered (R (c .before .before .before)) n)) × (c .judged2 .given .0 .0 .size ≡ length (output (R (c .before .before .before)) (delivered (R (c .before .before .before)) n)))
+good : (c : tie.After-judged2) → let n = c .before .before .before .before .before .before .before .before .args .n .0 in (judged (R (c .before .before .before)) n ≡ ok tt) × (c .judged2 .given .0 .0 .count ≡ length (delivered (R (c .before .before .before)) n))
 good c =
     let a = c .before .before .before .before .before .before .before .before .args in
-    judged-good (a .b .now) (a .t .now) (a .n .0) (c .before .before .before .before .before .before .before .before .pre) (c .judged2 .given .0 .0) (sym (c .before .before .judge .ensures) ∙ ap answerOf (c .judged2 .given .1))
+    let w = judged-good (a .b .now) (a .t .now) (a .n .0) (c .before .before .before .before .before .before .before .before .pre) (c .judged2 .given .0 .0) (sym (c .before .before .judge .ensures) ∙ ap answerOf (c .judged2 .given .1)) in
+    (w .0, w .1)
 
 past : (c : tie.After-number-fault2) → c .number-fault2 .result ≡ numberFault (length (delivered (R (c .before .before .before .before .before)) (c .before .before .before .before .before .before .before .before .before .before .args .n .0))) (c .before .before .before .before .before .before .before .before .before .before .args .i)
 past c = rw (good (c .before .before) .1) at (c .number-fault2 .ensures)

@@ -2,12 +2,9 @@
 use borrow.Author.Needs.{needs}
 use native.Mathlib.Omega.{arith}
 use mathlib.Core.Path.{_≡_, sym, ap, _∙_}
-use Prim.Native.Nat.{_≤_}
-use lib.ListN.{length}
 use Rattle.words.specs.Refusals.{ok}
-use Rattle.bundles.specs.Recordings.{contentOf, sampleCount}
-use Rattle.tables.specs.Tables.{recordingIn, layoutIn, startIn}
-use Rattle.resolution_rules.specs.Calls.{unitOf, placedBy}
+use Rattle.tables.specs.Tables.{recordingIn, startIn}
+use Rattle.resolution_rules.specs.Calls.{resolveUnit, placedBy}
 use Rattle.judging.proofs.Amounts.{contents-most}
 use Rattle.resolution.specs.Steps.{spanFor}
 use Rattle.resolution.specs.Answers.{unitAnswerOf}
@@ -16,7 +13,7 @@ use Rattle.resolution.proofs.finding.place_unit.Statement.{statement}
 use Rattle.resolution.proofs.finding.place_unit.Tie as tie
 
 -- the unit that was found
-found : (c : tie.After-known-told2) → let a = c .before .before .before .before .before .before .args in unitOf (recordingIn (a .b .now) (a .t .now)) (a .n .0) (a .i) ≡ ok (spanFor (c .before .found2 .given .0 .0))
+found : (c : tie.After-known-told2) → let a = c .before .before .before .before .before .before .args in resolveUnit (recordingIn (a .b .now) (a .t .now)) (a .n .0) (a .i) ≡ ok (spanFor (c .before .found2 .given .0 .0))
 found c = sym (c .before .before .before .find-unit .ensures) ∙ ap unitAnswerOf (c .before .found2 .given .1)
 
 find-unit-requires : tie.Need-find-unit-requires

@@ -7,14 +7,14 @@ use lib.ListN.{length}
 use Rattle.resolution.proofs.finding.unit_part.Statement.{statement}
 use Rattle.tables.specs.Tables.{recordingIn}
 use Rattle.words.specs.Refusals.{ok}
-use Rattle.resolution_rules.specs.Calls.{unitOf}
+use Rattle.resolution_rules.specs.Calls.{resolveUnit}
 use Rattle.resolution.specs.Steps.{spanFor}
 use Rattle.resolution.specs.Answers.{unitAnswerOf}
 use Rattle.resolution.proofs.Answered.{found-inside}
 use native.Mathlib.Nat.{add-sub-cancel-left}
 use Rattle.resolution.proofs.finding.unit_part.Tie as tie
 
-found : (c : tie.After-found) → let a = c .before .before .before .before .before .args in unitOf (recordingIn (a .b .now) (a .t .now)) (a .n .0) (a .i) ≡ ok (spanFor (c .found .given .0 .0))
+found : (c : tie.After-found) → let a = c .before .before .before .before .before .args in resolveUnit (recordingIn (a .b .now) (a .t .now)) (a .n .0) (a .i) ≡ ok (spanFor (c .found .given .0 .0))
 found c = sym (c .before .before .find-unit .ensures) ∙ ap unitAnswerOf (c .found .given .1)
 
 inside : (c : tie.After-sample-bytes) → c .before .before .found .given .0 .0 .start .0 + c .before .before .found .given .0 .0 .size ≤ length (c .sample-bytes .result .now)

@@ -10,7 +10,7 @@ use Rattle.units.specs.Units.{sample, isExtractor}
 use Rattle.copies.specs.Written.{withLength}
 use Rattle.copies.proofs.Putting.{put-none, count-fits}
 use Rattle.tables.specs.Tables.{recordingIn}
-use Rattle.resolution.specs.Steps.{extractBytes, bytesAt}
+use Rattle.resolution.specs.Steps.{extractBytes, outputAt}
 use Rattle.resolution.proofs.writing.put_at.Tie as tie
 
 -- it is an extractor, or it is not
@@ -21,15 +21,15 @@ extractor : (c : tie.Else1) → let a = c .before .before .before .before .befor
 extractor c = eq-eqb _ _ (sym (c .before .type-at .ensures) ∙ c .if1 .left)
 
 abbrev B : tie.After-type-at → List ℕ
-B c = let a = c .before .before .before .before .before .args in bytesAt (recordingIn (a .b .now) (a .t .now)) (a .n .0) (sample (a .k) (a .x .now)) (a .p)
+B c = let a = c .before .before .before .before .before .args in outputAt (recordingIn (a .b .now) (a .t .now)) (a .n .0) (sample (a .k) (a .x .now)) (a .p)
 
 -- what is written
 own : (c : tie.Then1) → B (c .before) ≡ withLength (sample (c .before .before .before .before .before .before .args .k) (c .before .before .before .before .before .before .args .x .now)) (c .before .before .before .before .before .before .args .p)
-unfolding bytesAt
+unfolding outputAt
 own c = rw (other c)
 
 copy : (c : tie.After-found) → B (c .before .before .before .before) ≡ extractBytes (recordingIn (c .before .before .before .before .before .before .before .before .before .args .b .now) (c .before .before .before .before .before .before .before .before .before .args .t .now)) (c .before .before .before .before .before .before .before .before .before .args .n .0) (c .found .given .0 .0)
-unfolding bytesAt
+unfolding outputAt
 copy c = rw (extractor (c .before .before .before), ← c .before .before .extractor-at .ensures, c .found .given .1)
 
 type-at-requires : tie.Need-type-at-requires
@@ -65,7 +65,7 @@ returns-2 c =
     rw (copy (c .before .before .before .before .before)) (c .before .before .put-extract .ensures .0 ∙ count-fits _ _ _ h, c .before .before .put-extract .ensures .1)
 
 returns-3 : tie.Need-returns-3
-unfolding bytesAt
+unfolding outputAt
 returns-3 c = rw (extractor (c .before .before .before), ← c .before .before .extractor-at .ensures, c .enum-told .given .1) (refl, sym (put-none _ _))
 
 pub put-at-spec : {M : Type 1} → statement M

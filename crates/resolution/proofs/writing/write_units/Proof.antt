@@ -13,7 +13,7 @@ use Rattle.units.proofs.Units.{next-after}
 use Rattle.samples.proofs.Walks.{next-is}
 use Rattle.tables.specs.Tables.{recordingIn}
 use Rattle.bundles.specs.Recordings.{Recording}
-use Rattle.resolution.specs.Steps.{bytesAt}
+use Rattle.resolution.specs.Steps.{outputAt}
 use Rattle.judging.proofs.Counting.{Passing, passing-skip, passing-take}
 use Rattle.resolution.proofs.Output.{Writing, writing-start, writing-length, writing-skip, writing-room, writing-take, writing-end}
 use Rattle.resolution.proofs.writing.write_units.Tie as tie
@@ -52,7 +52,7 @@ takes : (c : tie.Else1 Inv-loop μ-loop) → next (X (c .before .before)) (P (c 
 takes c = passing-take _ _ _ _ (c .before .before .before .loop .inv .passing) (c .before .before .loop-test .taken) (other c) .walking .inside
 
 -- there is room for what is delivered
-room : (c : tie.Else1 Inv-loop μ-loop) → c .before .before .before .loop .at + length (bytesAt (R (c .before .before)) (c .before .before .before .before .before .before .before .before .before .args .n .0) (X (c .before .before)) (P (c .before .before))) ≤ length (c .before .before .before .before .before .before .before .before .before .args .out .now)
+room : (c : tie.Else1 Inv-loop μ-loop) → c .before .before .before .loop .at + length (outputAt (R (c .before .before)) (c .before .before .before .before .before .before .before .before .before .args .n .0) (X (c .before .before)) (P (c .before .before))) ≤ length (c .before .before .before .before .before .before .before .before .before .args .out .now)
 room c = writing-room _ _ _ _ _ _ _ (c .before .before .before .loop .inv) (c .before .before .loop-test .taken) (other c)
 
 ends : (c : tie.After-number Inv-loop μ-loop) → P (c .before .before .before .before .before .before .before) + c .before .before .before .before .before .before .before .before .before .bytes .result + c .number .result ≡ next (X (c .before .before .before .before .before .before .before)) (P (c .before .before .before .before .before .before .before))
