@@ -40,7 +40,7 @@ use Rattle.delivery.proofs.Items.{by-item}
 use Rattle.delivery.proofs.Falling.{longest, longest-least, content-longest, bound, bound-start}
 use Rattle.delivery.proofs.Rests.{rest, rest-done, rest-refused, rest-moved, rest-unit, rest-few}
 use Rattle.delivery.proofs.FromStart.{rest-start}
-use Rattle.delivery.proofs.Deliveries.{totalSize, total-one, total-append}
+use Rattle.delivery.proofs.Deliveries.{allSize, all-one, all-append}
 
 module _ (r : Recording) (n : ℕ) (x : Sample) where
   pub record Folded (P : List Delivery → Type 0) (c : Cursor) : Type 0 where
@@ -67,14 +67,14 @@ module _ (r : Recording) (n : ℕ) (x : Sample) where
         }
 
     -- the units up to the one at hand
-    pub folded-fits : {u : DeliveredUnit} {d : Cursor} → stepOf r n x c ≡ step.Unit u d → length (w .us) + 1 + (totalSize (w .us) + u .span .size) ≤ bound r x start
+    pub folded-fits : {u : DeliveredUnit} {d : Cursor} → stepOf r n x c ≡ step.Unit u d → length (w .us) + 1 + (allSize (w .us) + u .span .size) ≤ bound r x start
     folded-fits {u} {d} e =
         let s : rest r n x start .units ≡ w .us ++ (unitFor u ∷ rest r n x d .units) = w .units ∙ rw (rest-unit r n x c e) in
         let f = rest-few r n x start in
         let l : length (rest r n x start .units) ≡ length (w .us) + length (unitFor u ∷ rest r n x d .units) = ap length s ∙ length-append (w .us) (unitFor u ∷ rest r n x d .units) in
-        let z : totalSize (rest r n x start .units) ≡ totalSize (w .us) + totalSize (unitFor u ∷ rest r n x d .units) = ap totalSize s ∙ total-append (w .us) (unitFor u ∷ rest r n x d .units) in
-        let y : totalSize (unitFor u ∷ rest r n x d .units) ≡ totalSize (unitFor u ∷ []) + totalSize (rest r n x d .units) = total-append (unitFor u ∷ []) (rest r n x d .units) in
-        let o = total-one (unitFor u) in
+        let z : allSize (rest r n x start .units) ≡ allSize (w .us) + allSize (unitFor u ∷ rest r n x d .units) = ap allSize s ∙ all-append (w .us) (unitFor u ∷ rest r n x d .units) in
+        let y : allSize (unitFor u ∷ rest r n x d .units) ≡ allSize (unitFor u ∷ []) + allSize (rest r n x d .units) = all-append (unitFor u ∷ []) (rest r n x d .units) in
+        let o = all-one (unitFor u) in
         omega arith
 
     -- in a well-formed sample

@@ -26,7 +26,7 @@ use Rattle.delivery.specs.declared.DeliveredUnit.{DeliveredUnit}
 use Rattle.delivery.specs.declared.Stepped.{Stepped}
 use Rattle.delivery.specs.declared.Stepped.the-variants as step
 use Rattle.delivery.proofs.Falling.{bound, Falls, falls}
-use Rattle.delivery.proofs.Deliveries.{totalSize}
+use Rattle.delivery.proofs.Deliveries.{allSize}
 
 pub record Rest : Type 0 where
   pub units : List Delivery
@@ -91,10 +91,10 @@ module _ (r : Recording) (n : ℕ) (x : Sample) where
 
   -- no more units and bytes of units are left than the bound
   abbrev Few : Cursor → Rest → Type 0
-  Few c w = length (w .units) + totalSize (w .units) ≤ bound r x c
+  Few c w = length (w .units) + allSize (w .units) ≤ bound r x c
 
   after-few : (c : Cursor) (s : Stepped) → Falls r x c s → ((d : Cursor) → bound r x d < bound r x c → Few d (rest r n x d)) → Few c (restAfter s (rest r n x))
-  unfolding totalSize sum
+  unfolding allSize sum
   after-few c step.Done l h = omega arith
   after-few c (step.Refused w) l h = omega arith
   after-few c (step.Moved d) l h = let f = h d (omega arith) in omega arith
@@ -104,7 +104,7 @@ module _ (r : Recording) (n : ℕ) (x : Sample) where
   few zero c h = absurd (omega arith)
   few (suc k) c h = rw (rest-step c) (after-few c (stepOf r n x c) (falls r n x c) (λ d i. few k d (omega arith)))
 
-  pub rest-few : (c : Cursor) → length (rest r n x c .units) + totalSize (rest r n x c .units) ≤ bound r x c
+  pub rest-few : (c : Cursor) → length (rest r n x c .units) + allSize (rest r n x c .units) ≤ bound r x c
   rest-few c = few (suc (bound r x c)) c (omega arith)
 
   -- what is left of a cursor

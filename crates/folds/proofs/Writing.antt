@@ -10,6 +10,7 @@ use mathlib.Core.Path.{_≡_, refl, ap, sym, _∙_}
 use mathlib.Core.List.{List, [], _∷_, _++_}
 use native.Mathlib.Omega.{arith}
 use lib.ListN.{length, length-append}
+use Rattle.words.proofs.Entries.{map-append}
 use Rattle.words.specs.Refusals.{ok, refused}
 use Rattle.words.specs.Buffers.{writeAt, overwrite, put}
 use Rattle.words.proofs.Buffers.{write-none, write-first, write-length, put-next}
@@ -22,24 +23,26 @@ use Rattle.resolution_rules.specs.Resolving.{sampleOf, Span, own, delivered, ju
 use Rattle.resolution_rules.specs.Calls.{written, output}
 use Rattle.resolution_rules.proofs.Delivered.{written-length, output-none, output-one, output-append}
 use Rattle.resolution_rules.proofs.Good.{good-rules}
-use Rattle.delivery.specs.Steps.{stepOf}
-use Rattle.delivery.specs.Rest.{start, spanFor, rest}
+use Rattle.delivery.specs.Steps.{start, stepOf}
+use Rattle.delivery.specs.Deliveries.{Delivery, spanFor, unitFor, spans, deliveries}
 use Rattle.delivery.specs.declared.Cursor.{Cursor}
-use Rattle.delivery.specs.declared.Span as code
+use Rattle.delivery.specs.declared.DeliveredUnit.{DeliveredUnit}
 use Rattle.delivery.specs.declared.Stepped.the-variants as step
-use Rattle.delivery.proofs.Folds.{Folded, folded-start, folded-unit, folded-split, folded-mem, folded-refused, folded-done, step-inside}
+use Rattle.delivery.proofs.Rests.{rest}
+use Rattle.delivery.proofs.Deliveries.{deliveries-spans}
+use Rattle.delivery.proofs.Folds.{Folded, folded-start, folded-unit, folded-split, folded-refused, folded-done, step-inside}
 
 module _ (r : Recording) (n : ℕ) (x : Sample) where
   -- the units are written over the start of o, up to at
-  abbrev pub Puts : List ℕ → List ℕ → ℕ → List Span → Type 0
-  Puts o out at us = (out ≡ writeAt o 0 (output r us)) × (at ≡ length (output r us)) × (length (output r us) ≤ length o)
+  abbrev pub Puts : List ℕ → List ℕ → ℕ → List Delivery → Type 0
+  Puts o out at ds = (out ≡ writeAt o 0 (output r (spans ds))) × (at ≡ length (output r (spans ds))) × (length (output r (spans ds)) ≤ length o)
 
   pub puts-start : (o : List ℕ) → Folded r n x (Puts o o 0) start
   puts-start o = folded-start r n x (Puts o o 0) (rw (output-none r) (write-none o 0, refl, omega arith))
 
   module _ (o out : List ℕ) (at : ℕ) (c : Cursor) (w : Folded r n x (Puts o out at) c) where
     pub puts-length : length out ≡ length o
-    puts-length = rw (w .holds .0) (write-length o 0 (output r (w .us)) (let h = w .holds .2 in omega arith))
+    puts-length = rw (w .holds .0) (write-length o 0 (output r (spans (w .us))) (let h = w .holds .2 in omega arith))
 
     module _ (same : x ≡ own r n) (good : judged r n ≡ ok tt) where
       formed : check x ≡ ok tt
@@ -50,41 +53,44 @@ module _ (r : Recording) (n : ℕ) (x : Sample) where
       content-same = rw same
 
       pub puts-end : stepOf r n x c ≡ step.Done → out ≡ overwrite o (output r (delivered r n))
-      puts-end e = let h = folded-done r n x (Puts o out at) c w same formed e in h .1 .0 ∙ write-first o (output r (delivered r n))
+      puts-end e = let h = folded-done r n x (Puts o out at) c w same formed e in rw (deliveries-spans r n) at (h .1 .0) ∙ write-first o (output r (delivered r n))
 
       pub puts-never : {G : Type 0} {f : Refusal} → stepOf r n x c ≡ step.Refused f → G
       puts-never e = ok-refused (sym (folded-refused r n x (Puts o out at) c w same formed e) ∙ good)
 
-      module _ {u : code.Span} {d : Cursor} (e : stepOf r n x c ≡ step.Unit u d) where
-        pub puts-inside : u .start .0 + u .size ≤ length (contentOf r (u .sample .0))
+      module _ {u : DeliveredUnit} {d : Cursor} (e : stepOf r n x c ≡ step.Unit u d) where
+        pub puts-inside : u .span .start .0 + u .span .size ≤ length (contentOf r (u .span .sample .0))
         puts-inside = step-inside r n x content-same c e
 
         abbrev U : Span
-        U = spanFor u
+        U = spanFor (u .span)
 
-        one : output r (w .us ++ (U ∷ [])) ≡ output r (w .us) ++ written r U
-        one = output-append r (w .us) (U ∷ []) ∙ rw (output-one r U)
+        one : output r (spans (w .us ++ (unitFor u ∷ []))) ≡ output r (spans (w .us)) ++ written r U
+        one = ap (output r) (map-append (λ (a : Delivery). a .span) (w .us) (unitFor u ∷ [])) ∙ output-append r (spans (w .us)) (U ∷ []) ∙ rw (output-one r U)
 
         module _ (room : length (output r (delivered r n)) ≤ length o) where
-          fits : length (output r (w .us)) + length (written r U) ≤ length o
+          fits : length (output r (spans (w .us))) + length (written r U) ≤ length o
           fits =
-              let s : output r (delivered r n) ≡ output r (w .us) ++ output r (U ∷ rest r n x d .units) = ap (output r) (folded-split r n x (Puts o out at) c w same formed good e) ∙ output-append r (w .us) (U ∷ rest r n x d .units) in
-              let t : output r (U ∷ rest r n x d .units) ≡ output r (U ∷ []) ++ output r (rest r n x d .units) = output-append r (U ∷ []) (rest r n x d .units) in
-              let a = ap length s ∙ length-append (output r (w .us)) (output r (U ∷ rest r n x d .units)) in
-              let b = ap length t ∙ length-append (output r (U ∷ [])) (output r (rest r n x d .units)) in
+              let vs = spans (rest r n x d .units) in
+              let p : delivered r n ≡ spans (w .us) ++ (U ∷ vs) =
+                  sym (deliveries-spans r n) ∙ ap spans (folded-split r n x (Puts o out at) c w same formed good e) ∙ map-append (λ (a : Delivery). a .span) (w .us) (unitFor u ∷ rest r n x d .units) in
+              let s : output r (delivered r n) ≡ output r (spans (w .us)) ++ output r (U ∷ vs) = ap (output r) p ∙ output-append r (spans (w .us)) (U ∷ vs) in
+              let t : output r (U ∷ vs) ≡ output r (U ∷ []) ++ output r vs = output-append r (U ∷ []) vs in
+              let a = ap length s ∙ length-append (output r (spans (w .us))) (output r (U ∷ vs)) in
+              let b = ap length t ∙ length-append (output r (U ∷ [])) (output r vs) in
               let g = ap length (output-one r U) in
               omega arith
 
           pub puts-fit : at + length (written r U) ≤ length o
           puts-fit = let f = fits in let h = w .holds .1 in omega arith
 
-          pub puts-room : at + (4 + u .size) ≤ length o
+          pub puts-room : at + (4 + u .span .size) ≤ length o
           puts-room = let f = fits in let l = written-length r U puts-inside in let h = w .holds .1 in omega arith
 
           pub puts-take : Folded r n x (Puts o (put out at (written r U)) (at + length (written r U))) d
           puts-take =
               let f = fits in
-              let l = ap length one ∙ length-append (output r (w .us)) (written r U) in
+              let l = ap length one ∙ length-append (output r (spans (w .us))) (written r U) in
               let h = w .holds .1 in
               folded-unit r n x (Puts o out at) c w (Puts o (put out at (written r U)) (at + length (written r U)))
-              (rw (w .holds .0, one) (put-next o (output r (w .us)) (written r U) at h f), omega arith, omega arith) e
+              (rw (w .holds .0, one) (put-next o (output r (spans (w .us))) (written r U) at h f), omega arith, omega arith) e

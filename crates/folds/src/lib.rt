@@ -1,5 +1,5 @@
-// Loops over the delivered units of a sample, as folds over delivery::step: what judging::measure and resolution's write_units do, with
-// the same contracts.
+// Loops over the delivered units of a sample, as folds over delivery::step: judging's measure, resolution's write_units and find, with the
+// same contracts.
 ghost use mathlib.Core.Path.{_≡_};
 ghost use Prim.Native.Nat.{_+_, _≤_, _<_};
 ghost use lib.ListN.{length};
@@ -13,8 +13,9 @@ ghost use Rattle.bundles.specs.Recordings.{contentOf};
 ghost use Rattle.tables.specs.Tables.{recordingIn};
 ghost use Rattle.resolution_rules.specs.Resolving.{sampleOf, delivered, judged};
 ghost use Rattle.resolution_rules.specs.Calls.{noSpan, written, output};
-ghost use Rattle.delivery.specs.Rest.{spanFor};
+ghost use Rattle.delivery.specs.Deliveries.{spanFor, unitFor, ownPart, copiedPart};
 ghost use Rattle.judging.specs.Steps.{judgement, judgementIn, answerOf};
+use delivery::DeliveredUnit;
 use delivery::Span;
 use delivery::Stepped;
 use judging::Amount;
@@ -26,19 +27,34 @@ use numbers::refusals;
 use samples::Checked;
 use units::Track;
 
+// The bytes of a delivered unit that stands in the sample itself; 0 for one that is copied.
+fn own_part(u: DeliveredUnit) -> usize
+    ensures { λ r. ⌜ r ≡ ownPart (unitFor u) ⌝ }
+{
+    if u.copied { 0 } else { u.span.size }
+}
+
+// The bytes of a delivered unit that is copied; 0 for one that stands in the sample itself.
+fn copied_part(u: DeliveredUnit) -> usize
+    ensures { λ r. ⌜ r ≡ copiedPart (unitFor u) ⌝ }
+{
+    if u.copied { u.span.size } else { 0 }
+}
+
 // How much sample n delivers, which is x and well formed; or 23 to 28 of its first extractor that is refused.
 fn measure(b: &[u8], t: &[u64], n: SampleNumber, k: Track, x: &[u8]) -> Judged
     requires { ⌜ (sample k (now x) ≡ sampleOf (recordingIn (now b) (now t)) (n .0)) × (check (sample k (now x)) ≡ ok tt) × (length (now b) ≤ bundleMost) ⌝ }
     ensures { λ r. ⌜ answerOf r ≡ judgement (recordingIn (now (b .entry)) (now (t .entry))) (n .0) ⌝ }
 {
     let mut count: usize = 0;
-    let mut size: usize = 0;
+    let mut own: usize = 0;
+    let mut copied: usize = 0;
     let mut c = delivery::start();
     loop {
         let s = delivery::step(b, t, n, k, x, c);
         match s {
             Stepped::Done => {
-                return Judged::Good(Amount { count, size });
+                return Judged::Good(Amount { count, own, copied });
             }
             Stepped::Refused(f) => {
                 return Judged::Refused(f);
@@ -48,7 +64,8 @@ fn measure(b: &[u8], t: &[u64], n: SampleNumber, k: Track, x: &[u8]) -> Judged
             }
             Stepped::Unit(u, d) => {
                 count += 1;
-                size = size + copies::LENGTH_BEFORE + u.size;
+                own += own_part(u);
+                copied += copied_part(u);
                 c = d;
             }
         }
@@ -65,7 +82,7 @@ pub fn judge(b: &[u8], t: &[u64], n: SampleNumber) -> Judged
             place: ByteOffset(0),
         });
     }
-    let k = judging::track_of(t, n);
+    let k = delivery::track_of(t, n);
     let x = tables::sample_bytes(b, t, n);
     let checked = samples::check_sample(k, x);
     match checked {
@@ -111,7 +128,7 @@ fn write_units(out: &mut [u8], b: &[u8], t: &[u64], n: SampleNumber, k: Track, x
                 c = d;
             }
             Stepped::Unit(u, d) => {
-                at += put_unit(out, at, b, t, u);
+                at += put_unit(out, at, b, t, u.span);
                 c = d;
             }
         }
@@ -141,7 +158,7 @@ fn find(b: &[u8], t: &[u64], n: SampleNumber, k: Track, x: &[u8], i: usize) -> S
             Stepped::Unit(u, d) => {
                 left -= 1;
                 if left == 0 {
-                    return u;
+                    return u.span;
                 }
                 c = d;
             }

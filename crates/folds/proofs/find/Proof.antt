@@ -4,7 +4,7 @@ use native.Mathlib.Omega.{arith}
 use mathlib.Core.Path.{_≡_, sym, _∙_}
 use Rattle.units.specs.Units.{sample}
 use Rattle.tables.specs.Tables.{recordingIn}
-use Rattle.delivery.specs.Rest.{weight}
+use Rattle.delivery.proofs.Falling.{bound}
 use Rattle.delivery.proofs.Rests.{moved-less, unit-less}
 use Rattle.delivery.proofs.Folds.{Folded, folded-moved}
 use Rattle.folds.proofs.Finding.{Seeks, seeks-start, seeks-take, seeks-never, seeks-none, seeks-found}
@@ -15,7 +15,7 @@ abbrev Inv-loop : tie.InvT-loop
 Inv-loop b t n k x i left₀ c₀ left c = Folded (recordingIn b t) (n .0) (sample k x) (Seeks i left) c
 
 abbrev μ-loop : tie.MeasureT-loop
-μ-loop b t n k x i left₀ c₀ left c = weight (recordingIn b t) (sample k x) c
+μ-loop b t n k x i left₀ c₀ left c = bound (recordingIn b t) (sample k x) c
 
 start-requires : tie.Need-start-requires Inv-loop μ-loop
 start-requires c κs = search needs
@@ -60,7 +60,7 @@ sub-left : tie.Need-sub-left Inv-loop μ-loop
 sub-left c = let h = c .before .before .before .before .loop .inv .holds in omega arith
 
 returns-3 : tie.Need-returns-3 Inv-loop μ-loop
-returns-3 c = let h = c .before .before .before .before .before .before .before .before .before .before .pre in sym (seeks-found _ _ _ _ _ _ (c .before .before .before .before .before .loop .inv) (h .0) (h .1) (sym (c .before .before .before .before .step .ensures) ∙ c .before .before .s2 .given .1) (c .if1 .taken))
+returns-3 c = let h = c .before .before .before .before .before .before .before .before .before .before .before .pre in sym (seeks-found _ _ _ _ _ _ (c .before .before .before .before .before .before .loop .inv) (h .0) (h .1) (sym (c .before .before .before .before .before .step .ensures) ∙ c .before .before .before .s2 .given .1) (c .before .if1 .taken))
 
 loop-less-2 : tie.Need-loop-less-2 Inv-loop μ-loop
 loop-less-2 c = let l = unit-less _ _ _ _ (sym (c .before .before .before .before .step .ensures) ∙ c .before .before .s2 .given .1) in omega arith

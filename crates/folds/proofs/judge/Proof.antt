@@ -6,9 +6,9 @@ use Rattle.units.specs.Units.{sample}
 use Rattle.samples.specs.Check.{answerOf}
 use Rattle.tables.specs.Tables.{recordingIn}
 use Rattle.resolution_rules.specs.Resolving.{sampleOf}
-use Rattle.judging.proofs.Amounts.{sample-from}
+use Rattle.delivery.proofs.Steps.{sample-from}
 use Rattle.judging.specs.Steps.{judgement, judgementIn}
-use Rattle.judging.proofs.Counting.{judgement-form}
+use Rattle.folds.proofs.Counting.{form-refused}
 use Rattle.judging.proofs.Judgements.{judgement-in, judgement-long}
 use Rattle.folds.proofs.judge.Tie as tie
 
@@ -42,7 +42,7 @@ measure-requires : tie.Need-measure-requires
 measure-requires c κs = (same (c .before .before), sym (c .before .before .check-sample .ensures) ∙ ap answerOf (c .enum-told .given .1), c .before .before .before .before .before .if1 .left)
 
 returns-2 : tie.Need-returns-2
-returns-2 c = sym (short (c .before .before .before) ∙ judgement-form _ _ _ (same (c .before .before .before)) (sym (c .before .before .before .check-sample .ensures) ∙ ap answerOf (c .before .checked .given .1)))
+returns-2 c = sym (short (c .before .before .before) ∙ form-refused _ _ (same (c .before .before .before)) (sym (c .before .before .before .check-sample .ensures) ∙ ap answerOf (c .before .checked .given .1)))
 
 returns-3 : tie.Need-returns-3
 returns-3 c = c .measure .ensures ∙ sym (short (c .before .before .before))

@@ -10,7 +10,7 @@ use Rattle.bundles.specs.Recordings.{contentOf}
 use Rattle.tables.specs.Tables.{recordingIn}
 use Rattle.resolution_rules.specs.Calls.{written}
 use Rattle.resolution_rules.proofs.Delivered.{written-length}
-use Rattle.delivery.specs.Rest.{spanFor}
+use Rattle.delivery.specs.Deliveries.{spanFor}
 use Rattle.folds.proofs.put_unit.Statement.{statement}
 use Rattle.folds.proofs.put_unit.Tie as tie
 

@@ -6,7 +6,7 @@ use Prim.Native.Nat.{ℕ, _+_, _≤_}
 use lib.ListN.{length}
 use Rattle.units.specs.Units.{sample}
 use Rattle.tables.specs.Tables.{recordingIn}
-use Rattle.delivery.specs.Rest.{weight}
+use Rattle.delivery.proofs.Falling.{bound}
 use Rattle.delivery.proofs.Rests.{moved-less, unit-less}
 use Rattle.delivery.proofs.Folds.{Folded, folded-moved}
 use Rattle.folds.proofs.Writing.{Puts, puts-start, puts-length, puts-end, puts-never, puts-inside, puts-room, puts-fit, puts-take}
@@ -17,10 +17,10 @@ abbrev Inv-loop : tie.InvT-loop
 Inv-loop out₀ b t n k x at₀ c₀ out at c = Folded (recordingIn b t) (n .0) (sample k x) (Puts (recordingIn b t) (n .0) (sample k x) out₀ out at) c
 
 abbrev μ-loop : tie.MeasureT-loop
-μ-loop out₀ b t n k x at₀ c₀ out at c = weight (recordingIn b t) (sample k x) c
+μ-loop out₀ b t n k x at₀ c₀ out at c = bound (recordingIn b t) (sample k x) c
 
 -- there is room for the unit
-room : (c : tie.After-s2 Inv-loop μ-loop) → c .before .before .before .loop .at + (4 + c .s2 .given .0 .0 .size) ≤ length (c .before .before .before .before .before .before .before .before .before .args .out .now)
+room : (c : tie.After-s2 Inv-loop μ-loop) → c .before .before .before .loop .at + (4 + c .s2 .given .0 .0 .span .size) ≤ length (c .before .before .before .before .before .before .before .before .before .args .out .now)
 room c = let h = c .before .before .before .before .before .before .before .before .before .pre in puts-room _ _ _ _ _ _ _ (c .before .before .before .loop .inv) (h .0) (h .1) (sym (c .before .before .step .ensures) ∙ c .s2 .given .1) (h .2)
 
 wrote : (c : tie.After-put-unit Inv-loop μ-loop) → c .before .before .before .before .before .before .loop .at + c .put-unit .result ≤ length (c .before .before .before .before .before .before .before .before .before .before .before .before .args .out .now)
