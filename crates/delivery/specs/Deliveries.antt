@@ -1,11 +1,12 @@
 -- What sample n of a recording r delivers (01, 'Resolving'), each unit with whether an extractor copies it.
 --
---   Delivery             a delivered unit, and whether it is copied
---   deliveriesAt r n p   what is delivered for the unit at p
---   deliveries r n       what is delivered for the sample
---   ownSize ds           the bytes of those that stand in the sample itself
---   copiedSize ds        the bytes of those that are copied
---   spanFor, unitFor     the code's units in these words
+--   Delivery                 a delivered unit, and whether it is copied
+--   spanFor, unitFor         the code's units in these words
+--   spans ds                 the units alone
+--   deliveriesAt r n p       what is delivered for the unit at p
+--   deliveries r n           what is delivered for the sample
+--   ownPart, ownSize         the bytes of a unit that stands in the sample itself, and of all such
+--   copiedPart, copiedSize   the bytes of a unit that is copied, and of all such
 use Prim.Native.Nat.{ℕ}
 use mathlib.Core.List.{List, map}
 use mathlib.Core.Bool.{Bool}

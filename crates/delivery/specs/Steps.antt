@@ -4,7 +4,7 @@
 --   start                  the cursor before the first unit
 --   trackFor y n           what the track of sample n says of it, as the code has it
 --   itemAt x p             what stands at p
---   copyFor r n p f        the copy of an extractor at p with the fields f: 23 to 27, or the sample named and where the copy starts and ends
+--   copyFor r n p f        the copy of an extractor at p with the fields f: 23 to 27, or the sample named, its start and its end there
 --   withCopyAt, withPlace  the cursor with another place in the copy, or in the own sample
 --   copyStep s c           a step in the copy, of a sample with the bytes s
 --   ownStep r n x c        a step in the own sample

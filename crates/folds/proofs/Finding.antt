@@ -69,5 +69,5 @@ module _ (r : Recording) (n : ℕ) (x : Sample) (i : ℕ) where
           let k = w .holds in
           let l = length-map (w .us) (λ (a : Delivery). a .span) in
           let s : delivered r n ≡ spans (w .us) ++ (spanFor (u .span) ∷ spans (rest r n x d .units)) =
-              sym (deliveries-spans r n) ∙ ap spans (folded-split r n x (Seeks i left) c w same formed good e) ∙ map-append (λ (a : Delivery). a .span) (w .us) (unitFor u ∷ rest r n x d .units) in
+          sym (deliveries-spans r n) ∙ ap spans (folded-split r n x (Seeks i left) c w same formed good e) ∙ map-append (λ (a : Delivery). a .span) (w .us) (unitFor u ∷ rest r n x d .units) in
           rw s (nth-at (spans (w .us)) (spanFor (u .span)) (spans (rest r n x d .units)) i noSpan (omega arith))

@@ -73,7 +73,7 @@ module _ (r : Recording) (n : ℕ) (x : Sample) where
           fits =
               let vs = spans (rest r n x d .units) in
               let p : delivered r n ≡ spans (w .us) ++ (U ∷ vs) =
-                  sym (deliveries-spans r n) ∙ ap spans (folded-split r n x (Puts o out at) c w same formed good e) ∙ map-append (λ (a : Delivery). a .span) (w .us) (unitFor u ∷ rest r n x d .units) in
+              sym (deliveries-spans r n) ∙ ap spans (folded-split r n x (Puts o out at) c w same formed good e) ∙ map-append (λ (a : Delivery). a .span) (w .us) (unitFor u ∷ rest r n x d .units) in
               let s : output r (delivered r n) ≡ output r (spans (w .us)) ++ output r (U ∷ vs) = ap (output r) p ∙ output-append r (spans (w .us)) (U ∷ vs) in
               let t : output r (U ∷ vs) ≡ output r (U ∷ []) ++ output r vs = output-append r (U ∷ []) vs in
               let a = ap length s ∙ length-append (output r (spans (w .us))) (output r (U ∷ vs)) in
