@@ -28,7 +28,7 @@ use Rattle.units.specs.declared.MaybeExtractor.{MaybeExtractor}
 use Rattle.units.specs.declared.MaybeExtractor.the-variants as extractor
 use Rattle.units.proofs.Units.{next-after}
 use Rattle.bundles.specs.Recordings.{Recording, contentOf}
-use Rattle.links.proofs.Words.{nth-zero, nth-over}
+use Rattle.words.proofs.Rows.{nth-none, nth-beyond}
 use Rattle.resolution_rules.proofs.Calls.{by-count}
 use Rattle.delivery.specs.Steps.{start, copySample, copyStep, replacedBy, extractorStepBy, copyFor, ownStep, stepOf}
 use Rattle.delivery.specs.declared.Cursor.{Cursor}
@@ -69,8 +69,8 @@ content-longest r m = by-count (length (r .contents)) m
     (λ i l. longest-most (r .contents) (nth (r .contents) m []) (nth-mem (r .contents) m [] i l))
   where
     none : (m ≡ 0) ⊎ (length (r .contents) < m) → nth (r .contents) m [] ≡ []
-    none (inl z) = rw z (nth-zero (r .contents) [])
-    none (inr l) = nth-over (r .contents) m [] (omega arith)
+    none (inl z) = rw z (nth-none (r .contents) [])
+    none (inr l) = nth-beyond (r .contents) m [] (omega arith)
 
 -- d less of the own sample is d less at least of what is left; one less is worth any copy
 own-less : (k a a' b d : ℕ) → a' + d ≤ a → a' * suc k + b + d ≤ a * suc k + b
@@ -143,4 +143,4 @@ unfolding bound
 bound-start r x k h l =
     let i : suc (longest (r .contents)) ≤ suc k = omega arith in
     let m : (end x - start .place .0) * suc (longest (r .contents)) ≤ k * suc k = mul-le-mul (omega arith) i in
-    rw (nth-zero (r .contents) []) (omega arith)
+    rw (nth-none (r .contents) []) (omega arith)

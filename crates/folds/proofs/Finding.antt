@@ -15,7 +15,7 @@ use Rattle.numbers.specs.declared.Refusal.{Refusal}
 use Rattle.units.specs.Units.{Sample}
 use Rattle.samples.specs.Check.{check}
 use Rattle.bundles.specs.Recordings.{Recording}
-use Rattle.links.proofs.Words.{nth-over}
+use Rattle.words.proofs.Rows.{nth-beyond}
 use Rattle.resolution_rules.specs.Resolving.{Span, own, delivered, judged}
 use Rattle.resolution_rules.specs.Calls.{noSpan}
 use Rattle.resolution_rules.proofs.Good.{good-rules}
@@ -62,7 +62,7 @@ module _ (r : Recording) (n : ℕ) (x : Sample) (i : ℕ) where
           let h = folded-done r n x (Seeks i left) c w same formed e in
           let k = h .1 in
           let l : length (delivered r n) ≡ length (deliveries r n) = ap length (sym (deliveries-spans r n)) ∙ length-map (deliveries r n) _ in
-          nth-over (delivered r n) i noSpan (omega arith)
+          nth-beyond (delivered r n) i noSpan (omega arith)
 
       pub seeks-found : {u : DeliveredUnit} {d : Cursor} → stepOf r n x c ≡ step.Unit u d → left - 1 ≡ 0 → nth (delivered r n) i noSpan ≡ spanFor (u .span)
       seeks-found {u} {d} e z =
