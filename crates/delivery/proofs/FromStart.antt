@@ -73,13 +73,13 @@ module _ (r : Recording) (n : ℕ) (x : Sample) (p e m f : ℕ) (k : Track) (z :
         (λ t. let i = leb-true f q t in copy-end q i (w .inside))
         (λ t. let i = leb-false f q t in let u = whole-end z (end z) q (walking-whole z f q w i) .1 in by-bool (isAggregator z q)
         (λ a. rw (copies.rest-skip z f q i a)
-        (says-moved r n x (At q) (step-at q _ i (item-aggregator z q u a))
+        (says-moved r n x (At q) (step-at q _ i (item-aggregator z q a))
         (copy-says j (includedStart z q) (omega arith) (copies.walking-skip z f q w i a))))
         (λ a. by-bool (isExtractor z q)
         (λ g. rw (copies.rest-take z f q i a, g)
-        (says-refused r n x (At q) extractorCopied e _ (step-at q _ i (item-extractor z q u a g))))
+        (says-refused r n x (At q) extractorCopied e _ (step-at q _ i (item-extractor z q a u g))))
         (λ g. rw (copies.rest-take z f q i a, g)
-        (says-unit r n x (At q) (step-at q _ i (item-unit z q u a g))
+        (says-unit r n x (At q) (step-at q _ i (item-unit z q a u g))
         (copy-says j (next z q) (omega arith) (copies.walking-take z f q w i a))))))
 
 module _ (r : Recording) (n : ℕ) where
@@ -132,7 +132,7 @@ module _ (r : Recording) (n : ℕ) where
       reads = extractor-step X (w .formed) p (keep-mem (isExtractor X) (units X) (passing-mem r n X p w i a) t)
 
       step-extractor : stepOf r n X C ≡ replacedBy (place p) (place (next X p)) (copyFor r n (place p) (extractorOf X p))
-      step-extractor = step-own r n X C h (item-extractor X p (whole-end X (end X) p (walking-whole X (end X) p (w .walking) i) .1) a t) ∙ ap (extractorStepBy r n (place p) (place (next X p))) reads
+      step-extractor = step-own r n X C h (item-extractor X p a (whole-end X (end X) p (walking-whole X (end X) p (w .walking) i) .1) t) ∙ ap (extractorStepBy r n (place p) (place (next X p))) reads
 
       refuses : (g : ℕ) → extractFault r n p ≡ suc g → copyFor r n (place p) (extractorOf X p) ≡ found.Refused (suc g) → Says r n X C (judgedFrom r n X p) (remaining r n X p)
       refuses g e o = rw (from-take r n X p i a, unit-judge r n p t, e) (says-refused r n X C (suc g) p _ (step-extractor ∙ ap (replacedBy (place p) (place (next X p))) o))
@@ -168,12 +168,12 @@ module _ (r : Recording) (n : ℕ) where
       (λ t. own-end p k (leb-true (end X) p t) l)
       (λ t. let i = leb-false (end X) p t in let u = whole-end X (end X) p (walking-whole X (end X) p (w .walking) i) .1 in let c : Cursor = record { place = place p; copy = k } in by-bool (isAggregator X p)
       (λ a. rw (from-skip r n X p w i a, remaining-skip r n X p w i a)
-      (says-moved r n X c (step-own r n X c l (item-aggregator X p u a))
+      (says-moved r n X c (step-own r n X c l (item-aggregator X p a))
       (own-says j (includedStart X p) k (omega arith) (passing-skip r n X p w i a) l)))
       (λ a. by-bool (isExtractor X p)
       (λ g. extractor-says p k l w i a g (λ q m. own-says j (next X p) q (omega arith) (passing-take r n X p w i a) m))
       (λ g. rw (from-take r n X p i a, unit-passes r n p g, remaining-take r n X p i a, deliveries-unit r n p a g)
-      (says-unit r n X c (step-own r n X c l (item-unit X p u a g))
+      (says-unit r n X c (step-own r n X c l (item-unit X p a u g))
       (own-says j (next X p) k (omega arith) (passing-take r n X p w i a) l)))))
 
   start-says : check X ≡ ok tt → Says r n X start (judged r n) (deliveries r n)

@@ -58,11 +58,11 @@ start = record {
 abbrev pub trackFor : Layout → ℕ → Track
 trackFor y n = record { kind = trackAt y n .kind; «length_size» = trackAt y n .lengthSize }
 
--- Nothing where 14 or 15 holds: the length field or the unit ends past the sample.
+-- Nothing where the unit ends past the sample. Where an aggregator ends does not matter here: what it includes is looked at next.
 unfoldable pub itemAt : Sample → ℕ → I.Item
 itemAt x p =
-    pick (end x <? next x p) item.Nothing
-    (pick (isAggregator x p) (item.Aggregator (place (includedStart x p)))
+    pick (isAggregator x p) (item.Aggregator (place (includedStart x p)))
+    (pick (end x <? next x p) item.Nothing
     (pick (isExtractor x p) (item.Extractor (place (next x p)))
     (item.Unit (unitOf x p))))
 

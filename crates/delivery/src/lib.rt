@@ -98,7 +98,7 @@ pub fn start() -> Cursor
     }
 }
 
-// What stands at a place of a sample. Its length and its type are read once.
+// What stands at a place of a sample. Its type is read once, and its length once where it matters.
 fn item_at(k: Track, s: &[u8], at: ByteOffset) -> Item
     ensures { λ r. ⌜ r ≡ itemAt (sample k (now (s .entry))) (at .0) ⌝ }
 {
@@ -112,13 +112,14 @@ fn item_at(k: Track, s: &[u8], at: ByteOffset) -> Item
         return Item::Nothing;
     }
     let start = p + n;
+    let t = numbers::byte(s, start) % 32;
+    if t == units::AGGREGATOR {
+        let included = start + LengthSize::HEADER + n;
+        return Item::Aggregator(ByteOffset(included));
+    }
     let size = l.number(s, p);
     if s.len() - start < size {
         return Item::Nothing;
-    }
-    let t = numbers::byte(s, start) % 32;
-    if t == units::AGGREGATOR {
-        return Item::Aggregator(ByteOffset(start + LengthSize::HEADER + n));
     }
     let next = start + size;
     if t == units::EXTRACTOR {
