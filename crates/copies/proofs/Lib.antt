@@ -7,6 +7,7 @@
 --   Answers   what code says of a copy, by parts
 --   Putting   units written one after the other
 --   Copied    what a copy has; what is copied, exactly
+--   Ranges    where a copy ends
 --   Sizes     units that do not overlap, and their sizes
 pub mod Borders
 pub mod Flat
@@ -16,3 +17,4 @@ pub mod Answers
 pub mod Putting
 pub mod Copied
 pub mod Sizes
+pub mod Ranges

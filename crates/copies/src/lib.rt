@@ -1,4 +1,6 @@
 // What an extractor copies of the sample that it names.
+pub mod range;
+
 ghost use mathlib.Core.Path.{_≡_};
 ghost use mathlib.Core.Bool.{true};
 ghost use Prim.Native.Nat.{_+_, _≤_};
@@ -76,7 +78,7 @@ fn copy_ends(k: Track, z: &[u8], from: usize, length: usize) -> bool
 }
 
 // 26, then 27.
-fn border_fault(k: Track, z: &[u8], from: usize, length: usize) -> u8
+pub(crate) fn border_fault(k: Track, z: &[u8], from: usize, length: usize) -> u8
     requires { ⌜ check (sample k (now z)) ≡ ok tt ⌝ }
     ensures { λ r. ⌜ r ≡ borderFault (sample k (now (z .entry))) from length ⌝ }
 {
@@ -90,7 +92,7 @@ fn border_fault(k: Track, z: &[u8], from: usize, length: usize) -> u8
 }
 
 // Where a copy ends.
-fn copy_end(k: Track, z: &[u8], from: usize, length: usize) -> usize
+pub(crate) fn copy_end(k: Track, z: &[u8], from: usize, length: usize) -> usize
     requires { ⌜ (check (sample k (now z)) ≡ ok tt) × (borderFault (sample k (now z)) from length ≡ 0) ⌝ }
     ensures { λ r. ⌜ r ≡ copyEnd (sample k (now (z .entry))) from length ⌝ }
 {
