@@ -16,7 +16,7 @@ use Rattle.units.specs.Aggregators.{includedStart, units}
 use Rattle.samples.specs.Check.{check}
 use Rattle.bundles.specs.Recordings.{Recording}
 use Rattle.copies.specs.Flat.{flatPlaces}
-use Rattle.copies.proofs.Flat.{flat-aggregator, flat-other, flat-end, flat-step, whole-stretch, flat-units, Walking, walking-start}
+use Rattle.copies.proofs.Flat.{flat-aggregator, flat-other, flat-end, flat-step, sample-borders, flat-units, Walking, walking-start}
 use Rattle.copies.proofs.Rest.{walking-skip, walking-take}
 use Rattle.resolution_rules.specs.Resolving.{own, judged}
 use Rattle.resolution_rules.proofs.Delivered.{aggregator-only, unitJudge, unit-passes, extractors-units, judged-extractors}
@@ -63,7 +63,7 @@ module _ (r : Recording) (n : ℕ) (x : Sample) where
     pub mem : (q : ℕ) → List·Memᴰ q (ahead p) → List·Memᴰ q (units x)
 
   pub passing-start : x ≡ own r n → check x ≡ ok tt → Passing 0
-  passing-start e f = record { same = e; formed = f; walking = walking-start x 0 (end x) (whole-stretch x f); mem = λ q m. rw (flat-units x f) m }
+  passing-start e f = record { same = e; formed = f; walking = walking-start x 0 (end x) (sample-borders x f); mem = λ q m. rw (flat-units x f) m }
 
   pub remaining-start : x ≡ own r n → check x ≡ ok tt → remaining 0 ≡ deliveries r n
   unfolding deliveries
