@@ -156,8 +156,6 @@ pub fn audit(b: &[u8], lines: &mut [u8]) -> Audited
     let filled = filling::fill_table(b, &mut t);
     match filled {
         Filled::Refused(f) => Audited::Refused(f),
-        // does not come: the table has room for any bundle
-        Filled::NoRoom(_) => refused(refusals::OUTPUT_TOO_LONG),
         Filled::Done => audit_accepted(b, &t, lines),
     }
 }

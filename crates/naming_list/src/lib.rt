@@ -221,8 +221,6 @@ pub fn names(b: &[u8], s: SampleNumber, out: &mut [u8]) -> Listed
     let filled = filling::fill_table(b, &mut t);
     match filled {
         Filled::Refused(f) => Listed::Refused(f),
-        // does not come: the table has room for any bundle
-        Filled::NoRoom(_) => refused(refusals::OUTPUT_TOO_LONG),
         Filled::Done => list_sample(b, &mut t, s, out),
     }
 }
