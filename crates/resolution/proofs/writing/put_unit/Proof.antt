@@ -11,8 +11,8 @@ use Rattle.tables.specs.Tables.{recordingIn}
 use Rattle.resolution_rules.specs.Calls.{written}
 use Rattle.resolution_rules.proofs.Delivered.{written-length}
 use Rattle.delivery.specs.Deliveries.{spanFor}
-use Rattle.folds.proofs.put_unit.Statement.{statement}
-use Rattle.folds.proofs.put_unit.Tie as tie
+use Rattle.resolution.proofs.writing.put_unit.Statement.{statement}
+use Rattle.resolution.proofs.writing.put_unit.Tie as tie
 
 -- the sample that the unit stands in
 same : (c : tie.After-sample-bytes) → let a = c .before .before .before .before .args in length (c .sample-bytes .result .now) ≡ length (contentOf (recordingIn (a .b .now) (a .t .now)) (a .u .sample .0))
