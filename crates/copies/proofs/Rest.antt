@@ -5,16 +5,13 @@
 --   walking-skip, walking-take             the walk goes on after an aggregator's head, or after another unit
 --   Counted, counted-start, -skip, -found, -take, -end    a loop that counts units and their bytes and looks for extractors
 --   Finding, finding-start, -skip, -found, -take, -end    a loop that looks for the ith unit
-use Prim.Native.Nat.{ℕ, zero, suc, _+_, _-_, _≤_, _<_}
+use Prim.Native.Nat.{ℕ, _+_, _-_, _≤_, _<_}
 use mathlib.Core.Path.{_≡_, refl, ap, sym, _∙_}
 use mathlib.Core.List.{List, [], _∷_, map}
 use mathlib.Core.Bool.{true, false}
 use native.Mathlib.Omega.{arith}
 use native.Mathlib.Nat.{pos-of-ne-zero}
-use borrow.Author.Tests.{leb-true, leb-false}
-use lib.Dec.{leb}
 use lib.ListN.{length}
-use Rattle.words.proofs.Tests.{by-bool}
 use Rattle.words.specs.Lists.{keep, some, sum, nth}
 use Rattle.words.specs.RefusalNumbers.{extractorCopied}
 use Rattle.numbers.proofs.Laws.{L-some}
