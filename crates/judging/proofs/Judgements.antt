@@ -29,7 +29,6 @@ use Rattle.delivery.proofs.Folds.{content-most}
 use Rattle.judging.specs.Steps.{amountFor, judgement, judgementIn}
 use Rattle.judging.specs.declared.Amount.{Amount}
 
-
 module _ (r : Recording) (n : ℕ) where
   judgement-refused : {m q : ℕ} → judgement r n ≡ refused m q → judged r n ≡ refused m q
   unfolding judgement
