@@ -28,7 +28,7 @@ slice-aggregate-list-sample : tie.Need-slice-aggregate-list-sample
 slice-aggregate-list-sample c = search needs
 
 list-sample-requires : tie.Need-list-sample-requires
-list-sample-requires c κs = (table-short _ _ (sym (c .before .before .before .before .fill-table .ensures .0) ∙ c .before .before .enum-told .given .1), omega arith)
+list-sample-requires c κs = (table-short _ _ (sym (c .before .before .before .before .before .fill-table .ensures .0) ∙ c .before .before .enum-told .given .1), omega arith)
 
 returns : tie.Need-returns
 returns c =
@@ -39,7 +39,7 @@ same-length : tie.Need-same-length
 same-length c = search needs
 
 returns-2 : tie.Need-returns-2
-returns-2 c = let a = c .before .before .before .before .before .before .before .before .before .before .before .before .args in rw (← call-filled _ _ (sym (c .before .before .before .before .before .before .before .before .fill-table .ensures .0) ∙ c .before .before .before .before .before .before .enum-told .given .1) (c .before .before .before .before .before .before .before .before .fill-table .ensures .1) (a .s .0) (length (a .out .now))) (c .before .before .before .list-sample .ensures)
+returns-2 c = let a = c .before .before .before .before .before .before .before .before .before .before .before .before .before .args in rw (← call-filled _ _ (sym (c .before .before .before .before .before .before .before .before .before .fill-table .ensures .0) ∙ c .before .before .before .before .before .before .enum-told .given .1) (c .before .before .before .before .before .before .before .before .before .fill-table .ensures .1) (a .s .0) (length (a .out .now))) (c .before .before .before .list-sample .ensures)
 
 pub names-spec : {M : Type 1} → statement M
 names-spec =

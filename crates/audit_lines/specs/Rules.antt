@@ -10,9 +10,9 @@ use Rattle.words.specs.Refusals.{refused, ok}
 use Rattle.bundles.specs.Recordings.{Recording, contentOf}
 use Rattle.resolution_rules.specs.Resolving.{delivered, judged}
 use Rattle.numbers.specs.declared.Refusal.{Refusal}
-use Rattle.audit.specs.Answers.{lineThere, lineSays}
-use Rattle.audit.specs.declared.Line as line
-use Rattle.audit.specs.declared.Line.the-variants.{Passed, Empty, Refused}
+use Rattle.audit_lines.specs.Lines.{lineThere, lineSays}
+use Rattle.audit_lines.specs.declared.Line as line
+use Rattle.audit_lines.specs.declared.Line.the-variants.{Passed, Empty, Refused}
 
 abbrev pub lineRead : List ℕ → Recording → ℕ → line.Line
 lineRead out r n = lineSays (lineThere out n) (length (contentOf r n))

@@ -4,10 +4,10 @@ use native.Mathlib.Omega.{arith}
 use mathlib.Core.Path.{sym}
 use Prim.Native.Nat.{_-_, _*_}
 use Rattle.audit_rules.specs.Auditing.{lineSize}
-use Rattle.audit.proofs.line_part.Statement.{statement}
+use Rattle.audit_lines.proofs.line_part.Statement.{statement}
 use native.Mathlib.Nat.{add-sub-cancel-left}
-use Rattle.audit.proofs.Reading.{there-none, there-past, there-is}
-use Rattle.audit.proofs.line_part.Tie as tie
+use Rattle.audit_lines.proofs.Reading.{there-none, there-past, there-is}
+use Rattle.audit_lines.proofs.line_part.Tie as tie
 
 slice-aggregate-result : tie.Need-slice-aggregate-result
 slice-aggregate-result c = search needs

@@ -7,7 +7,7 @@
 --   line-empty-exactly       empty exactly if the sample's length is 0
 --   line-refused-exactly     refused with a number and a place exactly if the sample is refused with that number at that place
 --   audit-left               a call that answered left the lines of the recording that the bundle means at the start of the buffer
---   no-line                  a line that is not there is 30 at 0
+--   no-line                  a line that is not there is no line
 use Prim.Native.Nat.{ℕ, _+_, _-_, _*_, _≤_, _<_}
 use mathlib.Core.Path.{_≡_, refl, ap, ap₂, sym, _∙_}
 use mathlib.Core.List.{List, [], _++_}
@@ -16,7 +16,6 @@ use native.Mathlib.Omega.{arith}
 use lib.ListN.{length, take, drop, take-append-drop, length-drop, length-take}
 use lib.Seq.{take-at, take-append-le, drop-append-le}
 use Rattle.words.specs.Refusals.{Answer, refused, ok, Verdict}
-use Rattle.words.specs.RefusalNumbers.{noSuchNumber}
 use Rattle.words.specs.Bytes.{part}
 use Rattle.words.specs.Buffers.{overwrite, Wrote}
 use Rattle.words.proofs.Tests.{by-number}
@@ -29,15 +28,15 @@ use Rattle.resolution_rules.specs.Readers.{Sound}
 use Rattle.tally.specs.declared.Outcome.{Outcome}
 use Rattle.audit_rules.specs.Auditing.{lineSize, lines, auditCall}
 use Rattle.audit_rules.specs.Rules.{lineAt, SampleLine}
-use Rattle.audit_rules.proofs.Refusals.{number-some}
+use Rattle.audit_rules.proofs.Refusals.{number-some, place-inside}
 use Rattle.audit_rules.proofs.Outcomes.{empty-good}
 use Rattle.audit_rules.proofs.Lines.{lines-length}
 use Rattle.audit_rules.proofs.Promises.{every-sample-one-line, audited-exactly}
-use Rattle.audit.specs.Answers.{lineThere, lineSays}
-use Rattle.audit.specs.Rules.{lineRead, LineHolds}
-use Rattle.audit.specs.declared.Line as line
-use Rattle.audit.specs.declared.Line.the-variants.{Passed, Empty, Refused}
-use Rattle.audit.proofs.Reading.{says-gone, says-refused, says-empty, says-passed, there-none, there-past, there-is}
+use Rattle.audit_lines.specs.Lines.{lineThere, lineSays}
+use Rattle.audit_lines.specs.Rules.{lineRead, LineHolds}
+use Rattle.audit_lines.specs.declared.Line as line
+use Rattle.audit_lines.specs.declared.Line.the-variants.{Passed, Empty, Refused, NoLine}
+use Rattle.audit_lines.proofs.Reading.{says-gone, says-there, from-passed, from-empty, from-refused, there-none, there-past, there-is}
 
 -- a part at the start
 part-front : (a b : List ℕ) (p n : ℕ) → p + n ≤ length a → part (a ++ b) p n ≡ part a p n
@@ -73,12 +72,11 @@ module _ (r : Recording) (n : ℕ) where
 
   -- from the line of the sample
   says : (s : List ℕ) {o : Outcome} → SampleLine r n s o → LineHolds r n (lineSays s (length (contentOf r n)))
-  says s (SampleLine.good h j w) = rw (says-passed s (length (contentOf r n)) (whole s (w .size)) (w .refusal) (λ z. absurd (omega arith)), w .units) (LineHolds.passed h j)
-  says s (SampleLine.empty z w) = rw (says-empty s (length (contentOf r n)) (whole s (w .size)) (w .refusal) z) (LineHolds.empty z)
+  says s (SampleLine.good h j w) = rw (says-there s (length (contentOf r n)) (whole s (w .size)), w .refusal, w .place, w .units, from-passed (length (delivered r n)) (length (contentOf r n)) (λ z. absurd (omega arith))) (LineHolds.passed h j)
+  says s (SampleLine.empty z w) = rw (says-there s (length (contentOf r n)) (whole s (w .size)), w .refusal, w .place, w .units, from-empty (length (contentOf r n)) z) (LineHolds.empty z)
   says s (SampleLine.bad {m} {p} j k w) =
       let a = number-some r n k in
-      let e = w .refusal in
-      rw (says-refused s (length (contentOf r n)) (whole s (w .size)) (λ z. absurd (omega arith)), w .refusal, w .place) (LineHolds.bad (record { number = m; place = record { 0 = p } }) j)
+      rw (says-there s (length (contentOf r n)) (whole s (w .size)), w .refusal, w .place, w .units, from-refused m p (length (contentOf r n)) (λ z. absurd (omega arith)) (k .0) (place-inside r n k)) (LineHolds.bad (record { number = m; place = record { 0 = p } }) j)
 
   -- each answer from what holds, and what holds from the answer
   reads-passed : (l : line.Line) → LineHolds r n l → 0 < length (contentOf r n) → judged r n ≡ ok tt → l ≡ Passed (length (delivered r n))
@@ -163,7 +161,7 @@ module _ (reader : Reader) (b o o' : List ℕ) (count : ℕ) where
   audit-left = left-by (auditCall reader b (length o)) refl
 
 -- a line that is not there
-pub no-line : (out : List ℕ) (n size : ℕ) → (n ≡ 0) ⊎ (length out < lineSize * n) → lineSays (lineThere out n) size ≡ Refused (record { number = noSuchNumber; place = record { 0 = 0 } })
+pub no-line : (out : List ℕ) (n size : ℕ) → (n ≡ 0) ⊎ (length out < lineSize * n) → lineSays (lineThere out n) size ≡ NoLine
 no-line out n size (inl z) = rw (there-none out n z) (says-gone [] size refl)
 no-line out n size (inr l) = by-number n
     (λ z. rw (there-none out n z) (says-gone [] size refl))
