@@ -1,7 +1,7 @@
 // The audit of a bundle: a line a sample, and a tally.
 ghost use mathlib.Core.Path.{_≡_};
 ghost use mathlib.Core.List.{_++_};
-ghost use Prim.Native.Nat.{_+_, _*_, _≤_};
+ghost use Prim.Native.Nat.{_+_, _*_, _≤_, _<_};
 ghost use lib.ListN.{length};
 ghost use Rattle.words.specs.Refusals.{refused, ok};
 ghost use Rattle.words.specs.Bytes.{bytes};
@@ -85,7 +85,7 @@ fn audit_sample(
     at: usize,
     tally: Tally,
 ) -> Tally
-    requires { ⌜ (length (now b) ≤ bundleMost) × (at + lineSize ≤ length (now out)) ⌝ }
+    requires { ⌜ (length (now b) ≤ bundleMost) × (at + lineSize ≤ length (now out)) × (0 < n .0) × (n .0 ≤ sampleCount (recordingIn (now b) (now t) .layout)) ⌝ }
     ensures { λ r. ⌜ (r ≡ raisedBy (outcomeOf (recordingIn (now (b .entry)) (now (t .entry))) (n .0)) tally)
         × (now (out .exit) ≡ put (now (out .entry)) at (lineOf (recordingIn (now (b .entry)) (now (t .entry))) (n .0))) ⌝ }
 {

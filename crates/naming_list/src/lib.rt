@@ -146,7 +146,7 @@ fn count_in(b: &[u8], t: &[u64], n: SampleNumber, s: SampleNumber) -> usize
     requires { ⌜ length (now b) ≤ bundleMost ⌝ }
     ensures { λ r. ⌜ r ≡ length (namersIn (recordingIn (now (b .entry)) (now (t .entry))) (s .0) (n .0)) ⌝ }
 {
-    let k = judging::track_of(t, n);
+    let k = delivery::track_of(t, n);
     let x = tables::sample_bytes(b, t, n);
     let checked = samples::check_sample(k, x);
     match checked {
@@ -190,7 +190,7 @@ fn put_list(out: &mut [u8], b: &[u8], t: &[u64], s: SampleNumber)
     while n < total {
         n += 1;
         if tables::kept_count(t, SampleNumber(n)) != 0 {
-            let k = judging::track_of(t, SampleNumber(n));
+            let k = delivery::track_of(t, SampleNumber(n));
             let x = tables::sample_bytes(b, t, SampleNumber(n));
             let found = put_namers(out, at, t, SampleNumber(n), k, x, s);
             at += found * ENTRY_SIZE;
