@@ -19,10 +19,11 @@ use Rattle.bundles.specs.Limits.{bundleMost, sampleMost}
 use Rattle.bundles.specs.Recordings.{Recording, sampleCount, contentOf}
 use Rattle.tables.specs.Tables.{recordingIn}
 use Rattle.tables.proofs.Layouts.{samples-most}
+use Rattle.resolution_rules.specs.Calls.{numberFault}
 use Rattle.judging.specs.Steps.{judgementIn, answerOf}
 use Rattle.judging.specs.declared.Judged.{Judged}
 use Rattle.judging.specs.declared.Judged.the-variants as judged
-use Rattle.judging.proofs.Judgements.{judged-refused, judged-good}
+use Rattle.judging.proofs.Judgements.{judged-sample, judged-good}
 use Rattle.tally.specs.Tallies.{tallied, raisedBy}
 use Rattle.tally.specs.declared.Tally.{Tally}
 use Rattle.numbers.specs.Places.{placeSize}
@@ -49,14 +50,14 @@ put-three o at m p units h =
     ∙ put-put o (a ++ b) c at (at + refusalSize + placeSize) (omega arith) (omega arith)
 
 -- a sample that was judged
-module _ (b t : List ℕ) (n : ℕ) (short : length b ≤ bundleMost) where
+module _ (b t : List ℕ) (n : ℕ) (short : length b ≤ bundleMost) (there : numberFault (sampleCount (recordingIn b t .layout)) n ≡ 0) where
   pub line-judged : (x : Judged) → answerOf x ≡ judgementIn b t n → lineBytes (verdictOf x) (unitsIn x) ≡ lineOf (recordingIn b t) n
   unfolding lineOf lineBytes
-  line-judged (judged.Refused f) e = rw (judged-refused b t n short (sym e))
+  line-judged (judged.Refused f) e = rw (judged-sample b t n short there (sym e))
   line-judged (judged.Good a) e = let w = judged-good b t n short a (sym e) in rw (w .0, w .1)
 
   pub outcome-judged : (x : Judged) → answerOf x ≡ judgementIn b t n → outcomeIn x (length (contentOf (recordingIn b t) n)) ≡ outcomeOf (recordingIn b t) n
-  outcome-judged (judged.Refused f) e = sym (outcome-refused (recordingIn b t) n (judged-refused b t n short (sym e)))
+  outcome-judged (judged.Refused f) e = sym (outcome-refused (recordingIn b t) n (judged-sample b t n short there (sym e)))
   outcome-judged (judged.Good a) e =
       let r = recordingIn b t in
       let size = length (contentOf r n) in

@@ -1,7 +1,7 @@
 // The audit of a bundle: a line a sample, and a tally.
 ghost use mathlib.Core.Path.{_≡_};
 ghost use mathlib.Core.List.{_++_};
-ghost use Prim.Native.Nat.{_+_, _*_, _≤_};
+ghost use Prim.Native.Nat.{_+_, _*_, _≤_, _<_};
 ghost use lib.ListN.{length};
 ghost use Rattle.words.specs.Refusals.{refused, ok};
 ghost use Rattle.words.specs.Bytes.{bytes};
@@ -14,7 +14,10 @@ ghost use Rattle.tally.specs.Tallies.{raisedBy};
 ghost use Rattle.numbers.specs.Places.{placeSize};
 ghost use Rattle.audit_rules.specs.Auditing.{refusalSize, unitsSize, lineSize, lineBytes, outcomeOf, lineOf, lines, tally, tallyWithin, auditCall, tallyCall};
 ghost use Rattle.audit.specs.Steps.{verdictOf, unitsIn, outcomeIn};
-ghost use Rattle.audit.specs.Answers.{linesAnswer, tallyAnswer, lineThere, lineSays};
+ghost use Rattle.audit.specs.Answers.{linesAnswer, tallyAnswer};
+use audit_lines::LINE_SIZE;
+use audit_lines::REFUSAL_SIZE;
+use audit_lines::UNITS_SIZE;
 use filling::Filled;
 use judging::Judged;
 use numbers::ByteOffset;
@@ -24,13 +27,6 @@ use numbers::SampleNumber;
 use numbers::refusals;
 use tally::Outcome;
 use tally::Tally;
-
-// A line: the refusal, its place, and how many units are delivered.
-const REFUSAL_SIZE: usize = 1;
-
-const UNITS_SIZE: usize = 8;
-
-const LINE_SIZE: usize = REFUSAL_SIZE + PLACE_SIZE + UNITS_SIZE;
 
 // How many bytes of lines are written, and the tally.
 pub struct Report {
@@ -42,13 +38,6 @@ pub struct Report {
 pub enum Audited {
     Refused(Refusal),
     Done(Report),
-}
-
-// What a line says of a sample: it passed with so many units, is empty, or is refused.
-pub enum Line {
-    Passed(usize),
-    Empty,
-    Refused(Refusal),
 }
 
 // The three numbers of a line over a buffer that has room.
@@ -96,7 +85,7 @@ fn audit_sample(
     at: usize,
     tally: Tally,
 ) -> Tally
-    requires { ⌜ (length (now b) ≤ bundleMost) × (at + lineSize ≤ length (now out)) ⌝ }
+    requires { ⌜ (length (now b) ≤ bundleMost) × (at + lineSize ≤ length (now out)) × (0 < n .0) × (n .0 ≤ sampleCount (recordingIn (now b) (now t) .layout)) ⌝ }
     ensures { λ r. ⌜ (r ≡ raisedBy (outcomeOf (recordingIn (now (b .entry)) (now (t .entry))) (n .0)) tally)
         × (now (out .exit) ≡ put (now (out .entry)) at (lineOf (recordingIn (now (b .entry)) (now (t .entry))) (n .0))) ⌝ }
 {
@@ -156,47 +145,6 @@ pub fn audit(b: &[u8], lines: &mut [u8]) -> Audited
     let filled = filling::fill_table(b, &mut t);
     match filled {
         Filled::Refused(f) => Audited::Refused(f),
-        // does not come: the table has room for any bundle
-        Filled::NoRoom(_) => refused(refusals::OUTPUT_TOO_LONG),
         Filled::Done => audit_accepted(b, &t, lines),
     }
-}
-
-// Line n, or nothing where it is not there whole.
-fn line_part<'a>(lines: &'a [u8], n: SampleNumber) -> &'a [u8]
-    ensures { λ r. ⌜ now r ≡ lineThere (now (lines .entry)) (n .0) ⌝ }
-{
-    let m = n.0;
-    if m == 0 {
-        return &lines[..0];
-    }
-    if lines.len() / LINE_SIZE < m {
-        return &lines[..0];
-    }
-    let at = LINE_SIZE * (m - 1);
-    &lines[at..at + LINE_SIZE]
-}
-
-// What line n of an audit says of a sample of so many bytes; 30 where that line is not there.
-pub fn line_of(lines: &[u8], n: SampleNumber, size: usize) -> Line
-    ensures { λ r. ⌜ r ≡ lineSays (lineThere (now (lines .entry)) (n .0)) size ⌝ }
-{
-    let line = line_part(lines, n);
-    if line.len() == 0 {
-        return Line::Refused(Refusal {
-            number: refusals::NO_SUCH_NUMBER,
-            place: ByteOffset(0),
-        });
-    }
-    let refusal = numbers::byte(line, 0);
-    if refusal != 0 {
-        return Line::Refused(Refusal {
-            number: refusal,
-            place: ByteOffset(numbers::number(line, REFUSAL_SIZE, PLACE_SIZE)),
-        });
-    }
-    if size == 0 {
-        return Line::Empty;
-    }
-    Line::Passed(numbers::number(line, REFUSAL_SIZE + PLACE_SIZE, UNITS_SIZE))
 }

@@ -6,7 +6,6 @@
 --   fault-of                              the refusal number in it
 --   good-formed, good-border              a copy without a refusal: of a well-formed sample, without 26 and 27
 --   good-flat, good-whole                 its units are those of one walk, and whole
---   copy-few                              a copy has no more units, and no more bytes in them, than the sample has bytes
 --   place-refused, place-good, place-whole    where a copied unit stands; a unit that stands there is whole
 --   unit-past, unit-place                 its bytes
 use Prim.Native.Nat.{ℕ, _+_, _≤_, _<_}
@@ -31,8 +30,8 @@ use Rattle.copies.specs.Flat.{flatPlaces}
 use Rattle.copies.specs.Written.{refusedAmount, unchainedAmount, copyAmount, copiedPlace}
 use Rattle.words.proofs.Numbered.{nth-none, nth-other, nth-map, part-past}
 use Rattle.copies.proofs.Flat.{flat-good}
-use Rattle.copies.proofs.Copies.{copy-cut, copy-most, copied-flat}
-use Rattle.copies.proofs.Rest.{rest, rest-few}
+use Rattle.copies.proofs.Copies.{copy-cut, copied-flat}
+use Rattle.copies.proofs.Rest.{rest}
 
 module _ (z : Sample) where
   pub unit-past : (q : ℕ) → end z ≤ q → unitBytes z q ≡ []
@@ -82,16 +81,6 @@ module _ (z : Sample) where
       pub place-good : (i : ℕ) → copiedPlace z o n i ≡ nth (copied z o n) i (end z)
       unfolding copiedPlace copyUnits
       place-good i = rw (eq-eqb _ 0 g)
-
-    -- a copy has no more units, and no more bytes in them, than the sample has bytes
-    pub copy-few : (copyAmount z o n .count ≤ end z) × (copyAmount z o n .bytes ≤ end z)
-    unfolding copyAmount
-    copy-few = by-bool (copyFault z o n ≡? 0)
-        (λ t. let g = eqb-true _ _ t in
-        let f = rest-few z o (copyEnd z o n) (copy-cut z o n (good-border g) (good-formed g)) in
-        let m = copy-most z o n (good-border g) (good-formed g) in
-        rw (t, good-flat g) (omega arith, omega arith))
-        (λ t. rw t (omega arith, omega arith))
 
     pub place-refused : (i : ℕ) → (copyFault z o n ≡ 0 → ⊥) → copiedPlace z o n i ≡ end z
     unfolding copiedPlace copyUnits

@@ -3,19 +3,15 @@
 --   rest                                   the units from p up to e, aggregators dropped
 --   rest-end, rest-skip, rest-take         none; those after an aggregator's head; p and those after it
 --   walking-skip, walking-take             the walk goes on after an aggregator's head, or after another unit
---   rest-few                               there are no more units, and no more bytes in them, than bytes up to e
 --   Counted, counted-start, -skip, -found, -take, -end    a loop that counts units and their bytes and looks for extractors
 --   Finding, finding-start, -skip, -found, -take, -end    a loop that looks for the ith unit
-use Prim.Native.Nat.{ℕ, zero, suc, _+_, _-_, _≤_, _<_}
+use Prim.Native.Nat.{ℕ, _+_, _-_, _≤_, _<_}
 use mathlib.Core.Path.{_≡_, refl, ap, sym, _∙_}
 use mathlib.Core.List.{List, [], _∷_, map}
 use mathlib.Core.Bool.{true, false}
 use native.Mathlib.Omega.{arith}
 use native.Mathlib.Nat.{pos-of-ne-zero}
-use borrow.Author.Tests.{leb-true, leb-false}
-use lib.Dec.{leb}
 use lib.ListN.{length}
-use Rattle.words.proofs.Tests.{by-bool}
 use Rattle.words.specs.Lists.{keep, some, sum, nth}
 use Rattle.words.specs.RefusalNumbers.{extractorCopied}
 use Rattle.numbers.proofs.Laws.{L-some}
@@ -48,19 +44,6 @@ module _ (x : Sample) where
 
     pub walking-take : isAggregator x p ≡ false → Walking x e (next x p)
     walking-take t = rw (flat-other x p t) at (walking-next x e p w h)
-
-  -- the units that are left are no more, and have no more bytes, than what is left up to e
-  few : (k e p : ℕ) → e - p ≤ k → Walking x e p → (p + length (rest e p) ≤ e) × (p + sum (map (size x) (rest e p)) ≤ e)
-  unfolding sum
-  few zero e p l w = let i = w .inside in rw (rest-end e p (omega arith)) (omega arith, omega arith)
-  few (suc k) e p l w = by-bool (leb e p)
-      (λ t. let i = w .inside in rw (rest-end e p (leb-true e p t)) (omega arith, omega arith))
-      (λ t. let h = leb-false e p t in let b = L-some (x .lengthSize) in by-bool (isAggregator x p)
-      (λ g. let f = few k e (includedStart x p) (omega arith) (walking-skip e p w h g) in rw (rest-skip e p h g) (omega arith, omega arith))
-      (λ g. let f = few k e (next x p) (omega arith) (walking-take e p w h g) in rw (rest-take e p h g) (omega arith, omega arith)))
-
-  pub rest-few : (a e : ℕ) → BetweenBorders x a e → (length (rest e a) ≤ e) × (sum (map (size x) (rest e a)) ≤ e)
-  rest-few a e s = let f = few e e a (omega arith) (walking-start x a e s) in (omega arith, omega arith)
 
   -- count units with bytes in all from a up to p, no extractor among them
   pub record Counted (a e p count bytes : ℕ) : Type 0 where

@@ -3,10 +3,12 @@
 --   Copies      where a copy starts and ends, the units in it, refusals 25 to 28
 --   Extracted   a copied unit as a part of the sample that it is copied from
 --   Flat        all units of a sample as one walk
---   Written     what code says of a copy, and what is written of it
+--   Written     what code says of a copy
+--   Range       where a copy ends, for code that goes over it unit by unit
 --   Rules       the rules of a copy in plain facts, for laws
 pub mod Copies
 pub mod Extracted
 pub mod Flat
 pub mod Written
 pub mod Rules
+pub mod Range

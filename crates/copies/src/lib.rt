@@ -1,17 +1,18 @@
 // What an extractor copies of the sample that it names.
+pub mod range;
+
 ghost use mathlib.Core.Path.{_≡_};
 ghost use mathlib.Core.Bool.{true};
-ghost use Prim.Native.Nat.{_+_, _≤_};
+ghost use Prim.Native.Nat.{_≤_};
 ghost use lib.ListN.{length};
 ghost use Rattle.words.specs.Refusals.{ok};
 ghost use Rattle.words.specs.Lists.{nth};
-ghost use Rattle.words.specs.Buffers.{put};
 ghost use Rattle.units.specs.Units.{sample, next, border};
 ghost use Rattle.samples.specs.Check.{check};
 ghost use Rattle.copies.specs.Copies.{copyStarts, copyEnd, copyEnds, borderFault, copyFault};
 ghost use Rattle.copies.specs.Extracted.{copiedUnit, extracted};
 ghost use Rattle.copies.specs.Flat.{unitsBetween, BetweenBorders};
-ghost use Rattle.copies.specs.Written.{listed, refusedAmount, unchainedAmount, copyAmount, copyBytes, copiedPlace, putCount};
+ghost use Rattle.copies.specs.Written.{refusedAmount, unchainedAmount, copyAmount, copiedPlace};
 use numbers::ByteOffset;
 use numbers::LengthSize;
 use numbers::refusals;
@@ -23,10 +24,10 @@ use units::Track;
 pub const LENGTH_BEFORE: usize = 4;
 
 // What is counted of a copy: its refusal number, 0 for none; the number of its units; the number of their bytes.
-pub struct CopyAmount {
-    pub fault: u8,
-    pub count: usize,
-    pub bytes: usize,
+struct CopyAmount {
+    fault: u8,
+    count: usize,
+    bytes: usize,
 }
 
 // Where the next unit starts, after a unit that lies in the sample.
@@ -76,7 +77,7 @@ fn copy_ends(k: Track, z: &[u8], from: usize, length: usize) -> bool
 }
 
 // 26, then 27.
-fn border_fault(k: Track, z: &[u8], from: usize, length: usize) -> u8
+pub(crate) fn border_fault(k: Track, z: &[u8], from: usize, length: usize) -> u8
     requires { ⌜ check (sample k (now z)) ≡ ok tt ⌝ }
     ensures { λ r. ⌜ r ≡ borderFault (sample k (now (z .entry))) from length ⌝ }
 {
@@ -90,7 +91,7 @@ fn border_fault(k: Track, z: &[u8], from: usize, length: usize) -> u8
 }
 
 // Where a copy ends.
-fn copy_end(k: Track, z: &[u8], from: usize, length: usize) -> usize
+pub(crate) fn copy_end(k: Track, z: &[u8], from: usize, length: usize) -> usize
     requires { ⌜ (check (sample k (now z)) ≡ ok tt) × (borderFault (sample k (now z)) from length ≡ 0) ⌝ }
     ensures { λ r. ⌜ r ≡ copyEnd (sample k (now (z .entry))) from length ⌝ }
 {
@@ -161,7 +162,7 @@ fn copy_formed(k: Track, z: &[u8], from: usize, length: usize) -> CopyAmount
 
 // A copy of a sample by data_offset and data_length: 25 to 28, or its units counted.
 // The sample is checked once; then one walk goes over its top-level units up to the end of the copy, and one over the units copied.
-pub fn copy_amount(k: Track, z: &[u8], offset: ByteOffset, length: usize) -> CopyAmount
+fn copy_amount(k: Track, z: &[u8], offset: ByteOffset, length: usize) -> CopyAmount
     ensures { λ r. ⌜ r ≡ copyAmount (sample k (now (z .entry))) (offset .0) length ⌝ }
 {
     let checked = samples::check_sample(k, z);
@@ -172,7 +173,7 @@ pub fn copy_amount(k: Track, z: &[u8], offset: ByteOffset, length: usize) -> Cop
 }
 
 // The refusal number of a copy, 25 to 28; 0 for none.
-pub fn copy_fault(k: Track, z: &[u8], offset: ByteOffset, length: usize) -> u8
+fn copy_fault(k: Track, z: &[u8], offset: ByteOffset, length: usize) -> u8
     ensures { λ r. ⌜ r ≡ copyFault (sample k (now (z .entry))) (offset .0) length ⌝ }
 {
     let c = copy_amount(k, z, offset, length);
@@ -206,7 +207,7 @@ fn place_among(k: Track, z: &[u8], from: usize, to: usize, i: usize) -> usize
 }
 
 // Where the ith copied unit from 1 stands; the end of the sample where the copy is refused, or has no such unit.
-pub fn copied_place(k: Track, z: &[u8], offset: ByteOffset, length: usize, i: usize) -> ByteOffset
+fn copied_place(k: Track, z: &[u8], offset: ByteOffset, length: usize, i: usize) -> ByteOffset
     ensures { λ r. ⌜ r .0 ≡ copiedPlace (sample k (now (z .entry))) (offset .0) length i ⌝ }
 {
     if copy_fault(k, z, offset, length) != 0 {
@@ -254,63 +255,4 @@ pub fn extracted<'a>(
         MaybeExtractor::Extractor(f) => copied_unit(kz, z, f.data_offset, f.data_length, i),
         MaybeExtractor::Nothing => &z[..0],
     }
-}
-
-// The units from a border up to a border, aggregators dropped, each after its length in 4 bytes, over a buffer that has room for them.
-fn put_units(out: &mut [u8], at: usize, k: Track, z: &[u8], from: usize, to: usize)
-    requires { ⌜ BetweenBorders (sample k (now z)) from to
-        × (at + length (listed (sample k (now z)) (unitsBetween (sample k (now z)) from to)) ≤ length (now out)) ⌝ }
-    ensures { λ _. ⌜ now (out .exit) ≡ put (now (out .entry)) at
-        (listed (sample k (now (z .entry))) (unitsBetween (sample k (now (z .entry))) from to)) ⌝ }
-{
-    let l = k.length_size;
-    let n = l.bytes();
-    let mut next = at;
-    let mut u = from;
-    while u < to {
-        if units::type_at(k, z, ByteOffset(u)) == units::AGGREGATOR {
-            u = u + n + LengthSize::HEADER + n;
-        } else {
-            let size = l.number(z, u);
-            let start = u + n;
-            let end = start + size;
-            numbers::put_number(out, next, LENGTH_BEFORE, size);
-            numbers::put_bytes(out, next + LENGTH_BEFORE, &z[start..end]);
-            next = next + LENGTH_BEFORE + size;
-            u = end;
-        }
-    }
-}
-
-// Each copied unit after its length in 4 bytes, over a buffer from a place on; the number of bytes written.
-// Nothing is written where the copy is refused, or does not fit there.
-pub fn put_copy(
-    out: &mut [u8],
-    at: usize,
-    k: Track,
-    z: &[u8],
-    offset: ByteOffset,
-    length: usize,
-) -> usize
-    ensures { λ r. ⌜ (r ≡ putCount (now (out .entry)) at (copyBytes (sample k (now (z .entry))) (offset .0) length))
-        × (now (out .exit) ≡ put (now (out .entry)) at (copyBytes (sample k (now (z .entry))) (offset .0) length)) ⌝ }
-{
-    let c = copy_amount(k, z, offset, length);
-    if c.fault != 0 {
-        return 0;
-    }
-    if out.len() < at {
-        return 0;
-    }
-    let room = out.len() - at;
-    if room / LENGTH_BEFORE < c.count {
-        return 0;
-    }
-    let lengths = LENGTH_BEFORE * c.count;
-    if room - lengths < c.bytes {
-        return 0;
-    }
-    let end = copy_end(k, z, offset.0, length);
-    put_units(out, at, k, z, offset.0, end);
-    lengths + c.bytes
 }

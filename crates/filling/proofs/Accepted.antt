@@ -6,8 +6,9 @@ use Prim.Native.Nat.{ℕ, _+_, _*_, _≤_, _<_}
 use mathlib.Core.Path.{_≡_, refl, ap, sym, _∙_}
 use mathlib.Core.List.{List, [], _∷_}
 use native.Mathlib.Omega.{arith}
-use borrow.Author.Tests.{le-leb, lt-leb}
+use borrow.Author.Tests.{le-ltb, lt-ltb}
 use lib.ListN.{length}
+use Rattle.words.specs.RefusalNumbers.{outputTooLong}
 use Rattle.words.specs.Refusals.{ok}
 use Rattle.words.specs.Buffers.{writeAt}
 use Rattle.bundles.specs.Recordings.{Layout, sampleCount}
@@ -18,7 +19,7 @@ use Rattle.bundles.specs.Bundles.{bundleVerdict, layoutOf, recordingOf, meaning
 use Rattle.bundles.specs.Readers.{firstLayout}
 use Rattle.bundles.proofs.Sections.{track-count, reference-count, sample-count}
 use Rattle.tables.specs.Tables.{columns, countsRow, trackRow, referenceRow, sampleRow, tableSize}
-use Rattle.filling.specs.declared.Filled.the-variants.{NoRoom, Done}
+use Rattle.filling.specs.declared.Filled.the-variants.{Refused, Done}
 use Rattle.filling.specs.Filling.{writeRows, trackCells, referenceCells, sampleCells, tableOf, needed, filling, tableAfter}
 
 module _ (b : List ℕ) where
@@ -57,10 +58,10 @@ module _ (b : List ℕ) where
     need-is : needed (recordingOf b) ≡ tableSize m
     need-is = rw (layout-is, samples-are, e)
 
-    pub short-here : length t < tableSize m → (NoRoom (tableSize m) ≡ filling firstLayout b (length t)) × (t ≡ tableAfter firstLayout b t)
+    pub short-here : length t < tableSize m → (Refused (record { number = outputTooLong; place = record { 0 = 0 } }) ≡ filling firstLayout b (length t)) × (t ≡ tableAfter firstLayout b t)
     unfolding filling tableAfter
-    short-here h = rw (means-here good, need-is, lt-leb (tableSize m) (length t) h) (refl, refl)
+    short-here h = rw (means-here good, need-is, lt-ltb (length t) (tableSize m) h) (refl, refl)
 
     pub done-here : {x : List ℕ} → tableSize m ≤ length t → x ≡ tableOf (recordingOf b) (contentAt b) t → (Done ≡ filling firstLayout b (length t)) × (x ≡ tableAfter firstLayout b t)
     unfolding filling tableAfter
-    done-here h w = rw (means-here good, need-is, le-leb (tableSize m) (length t) h) (refl, w)
+    done-here h w = rw (means-here good, need-is, le-ltb (length t) (tableSize m) h) (refl, w)

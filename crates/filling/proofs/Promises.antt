@@ -7,21 +7,27 @@
 --   table-ranges       and each track's samples
 --   table-starts       and where each sample starts in the bundle
 --   table-kept-counts    its kept counts are 0
---   table-refused, table-no-room    a refused bundle and a table without room leave it as it was
+--   table-refused      after a refusal the table is as it was
 --   table-room         `tableMost` numbers are enough for every accepted bundle
---   says-refused, says-done, never-short    what the answer of filling says; with so many numbers it is never that there is no room
+--   says-refused, says-done    what the answer of filling says: with `tableMost` numbers a refusal is the bundle's own
+--   never-short        which is never 29
 --   table-short, table-accepted, table-means    a table that was filled: the bundle is not too long, is accepted, and the table gives its recording
 --   any-range          in any table, a track's range is the track's samples in the layout that the table says
 --   any-kept-count           in any table, a count that is kept changes nothing that the table says or gives
 use Prim.Native.Nat.{ℕ, suc, _+_, _-_, _≤_, _<_}
 use mathlib.Core.Path.{_≡_, refl, ap, sym, _∙_}
+use mathlib.Core.Bool.{false}
 use mathlib.Core.List.{List, []}
 use native.Mathlib.Omega.{arith}
 use native.Mathlib.Numerals.{add-one}
 use borrow.Author.Tests.{le-leb}
 use lib.ListN.{length, getD, take}
+use Rattle.words.specs.RefusalNumbers.{outputTooLong, bundleRefusals}
 use Rattle.words.specs.Refusals.{refused, ok}
-use Rattle.words.specs.Lists.{sum}
+use Rattle.words.specs.Tests.{_≡?_}
+use Rattle.words.specs.Lists.{_∈_, sum, some}
+use Rattle.words.proofs.Tests.{true-false}
+use Rattle.words.proofs.Lists.{some-mem}
 use Rattle.words.proofs.Refusals.{and-ok}
 use Rattle.words.proofs.Positions.{part-length}
 use Rattle.words.proofs.Splices.{take-sum}
@@ -31,13 +37,13 @@ use Rattle.bundles.specs.Recordings.{Layout, Recording, sampleCount, samplesIn}
 use Rattle.bundles.specs.Samples.{lengths}
 use Rattle.bundles.specs.Bundles.{bundleVerdict, recordingOf, meaning, contentsAt, contentAt}
 use Rattle.bundles.specs.Readers.{firstLayout}
-use Rattle.bundles.proofs.Promises.{means, limits-kept, samples-ordered, samples-tile, samples-all, sum-exact}
+use Rattle.bundles.proofs.Promises.{means, refusals-within, limits-kept, samples-ordered, samples-tile, samples-all, sum-exact}
 use Rattle.bundles.proofs.Checking.{refused-there}
 use Rattle.tables.specs.Tables.{tableMost, layoutIn, recordingIn, rangeIn, numbersIn, startIn, inside, keptCountIn, withKeptCount}
 use Rattle.tables.proofs.Ranges.{range-samples}
 use Rattle.tables.proofs.KeptCounts.{kept-count-layout, kept-count-recording}
-use Rattle.filling.specs.declared.Filled.the-variants.{Refused, NoRoom, Done}
-use Rattle.filling.specs.Filling.{needed, filling, tableAfter}
+use Rattle.filling.specs.declared.Filled.the-variants.{Refused, Done}
+use Rattle.filling.specs.Filling.{needed, held, filling, tableAfter}
 use Rattle.filling.proofs.Recording.{Tabled}
 use Rattle.filling.proofs.Reading as any
 
@@ -83,29 +89,32 @@ module _ (b t : List ℕ) (r : Recording) (means-r : meaning b ≡ ok r) (done :
   table-kept-counts = any.table-kept-counts firstLayout b t r means-r (tabled b r means-r) done
 
 -- the table as it was
-pub table-refused : (b t : List ℕ) (n p : ℕ) → bundleVerdict b ≡ refused n p → tableAfter firstLayout b t ≡ t
-unfolding tableAfter meaning
-table-refused b t n p e = rw e
-
-pub table-no-room : (b t : List ℕ) (n : ℕ) → filling firstLayout b (length t) ≡ NoRoom n → tableAfter firstLayout b t ≡ t
+pub table-refused : (b t : List ℕ) (f : Refusal) → filling firstLayout b (length t) ≡ Refused f → tableAfter firstLayout b t ≡ t
 unfolding tableAfter filling
-table-no-room b t n e = any.no-room (meaning b) (contentAt b) n t e
+table-refused b t f e = any.untouched (held (length t) (meaning b)) (contentAt b) t f e
 
 pub table-room : (b : List ℕ) (r : Recording) → meaning b ≡ ok r → needed r ≤ tableMost
 table-room b r e = let f = limits-kept b r e .samples in omega arith
 
 -- what the answer says
-pub says-refused : (b : List ℕ) (room : ℕ) (f : Refusal) → filling firstLayout b room ≡ Refused f → bundleVerdict b ≡ refused (f .number) (f .place .0)
+pub says-refused : (b : List ℕ) (room : ℕ) (f : Refusal) → tableMost ≤ room → filling firstLayout b room ≡ Refused f → bundleVerdict b ≡ refused (f .number) (f .place .0)
 unfolding filling meaning
-says-refused b room f e = refused-there (recordingOf b) (bundleVerdict b) (sym (any.refused-answer (meaning b) room f e))
+says-refused b room f h e =
+    let same = any.held-same room (meaning b) (λ r g. let x = table-room b r g in omega arith) in
+    refused-there (recordingOf b) (bundleVerdict b) (sym (any.refused-answer (meaning b) f (rw same at e)))
 
 pub says-done : (b : List ℕ) (room : ℕ) → filling firstLayout b room ≡ Done → bundleVerdict b ≡ ok tt
 unfolding filling
 says-done b room e = means b (any.done-answer (meaning b) room e .1) .0
 
-pub never-short : (b : List ℕ) (room n : ℕ) → tableMost ≤ room → filling firstLayout b room ≡ NoRoom n → ⊥
-unfolding filling
-never-short b room n h e = any.short-answer (meaning b) room n (λ r g. let f = table-room b r g in omega arith) e
+not-room : outputTooLong ∈ bundleRefusals → ⊥
+unfolding some
+not-room m = true-false false (some-mem (λ n. outputTooLong ≡? n) bundleRefusals m refl) refl
+
+pub never-short : (b : List ℕ) (room : ℕ) (f : Refusal) → tableMost ≤ room → filling firstLayout b room ≡ Refused f → f .number ≡ outputTooLong → ⊥
+never-short b room f h e z =
+    let n : f .number ∈ bundleRefusals = refusals-within b (f .number) (f .place .0) (says-refused b room f h e) .number in
+    not-room (rw z at n)
 
 -- any table
 pub any-range : (t : List ℕ) (k : ℕ) → 0 < k → samplesIn (layoutIn t) k ≡ numbersIn (rangeIn t k)

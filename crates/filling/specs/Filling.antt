@@ -7,13 +7,16 @@
 --   referenceCells y i         of reference i: from-track, to-track
 --   sampleCells r starts n     of sample n: its decode time, where its bytes start, how many they are
 --   tableOf r starts t         the whole table
---   filling reader b room      the answer: a refusal; for a table that is too small the size that is needed; or done
---   tableAfter reader b t      what is left in t: it changes only where the answer is done
+--   needed r                   how many numbers the table of a recording needs
+--   held room a                the answer a, but 29 at 0 where its recording's table needs more than the room
+--   filling reader b room      the answer: a refusal, or done
+--   tableAfter reader b t      what is left in t: t itself after a refusal
 use Prim.Native.Nat.{ℕ, _*_}
 use mathlib.Core.List.{List, [], _∷_}
 use lib.ListN.{length}
-use Rattle.words.specs.Tests.{_<?_, _≤?_, pick}
-use Rattle.words.specs.Refusals.{Answer, refused, ok}
+use Rattle.words.specs.Tests.{_<?_}
+use Rattle.words.specs.RefusalNumbers.{outputTooLong}
+use Rattle.words.specs.Refusals.{_if_, Answer, refused, ok, _atPlace_, _andThen_}
 use Rattle.words.specs.Lists.{keep, each, nth, upto}
 use Rattle.words.specs.Buffers.{writeAt}
 use Rattle.numbers.specs.Sizes.{inBytes}
@@ -21,7 +24,7 @@ use Rattle.bundles.specs.Recordings.{Layout, Recording, noTrack, noReference, s
 use Rattle.bundles.specs.Readers.{Reader}
 use Rattle.tables.specs.Tables.{columns, countsRow, trackRow, referenceRow, sampleRow, tableSize, numberOfKind}
 use Rattle.filling.specs.declared.Filled.{Filled}
-use Rattle.filling.specs.declared.Filled.the-variants.{Refused, NoRoom, Done}
+use Rattle.filling.specs.declared.Filled.the-variants.{Refused, Done}
 
 unfoldable pub writeRows : List ℕ → ℕ → (ℕ → List ℕ) → ℕ → List ℕ
 writeRows t row cells n = writeAt t (row * columns) (each cells (upto n))
@@ -54,21 +57,24 @@ module _ (r : Recording) (starts : ℕ → ℕ) where
       let references = writeRows tracks (referenceRow 1) (referenceCells y) (length (y .references)) in
       writeRows references (sampleRow 1) sampleCells (sampleCount y)
 
--- how many numbers the table of a recording needs
 abbrev pub needed : Recording → ℕ
 needed r = tableSize (sampleCount (r .layout))
 
-abbrev pub fillAnswer : Answer Recording → ℕ → Filled
-fillAnswer (refused n p) room = Refused (record { number = n; place = record { 0 = p } })
-fillAnswer (ok r) room = pick (needed r ≤? room) Done (NoRoom (needed r))
+abbrev pub held : ℕ → Answer Recording → Answer Recording
+held room (refused n p) = refused n p
+held room (ok r) = (outputTooLong if room <? needed r) atPlace 0 andThen ok r
+
+abbrev pub fillAnswer : Answer Recording → Filled
+fillAnswer (refused n p) = Refused (record { number = n; place = record { 0 = p } })
+fillAnswer (ok r) = Done
 
 abbrev pub fillTable : Answer Recording → (ℕ → ℕ) → List ℕ → List ℕ
 fillTable (refused n p) starts t = t
-fillTable (ok r) starts t = pick (needed r ≤? length t) (tableOf r starts t) t
+fillTable (ok r) starts t = tableOf r starts t
 
 module _ (reader : Reader) (b : List ℕ) where
   unfoldable pub filling : ℕ → Filled
-  filling room = fillAnswer (reader .means b) room
+  filling room = fillAnswer (held room (reader .means b))
 
   unfoldable pub tableAfter : List ℕ → List ℕ
-  tableAfter t = fillTable (reader .means b) (reader .contentAt b) t
+  tableAfter t = fillTable (held (length t) (reader .means b)) (reader .contentAt b) t

@@ -16,9 +16,11 @@ ghost use Rattle.tables.specs.Tables.{columns, trackRow, referenceRow, sampleRo
 ghost use Rattle.filling.specs.Filling.{samplesBefore, trackCells, referenceCells, sampleCells, writeRows, filling, tableAfter};
 use bundles::Checked;
 use bundles::fields;
+use numbers::ByteOffset;
 use numbers::Kind;
 use numbers::MaybeKind;
 use numbers::Refusal;
+use numbers::refusals;
 
 // The rows of the first track, of the first reference and of the first sample.
 const FIRST_TRACK: usize = tables::COUNTS_ROW + 1;
@@ -29,10 +31,8 @@ const FIRST_SAMPLE: usize = tables::SAMPLE_ROW + 1;
 
 // What filling a table answers.
 pub enum Filled {
-    // the bundle is refused, and the table as it was
+    // the bundle is refused, or 29 at 0: the table is too small. The table is as it was
     Refused(Refusal),
-    // the table is too small, and as it was: how many numbers it needs
-    NoRoom(usize),
     Done,
 }
 
@@ -154,9 +154,9 @@ fn fill_samples(b: &[u8], t: &mut [u64], start: usize, n: usize)
     let mut i: usize = 0;
     while i < n {
         let time = numbers::number(b, p + fields::TIME_OFFSET, fields::TIME_SIZE);
-        let length = numbers::number(b, p + fields::LENGTH_OFFSET, fields::SAMPLE_LENGTH_SIZE);
-        put_row(t, FIRST_SAMPLE + i, time, place, length);
-        place += length;
+        let size = numbers::number(b, p + fields::LENGTH_OFFSET, fields::SAMPLE_LENGTH_SIZE);
+        put_row(t, FIRST_SAMPLE + i, time, place, size);
+        place += size;
         p += fields::ENTRY_SIZE;
         i += 1;
     }
@@ -174,7 +174,10 @@ fn fill_accepted(b: &[u8], t: &mut [u64]) -> Filled
     let samples = numbers::number(b, samples_at, fields::SAMPLE_COUNT_SIZE);
     let needed = (tables::SAMPLE_ROW + (samples + 1)) * tables::COLUMNS;
     if t.len() < needed {
-        return Filled::NoRoom(needed);
+        return Filled::Refused(Refusal {
+            number: refusals::OUTPUT_TOO_LONG,
+            place: ByteOffset(0),
+        });
     }
     put_row(t, tables::COUNTS_ROW, tracks, references, samples);
     fill_tracks(b, t, samples_at + fields::SAMPLE_COUNT_SIZE, samples);
@@ -183,7 +186,8 @@ fn fill_accepted(b: &[u8], t: &mut [u64]) -> Filled
     Filled::Done
 }
 
-// The table of a bundle, filled in one more pass over its first three sections once it is accepted: see `Filled`.
+// The table of a bundle, filled in one more pass over its first three sections once it is accepted:
+// 1 to 13, 29, or done.
 pub fn fill_table(b: &[u8], t: &mut [u64]) -> Filled
     ensures { λ r. ⌜ (r ≡ filling firstLayout (now (b .entry)) (length (now (t .entry)))) × (now (t .exit) ≡ tableAfter firstLayout (now (b .entry)) (now (t .entry))) ⌝ }
 {

@@ -1,8 +1,10 @@
 -- What a judgement of a sample says. Assumes nothing.
 --
---   judgement-in      a bundle that is not too long
---   judgement-long    one that is
---   judged-refused, judged-good    a sample that is refused; one that is good, and how much it delivers
+--   judgement-long                 a bundle that is too long
+--   judgement-none, judgement-in   30 for the number; a number without it
+--   judged-refused                 30 or 14 to 28: so is any call on a good sample
+--   judged-sample                  14 to 28, where the number is good
+--   judged-number, judged-good     a sample that is good, and how much it delivers
 --   judged-size, judged-most       the length of its output, and that it fits a word
 use Prim.Native.Nat.{ℕ, _+_, _*_, _≤_, _<_}
 use mathlib.Core.Path.{_≡_, ap, sym, _∙_}
@@ -11,21 +13,21 @@ use native.Mathlib.Omega.{arith}
 use borrow.Author.Tests.{le-ltb, lt-ltb}
 use lib.ListN.{length}
 use Rattle.words.specs.RefusalNumbers.{bundleTooLong}
-use Rattle.words.specs.Refusals.{refused, ok}
-use Rattle.words.proofs.Refusals.{and-ok, by-verdict, ok-same, ok-refused}
+use Rattle.words.specs.Refusals.{Verdict, Answer, refused, ok, _andThen_, _atPlace_}
+use Rattle.words.proofs.Refusals.{at-ok, at-refused, and-ok, by-verdict, ok-same, ok-refused}
 use Rattle.bundles.specs.Limits.{bundleMost}
-use Rattle.bundles.specs.Recordings.{Recording}
+use Rattle.bundles.specs.Recordings.{Recording, sampleCount}
 use Rattle.tables.specs.Tables.{recordingIn}
 use Rattle.resolution_rules.specs.Resolving.{delivered, judged}
 use Rattle.copies.specs.Written.{lengthBefore}
-use Rattle.resolution_rules.specs.Calls.{output}
+use Rattle.resolution_rules.specs.Calls.{numberFault, onSample, onGood, output}
 use Rattle.resolution_rules.specs.Amounts.{ownBytes, copiedBytes}
 use Rattle.resolution_rules.proofs.Amounts.{delivered-size, output-bytes}
 use Rattle.resolution_rules.proofs.Good.{good-rules}
 use Rattle.resolution_rules.proofs.Sizes.{delivered-most}
-use Rattle.judging.specs.Steps.{judgement, judgementIn}
+use Rattle.delivery.proofs.Folds.{content-most}
+use Rattle.judging.specs.Steps.{amountFor, judgement, judgementIn}
 use Rattle.judging.specs.declared.Amount.{Amount}
-use Rattle.judging.proofs.Amounts.{contents-most}
 
 module _ (r : Recording) (n : ℕ) where
   judgement-refused : {m q : ℕ} → judgement r n ≡ refused m q → judged r n ≡ refused m q
@@ -41,24 +43,51 @@ module _ (r : Recording) (n : ℕ) where
       let s = ok-same (w .1) in
       (w .0, sym (ap (λ (b : Amount). b .count) s), sym (ap (λ (b : Amount). b .«own_bytes») s), sym (ap (λ (b : Amount). b .«copied_bytes») s))
 
+-- the refusal of a judgement is that of any call on a good sample
+on-refused : {A B : Type 0} {m q : ℕ} (v w : Verdict) (x : B) (a : Answer A) → (v andThen (w andThen ok x)) ≡ refused m q → (v andThen (w andThen a)) ≡ refused m q
+on-refused {A} {B} {m} {q} (refused c d) w x a e = let i : c ≡ m = cc in let j : d ≡ q = cc in rw (i, j)
+on-refused {A} {B} {m} {q} (ok u) (refused c d) x a e = let i : c ≡ m = cc in let j : d ≡ q = cc in rw (i, j)
+on-refused (ok u) (ok w) x a e = ok-refused (sym e)
+
 module _ (b t : List ℕ) (n : ℕ) where
   abbrev R : Recording
   R = recordingIn b t
 
-  pub judgement-in : length b ≤ bundleMost → judgementIn b t n ≡ judgement (recordingIn b t) n
-  unfolding judgementIn
-  judgement-in h = rw (le-ltb bundleMost (length b) h)
+  abbrev Fault : ℕ
+  Fault = numberFault (sampleCount (recordingIn b t .layout)) n
 
   pub judgement-long : bundleMost < length b → judgementIn b t n ≡ refused bundleTooLong 0
   unfolding judgementIn
   judgement-long h = rw (lt-ltb bundleMost (length b) h)
 
-  pub judged-refused : length b ≤ bundleMost → {m q : ℕ} → judgementIn b t n ≡ refused m q → judged (recordingIn b t) n ≡ refused m q
-  judged-refused h e = judgement-refused (recordingIn b t) n (sym (judgement-in h) ∙ e)
+  module _ (h : length b ≤ bundleMost) where
+    short : judgementIn b t n ≡ onSample R n (judgement R n)
+    unfolding judgementIn
+    short = rw (le-ltb bundleMost (length b) h)
+
+    pub judgement-none : {f : ℕ} → f ≡ numberFault (sampleCount (recordingIn b t .layout)) n → (f ≡ 0 → ⊥) → judgementIn b t n ≡ refused f 0
+    judgement-none e z = short ∙ rw (at-refused 0 e z)
+
+    pub judgement-in : numberFault (sampleCount (recordingIn b t .layout)) n ≡ 0 → judgementIn b t n ≡ judgement (recordingIn b t) n
+    judgement-in g = short ∙ rw g
+
+    -- 30, or 14 to 28: so is any call on a good sample; 14 to 28 where the number is good
+    pub judged-refused : {m q : ℕ} → judgementIn b t n ≡ refused m q → {A : Type 0} (a : Answer A) → onGood (recordingIn b t) n a ≡ refused m q
+    unfolding judgement
+    judged-refused e a = on-refused (Fault atPlace 0) (judged R n) (amountFor R n) a (sym short ∙ e)
+
+    pub judged-sample : numberFault (sampleCount (recordingIn b t .layout)) n ≡ 0 → {m q : ℕ} → judgementIn b t n ≡ refused m q → judged (recordingIn b t) n ≡ refused m q
+    judged-sample g e = judgement-refused R n (sym (judgement-in g) ∙ e)
 
   module _ (h : length b ≤ bundleMost) (a : Amount) (e : judgementIn b t n ≡ ok a) where
+    both : (Fault atPlace 0 ≡ ok tt) × (judgement R n ≡ ok a)
+    both = and-ok (Fault atPlace 0) (judgement R n) (sym (short h) ∙ e)
+
+    pub judged-number : numberFault (sampleCount (recordingIn b t .layout)) n ≡ 0
+    judged-number = at-ok Fault 0 (both .0)
+
     pub judged-good : (judged R n ≡ ok tt) × (a .count ≡ length (delivered R n)) × (a .«own_bytes» ≡ ownBytes R n) × (a .«copied_bytes» ≡ copiedBytes R n)
-    judged-good = judgement-good R n a (sym (judgement-in h) ∙ e)
+    judged-good = judgement-good R n a (both .1)
 
     -- the length of the output follows, and fits a word
     pub judged-size : a .«own_bytes» + a .«copied_bytes» + lengthBefore * a .count ≡ length (output R (delivered R n))
@@ -67,5 +96,5 @@ module _ (b t : List ℕ) (n : ℕ) where
     pub judged-most : a .«own_bytes» + a .«copied_bytes» + lengthBefore * a .count ≤ 1125899906842624
     judged-most =
         let w = judged-good in
-        let m = delivered-most R n (good-rules R n (w .0)) bundleMost (λ k. let l = contents-most b t k in omega arith) in
+        let m = delivered-most R n (good-rules R n (w .0)) bundleMost (λ k. let l = content-most b t k in omega arith) in
         rw (w .1, w .2, w .3) (rw (delivered-size R n) at m)

@@ -1,8 +1,6 @@
 -- Laws for the code that judges a sample.
 --
---   Amounts      what the steps of the code give for a unit
---   Counting     a walk over all units that judges and counts
+--   Counting     units and their bytes counted, own and copied
 --   Judgements   what a judgement says
-pub mod Amounts
 pub mod Counting
 pub mod Judgements

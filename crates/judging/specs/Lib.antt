@@ -1,4 +1,4 @@
 -- The code that judges a sample, in the words of the crate resolution_rules.
 --
---   Steps   the steps of the code, over the recording that a table gives
+--   Steps   what the code answers
 pub mod Steps

@@ -41,7 +41,7 @@ use Rattle.filling.proofs.Promises.{table-accepted, table-means}
 use Rattle.resolution_rules.specs.Resolving.{own}
 use Rattle.resolution_rules.specs.Calls.{numberFault}
 use Rattle.resolution_rules.proofs.Sizes.{units-count}
-use Rattle.judging.proofs.Amounts.{contents-most}
+use Rattle.delivery.proofs.Folds.{content-most}
 use Rattle.naming_list_rules.specs.Naming.{Namer, namer, namesSample, namersIn, namingList, entrySize, listBytes, names, namesCall}
 use Rattle.naming_list_rules.proofs.Listing.{list-size}
 use Rattle.naming_list.proofs.Namers.{namers-not, list-none, list-append}
@@ -144,7 +144,7 @@ module _ (b t₀ : List ℕ) (s : ℕ) where
     pub counting-fits : (f ≤ bundleMost) × (count + f ≤ (n + 1) * bundleMost)
     counting-fits =
         let a = namers-few R s (n + 1) in
-        let m = contents-most b t₀ (n + 1) in
+        let m = content-most b t₀ (n + 1) in
         let g = found in
         let k = c .few in
         (omega arith, omega arith)
@@ -255,7 +255,7 @@ pub list-few : (b t : List ℕ) (s : ℕ) → length b ≤ bundleMost → length
 unfolding recordingIn
 list-few b t s h =
     let r = recordingIn b t in
-    let a = sofar-few r s bundleMost (λ k. let j = contents-most b t k in omega arith) (sampleCount (layoutIn t)) in
+    let a = sofar-few r s bundleMost (λ k. let j = content-most b t k in omega arith) (sampleCount (layoutIn t)) in
     let m = samples-most t in
     let e = ap length (sofar-all r s) in
     omega arith

@@ -5,12 +5,10 @@
 --   namersFrom y s n x p the units from p on that do
 --   listMost             more bytes no list has
 --   withEntry o at n p   an entry over a buffer
---   answerOf             the code's answer in these words
 use Prim.Native.Nat.{ℕ, _+_, _*_}
 use mathlib.Core.List.{List}
 use mathlib.Core.Bool.{Bool, false, _&&_}
 use Rattle.words.specs.Tests.{_≡?_, pick}
-use Rattle.words.specs.Refusals.{Answer, refused, ok}
 use Rattle.words.specs.Lists.{keep}
 use Rattle.words.specs.Bytes.{bytes}
 use Rattle.words.specs.Buffers.{put}
@@ -25,8 +23,6 @@ use Rattle.links.specs.Links.{sampleNamed, nameFault}
 use Rattle.copies.specs.Flat.{flatPlaces}
 use Rattle.numbers.specs.Places.{placeSize}
 use Rattle.naming_list_rules.specs.Naming.{sampleSize, entrySize}
-use Rattle.naming_list.specs.declared.Listed.{Listed}
-use Rattle.naming_list.specs.declared.Listed.the-variants.{Refused, Count}
 
 module _ (y : Layout) (s n : ℕ) where
   unfoldable pub namesWith : fields.Extractor → Bool
@@ -51,7 +47,3 @@ withEntry o at n p = put (put o at (bytes sampleSize n)) (at + sampleSize) (byte
 
 abbrev pub listMost : ℕ
 listMost = sampleMost * bundleMost * entrySize
-
-abbrev pub answerOf : Listed → Answer ℕ
-answerOf (Refused f) = refused (f .number) (f .place .0)
-answerOf (Count n) = ok n

@@ -6,6 +6,7 @@ ghost use lib.ListN.{length};
 ghost use Rattle.words.specs.Tests.{pick};
 ghost use Rattle.words.specs.Refusals.{refused, ok};
 ghost use Rattle.words.specs.Buffers.{writeAt, overwrite, within, Wrote};
+ghost use Rattle.numbers.specs.Answers.{answerOf};
 ghost use Rattle.units.specs.Units.{sample};
 ghost use Rattle.samples.specs.Check.{check};
 ghost use Rattle.bundles.specs.Limits.{bundleMost};
@@ -13,7 +14,8 @@ ghost use Rattle.bundles.specs.Recordings.{sampleCount};
 ghost use Rattle.bundles.specs.Readers.{firstLayout};
 ghost use Rattle.tables.specs.Tables.{tableMost, layoutIn, recordingIn, keptCountIn};
 ghost use Rattle.naming_list_rules.specs.Naming.{namer, namersIn, namingList, entrySize, listBytes, names, namesCall};
-ghost use Rattle.naming_list.specs.Steps.{namesWith, namesAt, namersFrom, listMost, withEntry, answerOf};
+ghost use Rattle.naming_list.specs.Entries.{entryIn};
+ghost use Rattle.naming_list.specs.Steps.{namesWith, namesAt, namersFrom, listMost, withEntry};
 use filling::Filled;
 use links::Named;
 use numbers::ByteOffset;
@@ -21,6 +23,7 @@ use numbers::LengthSize;
 use numbers::PLACE_SIZE;
 use numbers::Refusal;
 use numbers::SampleNumber;
+use numbers::Written;
 use numbers::refusals;
 use samples::Checked;
 use units::Extractor;
@@ -30,12 +33,24 @@ use units::Track;
 // An entry of the list: the number of the extractor's own sample in 2 bytes, its place there in 4.
 const SAMPLE_SIZE: usize = 2;
 
-const ENTRY_SIZE: usize = SAMPLE_SIZE + PLACE_SIZE;
+pub const ENTRY_SIZE: usize = SAMPLE_SIZE + PLACE_SIZE;
 
-// The naming list of a sample: how many bytes of the output are written, or a refusal.
-pub enum Listed {
-    Refused(Refusal),
-    Count(usize),
+// An extractor of the list: its own sample, and its place there.
+pub struct Entry {
+    pub sample: SampleNumber,
+    pub place: ByteOffset,
+}
+
+// What an entry's bytes say.
+pub fn entry_of(entry: &[u8]) -> Entry
+    ensures { λ r. ⌜ r ≡ entryIn (now (entry .entry)) ⌝ }
+{
+    let sample = numbers::number(entry, 0, SAMPLE_SIZE);
+    let place = numbers::number(entry, SAMPLE_SIZE, PLACE_SIZE);
+    Entry {
+        sample: SampleNumber(sample),
+        place: ByteOffset(place),
+    }
 }
 
 // Whether an extractor in sample n names sample s.
@@ -131,7 +146,7 @@ fn count_in(b: &[u8], t: &[u64], n: SampleNumber, s: SampleNumber) -> usize
     requires { ⌜ length (now b) ≤ bundleMost ⌝ }
     ensures { λ r. ⌜ r ≡ length (namersIn (recordingIn (now (b .entry)) (now (t .entry))) (s .0) (n .0)) ⌝ }
 {
-    let k = judging::track_of(t, n);
+    let k = delivery::track_of(t, n);
     let x = tables::sample_bytes(b, t, n);
     let checked = samples::check_sample(k, x);
     match checked {
@@ -175,7 +190,7 @@ fn put_list(out: &mut [u8], b: &[u8], t: &[u64], s: SampleNumber)
     while n < total {
         n += 1;
         if tables::kept_count(t, SampleNumber(n)) != 0 {
-            let k = judging::track_of(t, SampleNumber(n));
+            let k = delivery::track_of(t, SampleNumber(n));
             let x = tables::sample_bytes(b, t, SampleNumber(n));
             let found = put_namers(out, at, t, SampleNumber(n), k, x, s);
             at += found * ENTRY_SIZE;
@@ -184,17 +199,17 @@ fn put_list(out: &mut [u8], b: &[u8], t: &[u64], s: SampleNumber)
 }
 
 // A refusal at 0.
-fn refused(number: u8) -> Listed
+fn refused(number: u8) -> Written
     ensures { λ r. ⌜ answerOf r ≡ refused number 0 ⌝ }
 {
-    Listed::Refused(Refusal {
+    Written::Refused(Refusal {
         number: number,
         place: ByteOffset(0),
     })
 }
 
 // The naming list of sample s: 30, 29, or the list over the start of the buffer.
-fn list_sample(b: &[u8], t: &mut [u64], s: SampleNumber, out: &mut [u8]) -> Listed
+fn list_sample(b: &[u8], t: &mut [u64], s: SampleNumber, out: &mut [u8]) -> Written
     requires { ⌜ (length (now b) ≤ bundleMost) × (tableMost ≤ length (now t)) ⌝ }
     ensures { λ r. ⌜ Wrote (now (out .entry)) (now (out .exit)) (answerOf r)
         (within (length (now (out .entry))) (names (recordingIn (now (b .entry)) (now (t .entry))) (s .0))) ⌝ }
@@ -209,20 +224,18 @@ fn list_sample(b: &[u8], t: &mut [u64], s: SampleNumber, out: &mut [u8]) -> List
         return refused(refusals::OUTPUT_TOO_LONG);
     }
     put_list(out, b, t, s);
-    Listed::Count(size)
+    Written::Count(size)
 }
 
 // The extractors that name sample s: 1 to 13, 30, 29; or the list over the start of the buffer, 6 bytes an extractor, and how many bytes
 // that is. After a refusal the buffer is as it was.
-pub fn names(b: &[u8], s: SampleNumber, out: &mut [u8]) -> Listed
+pub fn names(b: &[u8], s: SampleNumber, out: &mut [u8]) -> Written
     ensures { λ r. ⌜ Wrote (now (out .entry)) (now (out .exit)) (answerOf r) (namesCall firstLayout (now (b .entry)) (s .0) (length (now (out .entry)))) ⌝ }
 {
     let mut t = [0u64; tables::TABLE_SIZE];
     let filled = filling::fill_table(b, &mut t);
     match filled {
-        Filled::Refused(f) => Listed::Refused(f),
-        // does not come: the table has room for any bundle
-        Filled::NoRoom(_) => refused(refusals::OUTPUT_TOO_LONG),
+        Filled::Refused(f) => Written::Refused(f),
         Filled::Done => list_sample(b, &mut t, s, out),
     }
 }

@@ -5,9 +5,8 @@ ghost use Rattle.resolution_rules.specs.Calls.{resolveCall, placeCall};
 ghost use Rattle.naming_list_rules.specs.Naming.{namesCall};
 ghost use Rattle.puddockle.specs.Returns.{ReturnedOutput, ReturnedPart};
 use crate::refusal;
-use naming_list::Listed;
 use numbers::SampleNumber;
-use resolution::Resolved;
+use numbers::Written;
 use resolution::UnitPlaced;
 
 #[no_mangle]
@@ -25,8 +24,8 @@ pub extern "C" fn puddockle_resolve(
     *count = 0;
     let resolved = resolution::resolve(bundle, SampleNumber(sample as usize), out);
     match resolved {
-        Resolved::Refused(f) => refusal::refused(f, place),
-        Resolved::Count(n) => {
+        Written::Refused(f) => refusal::refused(f, place),
+        Written::Count(n) => {
             *count = n as u64;
             0
         }
@@ -40,20 +39,20 @@ pub extern "C" fn puddockle_unit(
     unit: u64,
     place: &mut u64,
     start: &mut u64,
-    length: &mut u64,
+    size: &mut u64,
 ) -> u32
-    ensures { λ r. ⌜ ReturnedPart r (now (place .exit)) (now (start .exit)) (now (length .exit)) (placeCall firstLayout (now (bundle .entry)) sample unit) ⌝ }
+    ensures { λ r. ⌜ ReturnedPart r (now (place .exit)) (now (start .exit)) (now (size .exit)) (placeCall firstLayout (now (bundle .entry)) sample unit) ⌝ }
 {
     *place = 0;
     *start = 0;
-    *length = 0;
+    *size = 0;
     let placed = resolution::unit_place(bundle, SampleNumber(sample as usize), unit as usize);
     match placed {
         UnitPlaced::Refused(f) => refusal::refused(f, place),
         UnitPlaced::Part(u) => {
             let at = u.start;
             *start = at.0 as u64;
-            *length = u.size as u64;
+            *size = u.size as u64;
             0
         }
     }
@@ -74,8 +73,8 @@ pub extern "C" fn puddockle_names(
     *count = 0;
     let listed = naming_list::names(bundle, SampleNumber(sample as usize), out);
     match listed {
-        Listed::Refused(f) => refusal::refused(f, place),
-        Listed::Count(size) => {
+        Written::Refused(f) => refusal::refused(f, place),
+        Written::Count(size) => {
             *count = size as u64;
             0
         }

@@ -5,8 +5,7 @@ ghost use Rattle.words.specs.Buffers.{leaves};
 ghost use Rattle.record_numbers.specs.Numbers.{readNumbers, writeNumbers};
 ghost use Rattle.puddockle.specs.Returns.{Returned, ReturnedOutput};
 use crate::refusal;
-use record_numbers::Numbered;
-use record_writer::Written;
+use numbers::Written;
 
 #[no_mangle]
 pub extern "C" fn puddockle_read_record(
@@ -21,8 +20,8 @@ pub extern "C" fn puddockle_read_record(
     *place = 0;
     let numbered = record_numbers::read(kind, record, fields);
     match numbered {
-        Numbered::Refused(f) => refusal::refused(f, place),
-        Numbered::Count(_) => 0,
+        Written::Refused(f) => refusal::refused(f, place),
+        Written::Count(_) => 0,
     }
 }
 

@@ -4,15 +4,14 @@ mod writing;
 
 ghost use lib.ListN.{length};
 ghost use Rattle.words.specs.Buffers.{Wrote};
-ghost use Rattle.record_writer.specs.Answers as written;
+ghost use Rattle.numbers.specs.Answers.{answerOf};
 ghost use Rattle.record_numbers.specs.Numbers.{readNumbers, writeNumbers};
-ghost use Rattle.record_numbers.specs.Answers.{answerOf};
 use numbers::ByteOffset;
 use numbers::Kind;
 use numbers::MaybeKind;
 use numbers::Refusal;
+use numbers::Written;
 use numbers::refusals;
-use record_writer::Written;
 use records::Reading;
 
 // How many numbers a record is.
@@ -23,30 +22,24 @@ const TRAILER_NONE: u64 = 0;
 
 const TRAILER_PRESENT: u64 = 2;
 
-// A record read as numbers: how many are written, or a refusal.
-pub enum Numbered {
-    Refused(Refusal),
-    Count(usize),
-}
-
 // A record read as numbers, by a kind's number: 4, 8 to 13, 29; or the numbers over the start of the slice. After a refusal the slice is
 // as it was.
-pub fn read(kind: u32, s: &[u8], out: &mut [u64]) -> Numbered
+pub fn read(kind: u32, s: &[u8], out: &mut [u64]) -> Written
     ensures { λ r. ⌜ Wrote (now (out .entry)) (now (out .exit)) (answerOf r) (readNumbers kind (now (s .entry)) (length (now (out .entry)))) ⌝ }
 {
     let answer = records::read(kind, s);
     match answer {
-        Reading::Refused(f) => Numbered::Refused(f),
+        Reading::Refused(f) => Written::Refused(f),
         Reading::Accepted(r) => {
             if out.len() < NUMBER_COUNT {
-                return Numbered::Refused(Refusal {
+                return Written::Refused(Refusal {
                     number: refusals::OUTPUT_TOO_LONG,
                     place: ByteOffset(0),
                 });
             }
             let numbers = reading::numbers_of(r);
             reading::put_numbers(out, &numbers);
-            Numbered::Count(NUMBER_COUNT)
+            Written::Count(NUMBER_COUNT)
         }
     }
 }
@@ -61,7 +54,7 @@ pub fn write(
     extensions: &[u8],
     out: &mut [u8],
 ) -> Written
-    ensures { λ r. ⌜ Wrote (now (out .entry)) (now (out .exit)) (written.answerOf r) (writeNumbers kind (now (numbers .entry)) (now (sequences .entry)) (now (pictures .entry)) (now (extensions .entry)) (length (now (out .entry)))) ⌝ }
+    ensures { λ r. ⌜ Wrote (now (out .entry)) (now (out .exit)) (answerOf r) (writeNumbers kind (now (numbers .entry)) (now (sequences .entry)) (now (pictures .entry)) (now (extensions .entry)) (length (now (out .entry)))) ⌝ }
 {
     let known = Kind::from_number(kind);
     match known {

@@ -5,23 +5,18 @@ mod putting;
 ghost use mathlib.Core.Path.{_≡_};
 ghost use lib.ListN.{length};
 ghost use Rattle.words.specs.Buffers.{Wrote, within};
-ghost use Rattle.record_writer.specs.Answers.{answerOf};
+ghost use Rattle.numbers.specs.Answers.{answerOf};
 ghost use Rattle.record_writer.specs.Write.{writeAs, writeRecord};
 use numbers::ByteOffset;
 use numbers::Kind;
 use numbers::MaybeKind;
 use numbers::Refusal;
+use numbers::Written;
 use numbers::refusals;
 use records::Fields;
 
 // How many bytes of a record stand neither in sets nor in a trailer: its head, and the number of picture sets.
 const FRONT: usize = 7;
-
-pub enum Written {
-    Refused(Refusal),
-    // how many bytes
-    Count(usize),
-}
 
 // What is known of a trailer at the end of a record.
 struct Facts {

@@ -1,7 +1,7 @@
 // The audit of a bundle as text.
 use crate::text;
 use audit::Audited;
-use audit::Line;
+use audit_lines::Line;
 use numbers::SampleNumber;
 use tally::Tally;
 
@@ -29,7 +29,7 @@ fn print_lines(b: &[u8], t: &[u64], lines: &[u8]) {
     while n < total {
         n += 1;
         let x = tables::sample_bytes(b, t, SampleNumber(n));
-        print_line(n, audit::line_of(lines, SampleNumber(n), x.len()));
+        print_line(n, audit_lines::line_of(lines, SampleNumber(n), x.len()));
     }
 }
 

@@ -2,22 +2,18 @@
 ghost use mathlib.Core.Path.{_≡_};
 ghost use Rattle.report.specs.Input.{front};
 use crate::text;
-use naming_list::Listed;
 use numbers::SampleNumber;
-
-// An entry: the number of the extractor's own sample in 2 bytes, its place there in 4.
-const SAMPLE_SIZE: usize = 2;
-
-const PLACE_SIZE: usize = 4;
-
-const ENTRY_SIZE: usize = 6;
+use numbers::Written;
 
 // An entry, as `sample 2 at 0`.
 fn print_entry(entry: &[u8]) {
+    let e = naming_list::entry_of(entry);
+    let sample = e.sample;
+    let place = e.place;
     text::text(b"sample ");
-    text::number(numbers::number(entry, 0, SAMPLE_SIZE));
+    text::number(sample.0);
     text::text(b" at ");
-    text::number(numbers::number(entry, SAMPLE_SIZE, PLACE_SIZE));
+    text::number(place.0);
     text::end();
 }
 
@@ -25,11 +21,11 @@ fn print_entry(entry: &[u8]) {
 fn print_list(list: &[u8]) {
     let mut at: usize = 0;
     while at < list.len() {
-        if list.len() - at < ENTRY_SIZE {
+        if list.len() - at < naming_list::ENTRY_SIZE {
             return;
         }
-        print_entry(&list[at..at + ENTRY_SIZE]);
-        at += ENTRY_SIZE;
+        print_entry(&list[at..at + naming_list::ENTRY_SIZE]);
+        at += naming_list::ENTRY_SIZE;
     }
 }
 
@@ -44,10 +40,10 @@ fn first(s: &[u8], n: usize) -> &[u8]
 }
 
 // What was answered, with the list in the buffer that was lent.
-fn print_listed(listed: Listed, list: &[u8; 65536]) {
+fn print_listed(listed: Written, list: &[u8; 65536]) {
     match listed {
-        Listed::Refused(r) => text::refused(r),
-        Listed::Count(n) => print_list(first(list, n)),
+        Written::Refused(r) => text::refused(r),
+        Written::Count(n) => print_list(first(list, n)),
     }
 }
 

@@ -1,8 +1,8 @@
 -- What the calls answer, step by step as the code takes them. Assumes nothing.
 --
 --   number-some                            a number without 30
---   number-refused, sample-refused, room-refused, sample-resolved    a sample resolved
---   find-number, find-sample, find-past, find-good    one delivered unit
+--   sample-refused, room-refused, sample-resolved    a sample resolved
+--   find-refused, find-past, find-good    one delivered unit
 --   found-inside                           it lies in its sample
 --   part-same                              it is the part of the bundle that is promised
 --   filled-refused                         a bundle is refused as filling the table was
@@ -13,24 +13,27 @@ use mathlib.Core.Path.{_≡_, refl, ap, sym, _∙_}
 use mathlib.Core.List.{List}
 use native.Mathlib.Omega.{arith}
 use lib.ListN.{length}
-use Rattle.words.specs.Refusals.{Answer, refused, ok}
+use Rattle.words.specs.Refusals.{Answer, refused, ok, _andThen_, _atPlace_}
 use Rattle.words.specs.RefusalNumbers.{outputTooLong}
 use Rattle.words.specs.Lists.{nth}
 use Rattle.words.specs.Buffers.{within}
 use Rattle.words.proofs.Refusals.{at-ok, at-refused, and-ok, ok-same}
 use Rattle.words.proofs.Lists.{nth-mem}
 use Rattle.words.proofs.Buffers.{within-room, within-not}
+use Rattle.bundles.specs.Limits.{bundleMost}
 use Rattle.bundles.specs.Recordings.{Recording, sampleCount}
 use Rattle.numbers.specs.declared.Refusal.{Refusal}
 use Rattle.bundles.specs.Bundles.{recordingOf}
 use Rattle.bundles.specs.Readers.{Reader, firstLayout}
-use Rattle.tables.specs.Tables.{layoutIn, recordingIn, startIn}
+use Rattle.tables.specs.Tables.{tableMost, layoutIn, recordingIn, startIn}
 use Rattle.filling.specs.Filling.{filling, tableAfter}
 use Rattle.filling.specs.declared.Filled.the-variants.{Refused, Done}
 use Rattle.filling.proofs.Promises.{says-refused, table-accepted, table-means, table-starts, table-lays-out}
 use Rattle.resolution_rules.specs.Resolving.{Span, delivered, judged}
 use Rattle.resolution_rules.specs.Calls.{output, noSpan, numberFault, resolve, resolveUnit, placedBy, resolveCall, unitCall, placeCall, unitPart}
-use Rattle.resolution.specs.Steps.{foundBytes}
+use Rattle.resolution.specs.Answers.{foundBytes}
+use Rattle.judging.specs.Steps.{judgementIn}
+use Rattle.judging.proofs.Judgements.{judged-refused}
 use Rattle.resolution_rules.specs.Readers.{Sound}
 use Rattle.resolution_rules.proofs.Delivered.{Inside}
 use Rattle.resolution_rules.proofs.Good.{good-rules}
@@ -43,18 +46,20 @@ number-some count n e = by-count count n
     (λ h. let z = sym (number-bad count n h) ∙ e in absurd (omega arith))
     (λ h l. (h, l))
 
+-- 30, or 14 to 28
+module _ (b t : List ℕ) (n : ℕ) (h : length b ≤ bundleMost) {m q : ℕ} (e : judgementIn b t n ≡ refused m q) where
+  pub sample-refused : (room : ℕ) → within room (resolve (recordingIn b t) n) ≡ refused m q
+  unfolding resolve
+  sample-refused room = let r = recordingIn b t in ap (within room) (judged-refused b t n h e (ok (output r (delivered r n))))
+
+  pub find-refused : (i : ℕ) → resolveUnit (recordingIn b t) n i ≡ refused m q
+  unfolding resolveUnit
+  find-refused i = let r = recordingIn b t in judged-refused b t n h e (numberFault (length (delivered r n)) i atPlace 0 andThen ok (nth (delivered r n) i noSpan))
+
 module _ (r : Recording) (n : ℕ) where
   -- a sample resolved
   module _ (room : ℕ) where
-    pub number-refused : {f : ℕ} → f ≡ numberFault (sampleCount (r .layout)) n → (f ≡ 0 → ⊥) → within room (resolve r n) ≡ refused f 0
-    unfolding resolve
-    number-refused e h = rw (at-refused 0 e h)
-
     module _ (g : numberFault (sampleCount (r .layout)) n ≡ 0) where
-      pub sample-refused : {m q : ℕ} → judged r n ≡ refused m q → within room (resolve r n) ≡ refused m q
-      unfolding resolve
-      sample-refused e = rw (g, e)
-
       pub room-refused : judged r n ≡ ok tt → room < length (output r (delivered r n)) → within room (resolve r n) ≡ refused outputTooLong 0
       unfolding resolve
       room-refused e h = rw (g, e) (within-not room (output r (delivered r n)) h)
@@ -64,15 +69,7 @@ module _ (r : Recording) (n : ℕ) where
       sample-resolved e h = rw (g, e) (within-room room (output r (delivered r n)) h)
 
   module _ (i : ℕ) where
-    pub find-number : {f : ℕ} → f ≡ numberFault (sampleCount (r .layout)) n → (f ≡ 0 → ⊥) → resolveUnit r n i ≡ refused f 0
-    unfolding resolveUnit
-    find-number e h = rw (at-refused 0 e h)
-
     module _ (g : numberFault (sampleCount (r .layout)) n ≡ 0) where
-      pub find-sample : {m q : ℕ} → judged r n ≡ refused m q → resolveUnit r n i ≡ refused m q
-      unfolding resolveUnit
-      find-sample e = rw (g, e)
-
       module _ (j : judged r n ≡ ok tt) where
         pub find-past : {f : ℕ} → f ≡ numberFault (length (delivered r n)) i → (f ≡ 0 → ⊥) → resolveUnit r n i ≡ refused f 0
         unfolding resolveUnit
@@ -119,8 +116,8 @@ stands-same : (f g : ℕ → ℕ) (a : Answer Span) → ((u : Span) → a ≡ ok
 stands-same f g (refused m p) h = refl
 stands-same f g (ok u) h = rw (h u refl)
 
-pub filled-refused : (b : List ℕ) (room : ℕ) (f : Refusal) → filling firstLayout b room ≡ Refused f → firstLayout .means b ≡ refused (f .number) (f .place .0)
-filled-refused b room f e = verdict-refuses b (f .number) (f .place .0) (says-refused b room f e)
+pub filled-refused : (b : List ℕ) (room : ℕ) (f : Refusal) → tableMost ≤ room → filling firstLayout b room ≡ Refused f → firstLayout .means b ≡ refused (f .number) (f .place .0)
+filled-refused b room f h e = verdict-refuses b (f .number) (f .place .0) (says-refused b room f h e)
 
 -- a table that was filled
 module _ (b t : List ℕ) (done : filling firstLayout b (length t) ≡ Done) where

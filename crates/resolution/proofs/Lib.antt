@@ -1,8 +1,8 @@
 -- Laws for the code of resolving.
 --
---   Spans      one delivered unit, found by a walk
+--   Puts       units written, each after its length
+--   Seeks      a unit found by its number
 --   Answered   what the calls answer, as the code takes them
---   Output     what a sample delivers, written by a walk
-pub mod Spans
+pub mod Puts
+pub mod Seeks
 pub mod Answered
-pub mod Output

@@ -5,26 +5,21 @@ mod writing;
 ghost use mathlib.Core.Path.{_≡_};
 ghost use lib.ListN.{length};
 ghost use Rattle.words.specs.Buffers.{Wrote};
+ghost use Rattle.numbers.specs.Answers.{answerOf};
 ghost use Rattle.bundles.specs.Readers.{firstLayout};
 ghost use Rattle.resolution_rules.specs.Calls.{resolveCall, unitCall, placeCall, unitPart};
-ghost use Rattle.resolution.specs.Answers.{answerOf, unitAnswerOf, placeAnswerOf};
+ghost use Rattle.resolution.specs.Answers.{unitAnswerOf, placeAnswerOf};
+use delivery::Span;
 use filling::Filled;
 use numbers::ByteOffset;
 use numbers::Refusal;
 use numbers::SampleNumber;
-use numbers::refusals;
-
-// A delivered unit: which sample it stands in, where it starts there, after its length field, and its size.
-pub struct UnitSpan {
-    pub sample: SampleNumber,
-    pub start: ByteOffset,
-    pub size: usize,
-}
+use numbers::Written;
 
 // One delivered unit, or a refusal.
 pub enum UnitFound {
     Refused(Refusal),
-    Span(UnitSpan),
+    Span(Span),
 }
 
 // A part of the bundle: where it starts, and its size.
@@ -39,23 +34,15 @@ pub enum UnitPlaced {
     Part(UnitPart),
 }
 
-// A sample resolved: how many bytes of the output are written, or a refusal.
-pub enum Resolved {
-    Refused(Refusal),
-    Count(usize),
-}
-
 // A sample resolved: 1 to 13, 30, 14 to 28, 29; or each delivered unit after a 4-byte length, over the start of the buffer, and how many
 // bytes that is. After a refusal the buffer is as it was.
-pub fn resolve(b: &[u8], n: SampleNumber, out: &mut [u8]) -> Resolved
+pub fn resolve(b: &[u8], n: SampleNumber, out: &mut [u8]) -> Written
     ensures { λ r. ⌜ Wrote (now (out .entry)) (now (out .exit)) (answerOf r) (resolveCall firstLayout (now (b .entry)) (n .0) (length (now (out .entry)))) ⌝ }
 {
     let mut t = [0u64; tables::TABLE_SIZE];
     let filled = filling::fill_table(b, &mut t);
     match filled {
-        Filled::Refused(f) => Resolved::Refused(f),
-        // does not come: the table has room for any bundle
-        Filled::NoRoom(_) => writing::refused(refusals::OUTPUT_TOO_LONG),
+        Filled::Refused(f) => Written::Refused(f),
         Filled::Done => writing::resolve_sample(b, &t, n, out),
     }
 }
@@ -68,8 +55,6 @@ pub fn unit_answer(b: &[u8], n: SampleNumber, k: usize) -> UnitFound
     let filled = filling::fill_table(b, &mut t);
     match filled {
         Filled::Refused(f) => UnitFound::Refused(f),
-        // does not come: the table has room for any bundle
-        Filled::NoRoom(_) => finding::refused(refusals::NO_SUCH_NUMBER),
         Filled::Done => finding::find_unit(b, &t, n, k),
     }
 }
@@ -82,8 +67,6 @@ pub fn unit_bytes<'a>(b: &'a [u8], n: SampleNumber, k: usize) -> &'a [u8]
     let filled = filling::fill_table(b, &mut t);
     match filled {
         Filled::Refused(_) => &b[..0],
-        // does not come: the table has room for any bundle
-        Filled::NoRoom(_) => &b[..0],
         Filled::Done => finding::unit_part(b, &t, n, k),
     }
 }
@@ -96,8 +79,6 @@ pub fn unit_place(b: &[u8], n: SampleNumber, k: usize) -> UnitPlaced
     let filled = filling::fill_table(b, &mut t);
     match filled {
         Filled::Refused(f) => UnitPlaced::Refused(f),
-        // does not come: the table has room for any bundle
-        Filled::NoRoom(_) => finding::unplaced(refusals::NO_SUCH_NUMBER),
         Filled::Done => finding::place_unit(b, &t, n, k),
     }
 }

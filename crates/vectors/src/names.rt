@@ -1,14 +1,14 @@
 // The request `names`: the bytes of a bundle, a sample number, and the room for the naming list.
 use crate::print;
 use crate::request;
-use naming_list::Listed;
 use numbers::SampleNumber;
+use numbers::Written;
 
 // What was answered.
-fn print_listed(listed: Listed, out: &[u8; 100000]) {
+fn print_listed(listed: Written, out: &[u8; 100000]) {
     match listed {
-        Listed::Refused(r) => print::refused(r, out),
-        Listed::Count(n) => print::written(out, n),
+        Written::Refused(r) => print::refused(r, out),
+        Written::Count(n) => print::written(out, n),
     }
 }
 

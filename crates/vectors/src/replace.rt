@@ -3,9 +3,8 @@
 use crate::print;
 use crate::request;
 use bundles::Checked;
-use naming_list::Listed;
 use numbers::SampleNumber;
-use resolution::Resolved;
+use numbers::Written;
 
 // The size of an entry of the naming list, and of the sample number in it.
 const ENTRY_SIZE: usize = 6;
@@ -28,19 +27,19 @@ fn same(a: &[u8], b: &[u8]) -> bool {
 }
 
 // Whether two answers are the same.
-fn same_answer(a: Resolved, b: Resolved) -> bool {
+fn same_answer(a: Written, b: Written) -> bool {
     match a {
-        Resolved::Refused(r) => match b {
-            Resolved::Refused(q) => {
+        Written::Refused(r) => match b {
+            Written::Refused(q) => {
                 let there = r.place;
                 let here = q.place;
                 r.number == q.number && there.0 == here.0
             }
-            Resolved::Count(_) => false,
+            Written::Count(_) => false,
         },
-        Resolved::Count(n) => match b {
-            Resolved::Refused(_) => false,
-            Resolved::Count(m) => n == m,
+        Written::Count(n) => match b {
+            Written::Refused(_) => false,
+            Written::Count(m) => n == m,
         },
     }
 }
@@ -127,8 +126,8 @@ fn print_compared(b: &[u8], c: &[u8], total: usize, s: usize, list: &[u8]) {
         Checked::Accepted => (),
     }
     match naming_list::names(c, SampleNumber(s), &mut other) {
-        Listed::Refused(_) => print::text(b"LIST REFUSED"),
-        Listed::Count(n) => {
+        Written::Refused(_) => print::text(b"LIST REFUSED"),
+        Written::Count(n) => {
             if !same(list, request::part(&other, 0, n)) {
                 print::text(b"LIST DIFFERS");
                 return;
@@ -162,8 +161,8 @@ pub(crate) fn answer(fields: &[u8]) {
     let mut t = [0u64; tables::TABLE_SIZE];
     filling::fill_table(b, &mut t);
     match naming_list::names(b, SampleNumber(s), &mut list) {
-        Listed::Refused(r) => print::refusal(r),
-        Listed::Count(n) => replace(b, &t, s, given, request::part(&list, 0, n)),
+        Written::Refused(r) => print::refusal(r),
+        Written::Count(n) => replace(b, &t, s, given, request::part(&list, 0, n)),
     }
     print::end();
 }

@@ -2,13 +2,13 @@
 use crate::print;
 use crate::request;
 use numbers::SampleNumber;
-use resolution::Resolved;
+use numbers::Written;
 
 // What was answered.
-fn print_resolved(resolved: Resolved, out: &[u8; 100000]) {
+fn print_resolved(resolved: Written, out: &[u8; 100000]) {
     match resolved {
-        Resolved::Refused(r) => print::refused(r, out),
-        Resolved::Count(n) => print::written(out, n),
+        Written::Refused(r) => print::refused(r, out),
+        Written::Count(n) => print::written(out, n),
     }
 }
 

@@ -1,7 +1,7 @@
 // The request `writerec`: a kind, the room, the fields of a record and its sets.
 use crate::print;
 use crate::request;
-use record_writer::Written;
+use numbers::Written;
 use records::Fields;
 use records::Flag;
 use records::High;

@@ -1,4 +1,4 @@
--- A bundle that is refused is so by its own refusal; a table so long is never too short. Assumes nothing.
+-- A bundle that is refused is so by its own refusal; the table has room for any. Assumes nothing.
 use borrow.Author.Needs.{needs}
 use native.Mathlib.Omega.{arith}
 use mathlib.Core.Path.{sym, _∙_}
@@ -6,7 +6,7 @@ use lib.ListN.{length}
 use Rattle.audit.proofs.audit.Statement.{statement}
 use Rattle.words.proofs.Buffers.{refuse}
 use Rattle.bundles.specs.Readers.{firstLayout}
-use Rattle.filling.proofs.Promises.{says-refused, never-short, table-short}
+use Rattle.filling.proofs.Promises.{says-refused, table-short}
 use Rattle.resolution_rules.proofs.Readers.{verdict-refuses}
 use Rattle.audit_rules.proofs.Calls.{audit-bundle, tally-bundle}
 use Rattle.audit.proofs.Answered.{lines-filled, tally-filled}
@@ -24,35 +24,26 @@ enum-known-filled c = search needs
 enum-told : tie.Need-enum-told
 enum-told c = search needs
 
-refused-requires : tie.Need-refused-requires
-refused-requires c κs = search needs
-
-enum-told-2 : tie.Need-enum-told-2
-enum-told-2 c = search needs
-
 slice-aggregate-audit-accepted : tie.Need-slice-aggregate-audit-accepted
 slice-aggregate-audit-accepted c = search needs
 
 audit-accepted-requires : tie.Need-audit-accepted-requires
-audit-accepted-requires c κs = table-short _ _ (sym (c .before .before .before .before .before .fill-table .ensures .0) ∙ c .before .before .enum-told2 .given .1)
+audit-accepted-requires c κs = table-short _ _ (sym (c .before .before .before .before .before .fill-table .ensures .0) ∙ c .before .before .enum-told .given .1)
 
 returns : tie.Need-returns
 returns c =
     let a = c .before .before .before .before .before .before .before .before .args in
-    let v = verdict-refuses (a .b .now) _ _ (says-refused (a .b .now) _ (c .before .filled .given .0 .0) (sym (c .before .before .before .before .fill-table .ensures .0) ∙ c .before .filled .given .1)) in
+    let v = verdict-refuses (a .b .now) _ _ (says-refused (a .b .now) _ (c .before .filled .given .0 .0) (omega arith) (sym (c .before .before .before .before .fill-table .ensures .0) ∙ c .before .filled .given .1)) in
     (refuse (audit-bundle firstLayout (a .b .now) _ v), sym (tally-bundle firstLayout (a .b .now) _ v))
-
-returns-2 : tie.Need-returns-2
-returns-2 c = absurd (never-short _ _ _ (omega arith) (sym (c .before .before .before .before .fill-table .ensures .0) ∙ c .before .enum-told .given .1))
 
 same-length : tie.Need-same-length
 same-length c = search needs
 
-returns-3 : tie.Need-returns-3
-returns-3 c =
+returns-2 : tie.Need-returns-2
+returns-2 c =
     let a = c .before .before .before .before .before .before .before .before .before .before .before .before .args in
     let room = length (a .lines .now) in
-    let done = sym (c .before .before .before .before .before .before .before .before .fill-table .ensures .0) ∙ c .before .before .before .before .before .enum-told2 .given .1 in
+    let done = sym (c .before .before .before .before .before .before .before .before .fill-table .ensures .0) ∙ c .before .before .before .before .before .enum-told .given .1 in
     let e = c .before .before .audit-accepted .ensures in
     (rw (← lines-filled _ _ done (c .before .before .before .before .before .before .before .before .fill-table .ensures .1) room) (e .0), e .1 ∙ tally-filled _ _ done (c .before .before .before .before .before .before .before .before .fill-table .ensures .1) room)
 
@@ -64,11 +55,8 @@ audit-spec =
     fill-table-requires
     enum-known-filled
     enum-told
-    refused-requires
-    enum-told-2
     slice-aggregate-audit-accepted
     audit-accepted-requires
     returns
-    returns-2
     same-length
-    returns-3)
+    returns-2)

@@ -26,7 +26,7 @@ mul-audit-sample : tie.Need-mul-audit-sample Inv-loop μ-loop
 mul-audit-sample c = search needs
 
 audit-sample-requires : tie.Need-audit-sample-requires Inv-loop μ-loop
-audit-sample-requires c κs = let p = c .before .before .before .before .before .before .before .pre in let e = p .1 in (p .0, auditing-room _ _ _ _ _ (c .before .before .loop .inv) (omega arith))
+audit-sample-requires c κs = let p = c .before .before .before .before .before .before .before .pre in let e = p .1 in (p .0, auditing-room _ _ _ _ _ (c .before .before .loop .inv) (omega arith), omega arith, omega arith)
 
 add-done : tie.Need-add-done Inv-loop μ-loop
 add-done c = search needs

@@ -1,122 +1,81 @@
--- The loop's invariant: what was counted so far and what is left are all, and no extractor so far is refused. Assumes nothing.
+-- The loop's invariant: the units passed are counted. The steps fall by what is left. Assumes nothing.
 use borrow.Author.Needs.{needs}
 use native.Mathlib.Omega.{arith}
 use mathlib.Core.Path.{_≡_, sym, _∙_}
-use Prim.Native.Nat.{ℕ, _+_, _-_, _*_, _≤_}
-use lib.ListN.{length}
-use Rattle.bundles.specs.Limits.{bundleMost}
-use Rattle.judging.proofs.measure.Statement.{statement}
-use mathlib.Core.Bool.{true, false}
-use borrow.Author.Tests.{eq-eqb, ne-eqb}
-use Rattle.units.specs.Units.{Sample, sample, size, next, isAggregator}
-use Rattle.units.specs.Aggregators.{includedStart}
-use Rattle.units.proofs.Units.{next-after}
-use Rattle.samples.proofs.Walks.{next-is}
+use Prim.Native.Nat.{ℕ, _+_, _≤_}
+use Rattle.units.specs.Units.{sample}
 use Rattle.tables.specs.Tables.{recordingIn}
-use Rattle.bundles.specs.Recordings.{Recording}
-use Rattle.judging.proofs.Amounts.{contents-most}
-use Rattle.judging.proofs.Counting.{Passing, passing-skip, passing-take, Judging, judging-start, judging-skip, judging-fits, judging-few, judging-refused, judging-take, judging-end}
+use Rattle.delivery.specs.Deliveries.{unitFor, ownPart, copiedPart}
+use Rattle.delivery.proofs.Falling.{bound}
+use Rattle.delivery.proofs.Rests.{moved-less, unit-less}
+use Rattle.delivery.proofs.Folds.{Folded, folded-start, folded-moved}
+use Rattle.judging.proofs.Counting.{Counts, counts-none, counts-take, counts-fit, counts-refused, counts-end}
+use Rattle.judging.proofs.measure.Statement.{statement}
 use Rattle.judging.proofs.measure.Tie as tie
 
 abbrev Inv-loop : tie.InvT-loop
-Inv-loop b t n k x l w count₀ own₀ copied₀ p₀ count own copied p = Judging (recordingIn b t) (n .0) (sample k x) p count own copied
+Inv-loop b t n k x count₀ own₀ copied₀ c₀ count own copied c = Folded (recordingIn b t) (n .0) (sample k x) (Counts count own copied) c
 
 abbrev μ-loop : tie.MeasureT-loop
-μ-loop b t n k x l w count₀ own₀ copied₀ p₀ count own copied p = length x - p
+μ-loop b t n k x count₀ own₀ copied₀ c₀ count own copied c = bound (recordingIn b t) (sample k x) c
 
--- the sample, and the place of the unit at hand
-abbrev At : Type 0
-At = tie.In-loop Inv-loop μ-loop
+-- the sums fit
+fits : (c : tie.After-s3 Inv-loop μ-loop) → let s = c .before .before .before .loop in (s .count + 1 ≤ 281474993487872) × (s .own + ownPart (unitFor (c .s3 .given .0 .0)) ≤ 281474993487872) × (s .copied + copiedPart (unitFor (c .s3 .given .0 .0)) ≤ 281474993487872)
+fits c = counts-fit _ _ _ _ _ _ _ _ (c .before .before .before .loop .inv) (c .before .before .before .before .before .before .before .before .pre .0) (c .before .before .before .before .before .before .before .before .pre .2) (sym (c .before .before .step .ensures) ∙ c .s3 .given .1)
 
-abbrev X : At → Sample
-X c = sample (c .before .before .before .before .before .before .args .k) (c .before .before .before .before .before .before .args .x .now)
-
-abbrev R : At → Recording
-R c = recordingIn (c .before .before .before .before .before .before .args .b .now) (c .before .before .before .before .before .before .args .t .now)
-
-abbrev P : At → ℕ
-P c = c .before .loop .p
-
--- it is an aggregator, or another unit
-aggregator : (c : tie.Then1 Inv-loop μ-loop) → isAggregator (X (c .before .before)) (P (c .before .before)) ≡ true
-aggregator c = eq-eqb _ _ (sym (c .before .type-at .ensures) ∙ c .if1 .taken)
-
-other : (c : tie.Else1 Inv-loop μ-loop) → isAggregator (X (c .before .before)) (P (c .before .before)) ≡ false
-other c = ne-eqb _ _ (λ e. c .if1 .left (c .before .type-at .ensures ∙ e))
-
--- where the walk goes on
-skips : (c : tie.Then1 Inv-loop μ-loop) → Passing (R (c .before .before)) (c .before .before .before .before .before .before .before .before .args .n .0) (X (c .before .before)) (includedStart (X (c .before .before)) (P (c .before .before)))
-skips c = passing-skip _ _ _ _ (c .before .before .before .loop .inv .passing) (c .before .before .loop-test .taken) (aggregator c)
-
-takes : (c : tie.Else1 Inv-loop μ-loop) → next (X (c .before .before)) (P (c .before .before)) ≤ length (c .before .before .before .before .before .before .before .before .args .x .now)
-takes c = passing-take _ _ _ _ (c .before .before .before .loop .inv .passing) (c .before .before .loop-test .taken) (other c) .walking .inside
-
-few : (c : tie.Else2 Inv-loop μ-loop) → (c .before .before .amount-at .result .count ≤ bundleMost) × (c .before .before .amount-at .result .«own_bytes» + c .before .before .amount-at .result .«copied_bytes» ≤ bundleMost * 4)
-few c = judging-few _ _ _ _ _ _ _ (c .before .before .before .before .before .before .loop .inv) (c .before .before .before .before .before .loop-test .taken) (other (c .before .before .before)) (c .before .before .amount-at .ensures) (c .if2 .left)
-
-small : (c : tie.Else2 Inv-loop μ-loop) → (c .before .before .before .before .before .before .loop .count ≤ 281474976710656) × (c .before .before .before .before .before .before .loop .own-bytes + c .before .before .before .before .before .before .loop .copied-bytes ≤ 1125899906842624) × (length (c .before .before .before .before .before .before .before .before .before .before .before .args .x .now) ≤ bundleMost)
-small c = judging-fits _ _ _ _ _ _ _ (c .before .before .before .before .before .before .loop .inv)
-
-ends : (c : tie.After-number Inv-loop μ-loop) → P (c .before .before .before .before .before .before .before .before .before) + c .before .before .before .before .before .before .before .before .before .before .before .bytes .result + c .number .result ≡ next (X (c .before .before .before .before .before .before .before .before .before)) (P (c .before .before .before .before .before .before .before .before .before))
-ends c = let a = c .before .before .before .before .before .before .before .before .before .before .before .before .before .before .before .args in next-is (a .k) (a .x .now) _ _ _ (c .before .before .before .before .before .before .before .before .before .before .before .bytes .ensures .0) (c .number .ensures)
-
-bytes-requires : tie.Need-bytes-requires Inv-loop μ-loop
-bytes-requires c κs = search needs
+start-requires : tie.Need-start-requires Inv-loop μ-loop
+start-requires c κs = search needs
 
 loop-holds : tie.Need-loop-holds Inv-loop μ-loop
-loop-holds c = judging-start _ _ _ (c .before .before .before .before .pre .0) (c .before .before .before .before .pre .1) (λ m. let l = contents-most (c .before .before .before .before .args .b .now) (c .before .before .before .before .args .t .now) m in omega (arith, c .before .before .before .before .pre .2))
+loop-holds c = rw (c .start .ensures) (folded-start _ _ _ _ counts-none)
 
-type-at-requires : tie.Need-type-at-requires Inv-loop μ-loop
-type-at-requires c κs = search needs
+step-requires : tie.Need-step-requires Inv-loop μ-loop
+step-requires c κs = search needs
 
-add-p : tie.Need-add-p Inv-loop μ-loop
-add-p c = let w = skips c .walking in omega arith
-
-add-p-2 : tie.Need-add-p-2 Inv-loop μ-loop
-add-p-2 c = let w = skips c .walking in omega arith
-
-add-p-3 : tie.Need-add-p-3 Inv-loop μ-loop
-add-p-3 c = let w = skips c .walking in omega arith
-
-loop-less : tie.Need-loop-less Inv-loop μ-loop
-loop-less c = let w = skips c .walking in omega arith
-
-loop-again : tie.Need-loop-again Inv-loop μ-loop
-loop-again c = rw (c .before .before .before .before .bytes .ensures .0) (judging-skip _ _ _ _ _ _ _ (c .before .before .before .loop .inv) (c .before .before .loop-test .taken) (aggregator c))
-
-amount-at-requires : tie.Need-amount-at-requires Inv-loop μ-loop
-amount-at-requires c κs = search needs
+enum-told : tie.Need-enum-told Inv-loop μ-loop
+enum-told c = search needs
 
 returns : tie.Need-returns Inv-loop μ-loop
-returns c = sym (judging-refused _ _ _ _ _ _ _ (c .before .before .before .before .before .before .loop .inv) (c .before .before .before .before .before .loop-test .taken) (other (c .before .before .before)) (c .before .before .amount-at .ensures) (c .if2 .taken))
+returns c = sym (counts-end _ _ _ _ _ _ _ _ (c .before .before .before .loop .inv) (c .before .before .before .before .before .before .before .before .pre .0) (c .before .before .before .before .before .before .before .before .pre .1) (sym (c .before .before .step .ensures) ∙ c .enum-told .given .1))
 
-add-count : tie.Need-add-count Inv-loop μ-loop
-add-count c = let f = few (c .before) in let s = small (c .before) in omega arith
-
-add-own-bytes : tie.Need-add-own-bytes Inv-loop μ-loop
-add-own-bytes c = let f = few (c .before .before) in let s = small (c .before .before) in omega arith
-
-add-copied-bytes : tie.Need-add-copied-bytes Inv-loop μ-loop
-add-copied-bytes c = let f = few (c .before .before .before) in let s = small (c .before .before .before) in omega arith
-
-add-p-4 : tie.Need-add-p-4 Inv-loop μ-loop
-add-p-4 c = let w = takes (c .before .before .before .before .before .before) in let s = small (c .before .before .before) in omega arith
-
-number-requires : tie.Need-number-requires Inv-loop μ-loop
-number-requires c κs = search needs
-
-add-p-5 : tie.Need-add-p-5 Inv-loop μ-loop
-add-p-5 c = let w = takes (c .before .before .before .before .before .before .before) in let e = ends c in let s = small (c .before .before .before .before) in omega arith
-
-loop-less-2 : tie.Need-loop-less-2 Inv-loop μ-loop
-loop-less-2 c = let w = takes (c .before .before .before .before .before .before .before) in let e = ends c in let s = small (c .before .before .before .before) in let n = next-after (X (c .before .before .before .before .before .before .before .before .before)) (P (c .before .before .before .before .before .before .before .before .before)) in omega arith
-
-loop-again-2 : tie.Need-loop-again-2 Inv-loop μ-loop
-unfolding size
-loop-again-2 c = rw (c .number .ensures, c .before .before .before .before .before .before .before .before .before .before .before .bytes .ensures .0) (judging-take _ _ _ _ _ _ _ (c .before .before .before .before .before .before .before .before .before .before .loop .inv) (c .before .before .before .before .before .before .before .before .before .loop-test .taken) (other (c .before .before .before .before .before .before .before)) (c .before .before .before .before .before .before .amount-at .ensures) (c .before .before .before .before .if2 .left))
+enum-known-s : tie.Need-enum-known-s Inv-loop μ-loop
+enum-known-s c = search needs
 
 returns-2 : tie.Need-returns-2 Inv-loop μ-loop
-returns-2 c = sym (judging-end _ _ _ _ _ _ _ (c .before .loop .inv) (c .loop-test .left))
+returns-2 c = sym (counts-refused _ _ _ _ _ _ _ _ (c .before .before .before .before .loop .inv) (c .before .before .before .before .before .before .before .before .before .pre .0) (c .before .before .before .before .before .before .before .before .before .pre .1) (sym (c .before .before .before .step .ensures) ∙ c .before .s .given .1))
+
+enum-known-s-2 : tie.Need-enum-known-s-2 Inv-loop μ-loop
+enum-known-s-2 c = search needs
+
+loop-less : tie.Need-loop-less Inv-loop μ-loop
+loop-less c = moved-less _ _ _ _ (sym (c .before .before .before .step .ensures) ∙ c .before .s2 .given .1)
+
+loop-again : tie.Need-loop-again Inv-loop μ-loop
+loop-again c = folded-moved _ _ _ _ _ (c .before .before .before .before .loop .inv) (sym (c .before .before .before .step .ensures) ∙ c .before .s2 .given .1)
+
+enum-known-s-3 : tie.Need-enum-known-s-3 Inv-loop μ-loop
+enum-known-s-3 c = search needs
+
+add-count : tie.Need-add-count Inv-loop μ-loop
+add-count c = let f = fits (c .before) in omega arith
+
+own-part-requires : tie.Need-own-part-requires Inv-loop μ-loop
+own-part-requires c κs = search needs
+
+add-own : tie.Need-add-own Inv-loop μ-loop
+add-own c = let f = fits (c .before .before) in let e = c .own-part .ensures in omega arith
+
+copied-part-requires : tie.Need-copied-part-requires Inv-loop μ-loop
+copied-part-requires c κs = search needs
+
+add-copied : tie.Need-add-copied Inv-loop μ-loop
+add-copied c = let f = fits (c .before .before .before) in let e = c .copied-part .ensures in omega arith
+
+loop-less-2 : tie.Need-loop-less-2 Inv-loop μ-loop
+loop-less-2 c = let l = unit-less _ _ _ _ (sym (c .before .before .before .before .before .step .ensures) ∙ c .before .before .before .s3 .given .1) in omega arith
+
+loop-again-2 : tie.Need-loop-again-2 Inv-loop μ-loop
+loop-again-2 c = rw (c .before .own-part .ensures, c .copied-part .ensures) (counts-take _ _ _ _ _ _ _ _ (c .before .before .before .before .before .before .loop .inv) (sym (c .before .before .before .before .before .step .ensures) ∙ c .before .before .before .s3 .given .1))
 
 pub measure-spec : {M : Type 1} → statement M
 measure-spec =
@@ -124,22 +83,21 @@ measure-spec =
     (tie.spec
     Inv-loop
     μ-loop
-    bytes-requires
+    start-requires
     loop-holds
-    type-at-requires
-    add-p
-    add-p-2
-    add-p-3
+    step-requires
+    enum-told
+    returns
+    enum-known-s
+    returns-2
+    enum-known-s-2
     loop-less
     loop-again
-    amount-at-requires
-    returns
+    enum-known-s-3
     add-count
-    add-own-bytes
-    add-copied-bytes
-    add-p-4
-    number-requires
-    add-p-5
+    own-part-requires
+    add-own
+    copied-part-requires
+    add-copied
     loop-less-2
-    loop-again-2
-    returns-2)
+    loop-again-2)

@@ -8,7 +8,8 @@ use Rattle.units.specs.Units.{sample}
 use Rattle.samples.specs.Check.{answerOf}
 use Rattle.tables.specs.Tables.{recordingIn}
 use Rattle.resolution_rules.specs.Resolving.{sampleOf}
-use Rattle.judging.proofs.Amounts.{sample-from, contents-most}
+use Rattle.delivery.proofs.Steps.{sample-from}
+use Rattle.delivery.proofs.Folds.{content-most}
 use Rattle.naming_list.proofs.Namers.{namers-formed, namers-not}
 use Rattle.naming_list.proofs.count_in.Statement.{statement}
 use Rattle.naming_list.proofs.count_in.Tie as tie
@@ -38,7 +39,7 @@ slice-aggregate-put-namers c = search needs
 put-namers-requires : tie.Need-put-namers-requires
 put-namers-requires c κs =
     let a = c .before .before .before .before .before .before .before .before .args in
-    let m = contents-most (a .b .now) (a .t .now) (a .n .0) in
+    let m = content-most (a .b .now) (a .t .now) (a .n .0) in
     let l : length (c .before .before .before .before .sample-bytes .result .now) ≤ length (a .b .now) = rw (c .before .before .before .before .sample-bytes .ensures) m in
     let s = c .before .before .before .before .before .before .before .before .pre in
     (sym (c .before .before .before .check-sample .ensures) ∙ ap answerOf (c .before .enum-told2 .given .1), omega arith, omega arith)

@@ -1,11 +1,11 @@
--- A bundle that is refused is so by its own refusal; a table so long is never too short. Assumes nothing.
+-- A bundle that is refused is so by its own refusal; the table has room for any. Assumes nothing.
 use borrow.Author.Needs.{needs}
 use native.Mathlib.Omega.{arith}
 use mathlib.Core.Path.{sym, _∙_}
 use lib.ListN.{length}
 use Rattle.words.proofs.Buffers.{refuse}
 use Rattle.bundles.specs.Readers.{firstLayout}
-use Rattle.filling.proofs.Promises.{says-refused, never-short, table-short}
+use Rattle.filling.proofs.Promises.{says-refused, table-short}
 use Rattle.resolution_rules.proofs.Readers.{verdict-refuses}
 use Rattle.naming_list_rules.proofs.Calls.{names-bundle}
 use Rattle.naming_list.proofs.Listings.{call-filled}
@@ -24,31 +24,22 @@ enum-known-filled c = search needs
 enum-told : tie.Need-enum-told
 enum-told c = search needs
 
-refused-requires : tie.Need-refused-requires
-refused-requires c κs = search needs
-
-enum-told-2 : tie.Need-enum-told-2
-enum-told-2 c = search needs
-
 slice-aggregate-list-sample : tie.Need-slice-aggregate-list-sample
 slice-aggregate-list-sample c = search needs
 
 list-sample-requires : tie.Need-list-sample-requires
-list-sample-requires c κs = (table-short _ _ (sym (c .before .before .before .before .before .fill-table .ensures .0) ∙ c .before .before .enum-told2 .given .1), omega arith)
+list-sample-requires c κs = (table-short _ _ (sym (c .before .before .before .before .before .fill-table .ensures .0) ∙ c .before .before .enum-told .given .1), omega arith)
 
 returns : tie.Need-returns
 returns c =
     let a = c .before .before .before .before .before .before .before .before .args in
-    refuse (names-bundle firstLayout (a .b .now) (a .s .0) _ (verdict-refuses (a .b .now) _ _ (says-refused (a .b .now) _ (c .before .filled .given .0 .0) (sym (c .before .before .before .before .fill-table .ensures .0) ∙ c .before .filled .given .1))))
-
-returns-2 : tie.Need-returns-2
-returns-2 c = absurd (never-short _ _ _ (omega arith) (sym (c .before .before .before .before .fill-table .ensures .0) ∙ c .before .enum-told .given .1))
+    refuse (names-bundle firstLayout (a .b .now) (a .s .0) _ (verdict-refuses (a .b .now) _ _ (says-refused (a .b .now) _ (c .before .filled .given .0 .0) (omega arith) (sym (c .before .before .before .before .fill-table .ensures .0) ∙ c .before .filled .given .1))))
 
 same-length : tie.Need-same-length
 same-length c = search needs
 
-returns-3 : tie.Need-returns-3
-returns-3 c = let a = c .before .before .before .before .before .before .before .before .before .before .before .before .before .args in rw (← call-filled _ _ (sym (c .before .before .before .before .before .before .before .before .before .fill-table .ensures .0) ∙ c .before .before .before .before .before .before .enum-told2 .given .1) (c .before .before .before .before .before .before .before .before .before .fill-table .ensures .1) (a .s .0) (length (a .out .now))) (c .before .before .before .list-sample .ensures)
+returns-2 : tie.Need-returns-2
+returns-2 c = let a = c .before .before .before .before .before .before .before .before .before .before .before .before .before .args in rw (← call-filled _ _ (sym (c .before .before .before .before .before .before .before .before .before .fill-table .ensures .0) ∙ c .before .before .before .before .before .before .enum-told .given .1) (c .before .before .before .before .before .before .before .before .before .fill-table .ensures .1) (a .s .0) (length (a .out .now))) (c .before .before .before .list-sample .ensures)
 
 pub names-spec : {M : Type 1} → statement M
 names-spec =
@@ -58,11 +49,8 @@ names-spec =
     fill-table-requires
     enum-known-filled
     enum-told
-    refused-requires
-    enum-told-2
     slice-aggregate-list-sample
     list-sample-requires
     returns
-    returns-2
     same-length
-    returns-3)
+    returns-2)

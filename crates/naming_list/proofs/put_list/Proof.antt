@@ -12,7 +12,8 @@ use Rattle.bundles.specs.Recordings.{Recording, sampleCount}
 use Rattle.tables.specs.Tables.{layoutIn, recordingIn}
 use Rattle.tables.proofs.Layouts.{samples-most}
 use Rattle.resolution_rules.specs.Resolving.{sampleOf}
-use Rattle.judging.proofs.Amounts.{sample-from, contents-most}
+use Rattle.delivery.proofs.Steps.{sample-from}
+use Rattle.delivery.proofs.Folds.{content-most}
 use Rattle.naming_list_rules.specs.Naming.{namersIn, entrySize}
 use Rattle.naming_list.specs.Steps.{namersFrom}
 use Rattle.naming_list.proofs.Namers.{namers-formed}
@@ -59,9 +60,9 @@ few : (c : tie.In-loop Inv-loop μ-loop) → (c .before .loop .at ≤ c .before 
 few c =
     let a = c .before .before .before .before .before .before .args in
     let m = namers-few (R c) (a .s .0) (c .before .loop .n + 1) in
-    let l = contents-most (a .b .now) (a .t .now) (c .before .loop .n + 1) in
+    let l = content-most (a .b .now) (a .t .now) (c .before .loop .n + 1) in
     let h = c .before .before .before .before .before .before .pre .0 in
-    (putting-most _ _ _ bundleMost (λ k. let j = contents-most (a .b .now) (a .t .now) k in omega arith) _ _ _ (c .before .loop .inv), omega arith)
+    (putting-most _ _ _ bundleMost (λ k. let j = content-most (a .b .now) (a .t .now) k in omega arith) _ _ _ (c .before .loop .inv), omega arith)
 
 sample-count-requires : tie.Need-sample-count-requires Inv-loop μ-loop
 sample-count-requires c κs = search needs
@@ -84,7 +85,7 @@ sample-bytes-requires c κs = search needs
 put-namers-requires : tie.Need-put-namers-requires Inv-loop μ-loop
 put-namers-requires c κs =
     let a = c .before .before .before .before .before .before .before .before .before .before .before .args in
-    let m = contents-most (a .b .now) (a .t .now) (c .before .before .before .before .before .before .loop .n + 1) in
+    let m = content-most (a .b .now) (a .t .now) (c .before .before .before .before .before .before .loop .n + 1) in
     let l : length (c .before .sample-bytes .result .now) ≤ length (a .b .now) = rw (c .before .sample-bytes .ensures) m in
     let s = c .before .before .before .before .before .before .before .before .before .before .before .pre .0 in
     let f = few (c .before .before .before .before .before) in

@@ -1,4 +1,4 @@
--- A bundle that is refused is so by its own refusal; a table so long is never too short. Assumes nothing.
+-- A bundle that is refused is so by its own refusal; the table has room for any. Assumes nothing.
 use borrow.Author.Needs.{needs}
 use native.Mathlib.Omega.{arith}
 use mathlib.Core.Path.{sym, _∙_}
@@ -6,7 +6,7 @@ use lib.ListN.{length}
 use Rattle.resolution.proofs.resolve.Statement.{statement}
 use Rattle.words.proofs.Buffers.{refuse}
 use Rattle.bundles.specs.Readers.{firstLayout}
-use Rattle.filling.proofs.Promises.{never-short, table-short}
+use Rattle.filling.proofs.Promises.{table-short}
 use Rattle.resolution_rules.proofs.Calls.{call-bundle}
 use Rattle.resolution.proofs.Answered.{filled-refused, call-filled}
 use Rattle.resolution.proofs.resolve.Tie as tie
@@ -23,31 +23,22 @@ enum-known-filled c = search needs
 enum-told : tie.Need-enum-told
 enum-told c = search needs
 
-refused-requires : tie.Need-refused-requires
-refused-requires c κs = search needs
-
-enum-told-2 : tie.Need-enum-told-2
-enum-told-2 c = search needs
-
 slice-aggregate-resolve-sample : tie.Need-slice-aggregate-resolve-sample
 slice-aggregate-resolve-sample c = search needs
 
 resolve-sample-requires : tie.Need-resolve-sample-requires
-resolve-sample-requires c κs = table-short _ _ (sym (c .before .before .before .before .before .fill-table .ensures .0) ∙ c .before .before .enum-told2 .given .1)
+resolve-sample-requires c κs = table-short _ _ (sym (c .before .before .before .before .before .fill-table .ensures .0) ∙ c .before .before .enum-told .given .1)
 
 returns : tie.Need-returns
 returns c =
     let a = c .before .before .before .before .before .before .before .before .args in
-    refuse (call-bundle firstLayout (a .b .now) (a .n .0) _ (filled-refused (a .b .now) _ (c .before .filled .given .0 .0) (sym (c .before .before .before .before .fill-table .ensures .0) ∙ c .before .filled .given .1)))
-
-returns-2 : tie.Need-returns-2
-returns-2 c = absurd (never-short _ _ _ (omega arith) (sym (c .before .before .before .before .fill-table .ensures .0) ∙ c .before .enum-told .given .1))
+    refuse (call-bundle firstLayout (a .b .now) (a .n .0) _ (filled-refused (a .b .now) _ (c .before .filled .given .0 .0) (omega arith) (sym (c .before .before .before .before .fill-table .ensures .0) ∙ c .before .filled .given .1)))
 
 same-length : tie.Need-same-length
 same-length c = search needs
 
-returns-3 : tie.Need-returns-3
-returns-3 c = rw (← call-filled _ _ (sym (c .before .before .before .before .before .before .before .before .fill-table .ensures .0) ∙ c .before .before .before .before .before .enum-told2 .given .1) (c .before .before .before .before .before .before .before .before .fill-table .ensures .1) (c .before .before .before .before .before .before .before .before .before .before .before .before .args .n .0) (length (c .before .before .before .before .before .before .before .before .before .before .before .before .args .out .now))) (c .before .before .resolve-sample .ensures)
+returns-2 : tie.Need-returns-2
+returns-2 c = rw (← call-filled _ _ (sym (c .before .before .before .before .before .before .before .before .fill-table .ensures .0) ∙ c .before .before .before .before .before .enum-told .given .1) (c .before .before .before .before .before .before .before .before .fill-table .ensures .1) (c .before .before .before .before .before .before .before .before .before .before .before .before .args .n .0) (length (c .before .before .before .before .before .before .before .before .before .before .before .before .args .out .now))) (c .before .before .resolve-sample .ensures)
 
 pub resolve-spec : {M : Type 1} → statement M
 resolve-spec =
@@ -57,11 +48,8 @@ resolve-spec =
     fill-table-requires
     enum-known-filled
     enum-told
-    refused-requires
-    enum-told-2
     slice-aggregate-resolve-sample
     resolve-sample-requires
     returns
-    returns-2
     same-length
-    returns-3)
+    returns-2)

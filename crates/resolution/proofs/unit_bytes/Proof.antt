@@ -1,10 +1,10 @@
--- A bundle that is refused gives no bytes; a table so long is never too short. Assumes nothing.
+-- A bundle that is refused gives no bytes; the table has room for any. Assumes nothing.
 use borrow.Author.Needs.{needs}
 use native.Mathlib.Omega.{arith}
 use mathlib.Core.Path.{sym, ap, _∙_}
 use Rattle.resolution.proofs.unit_bytes.Statement.{statement}
 use Rattle.bundles.specs.Readers.{firstLayout}
-use Rattle.filling.proofs.Promises.{never-short, table-short}
+use Rattle.filling.proofs.Promises.{table-short}
 use Rattle.resolution_rules.specs.Calls.{unitPart}
 use Rattle.resolution_rules.proofs.Calls.{unit-bundle}
 use Rattle.resolution.proofs.Answered.{filled-refused, part-filled}
@@ -25,28 +25,19 @@ slice-aggregate-result c = search needs
 enum-told-2 : tie.Need-enum-told-2
 enum-told-2 c = search needs
 
-slice-aggregate-result-2 : tie.Need-slice-aggregate-result-2
-slice-aggregate-result-2 c = search needs
-
-enum-told-3 : tie.Need-enum-told-3
-enum-told-3 c = search needs
-
 slice-aggregate-unit-part : tie.Need-slice-aggregate-unit-part
 slice-aggregate-unit-part c = search needs
 
 unit-part-requires : tie.Need-unit-part-requires
-unit-part-requires c κs = table-short _ _ (sym (c .before .before .before .before .fill-table .ensures .0) ∙ c .before .enum-told3 .given .1)
+unit-part-requires c κs = table-short _ _ (sym (c .before .before .before .before .fill-table .ensures .0) ∙ c .before .enum-told2 .given .1)
 
 returns : tie.Need-returns
 returns c =
     let a = c .before .before .before .before .before .before .before .args in
-    sym (ap (unitPart firstLayout (a .b .now)) (unit-bundle firstLayout (a .b .now) (a .n .0) (a .k) (filled-refused (a .b .now) _ _ (sym (c .before .before .before .before .fill-table .ensures .0) ∙ c .before .enum-told .given .1))))
+    sym (ap (unitPart firstLayout (a .b .now)) (unit-bundle firstLayout (a .b .now) (a .n .0) (a .k) (filled-refused (a .b .now) _ _ (omega arith) (sym (c .before .before .before .before .fill-table .ensures .0) ∙ c .before .enum-told .given .1))))
 
 returns-2 : tie.Need-returns-2
-returns-2 c = absurd (never-short _ _ _ (omega arith) (sym (c .before .before .before .before .fill-table .ensures .0) ∙ c .before .enum-told2 .given .1))
-
-returns-3 : tie.Need-returns-3
-returns-3 c = c .unit-part .ensures ∙ part-filled _ _ (sym (c .before .before .before .before .before .fill-table .ensures .0) ∙ c .before .before .enum-told3 .given .1) (c .before .before .before .before .before .fill-table .ensures .1) _ _
+returns-2 c = c .unit-part .ensures ∙ part-filled _ _ (sym (c .before .before .before .before .before .fill-table .ensures .0) ∙ c .before .before .enum-told2 .given .1) (c .before .before .before .before .before .fill-table .ensures .1) _ _
 
 pub unit-bytes-spec : {M : Type 1} → statement M
 unit-bytes-spec =
@@ -57,10 +48,7 @@ unit-bytes-spec =
     enum-told
     slice-aggregate-result
     enum-told-2
-    slice-aggregate-result-2
-    enum-told-3
     slice-aggregate-unit-part
     unit-part-requires
     returns
-    returns-2
-    returns-3)
+    returns-2)

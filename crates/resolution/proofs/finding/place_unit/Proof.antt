@@ -5,8 +5,8 @@ use mathlib.Core.Path.{_≡_, sym, ap, _∙_}
 use Rattle.words.specs.Refusals.{ok}
 use Rattle.tables.specs.Tables.{recordingIn, startIn}
 use Rattle.resolution_rules.specs.Calls.{resolveUnit, placedBy}
-use Rattle.judging.proofs.Amounts.{contents-most}
-use Rattle.resolution.specs.Steps.{spanFor}
+use Rattle.delivery.proofs.Folds.{content-most}
+use Rattle.delivery.specs.Deliveries.{spanFor}
 use Rattle.resolution.specs.Answers.{unitAnswerOf}
 use Rattle.resolution.proofs.Answered.{found-inside, found-there}
 use Rattle.resolution.proofs.finding.place_unit.Statement.{statement}
@@ -37,7 +37,7 @@ add-start c =
     let i = found-inside r (a .n .0) (a .i) (spanFor u) (found (c .before .before .before)) in
     let w = found-there r (a .n .0) (a .i) (spanFor u) (found (c .before .before .before)) in
     let s = c .before .before .before .before .before .before .before .before .before .pre .1 (u .sample .0) (w .0) (w .1) in
-    let m = contents-most (a .b .now) (a .t .now) (u .sample .0) in
+    let m = content-most (a .b .now) (a .t .now) (u .sample .0) in
     let l = c .before .before .before .before .before .before .before .before .before .pre .0 in
     let e = c .before .before .sample-start .ensures in
     omega arith

@@ -8,7 +8,7 @@ use Rattle.resolution.proofs.finding.unit_part.Statement.{statement}
 use Rattle.tables.specs.Tables.{recordingIn}
 use Rattle.words.specs.Refusals.{ok}
 use Rattle.resolution_rules.specs.Calls.{resolveUnit}
-use Rattle.resolution.specs.Steps.{spanFor}
+use Rattle.delivery.specs.Deliveries.{spanFor}
 use Rattle.resolution.specs.Answers.{unitAnswerOf}
 use Rattle.resolution.proofs.Answered.{found-inside}
 use native.Mathlib.Nat.{add-sub-cancel-left}

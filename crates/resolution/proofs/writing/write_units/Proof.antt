@@ -1,114 +1,85 @@
--- The loop's invariant: what is written so far, and what is left, are all. Assumes nothing.
+-- The loop's invariant: the units passed are written. The steps fall by what is left. Assumes nothing.
 use borrow.Author.Needs.{needs}
 use native.Mathlib.Omega.{arith}
 use mathlib.Core.Path.{_≡_, sym, _∙_}
-use Prim.Native.Nat.{ℕ, _+_, _-_, _≤_}
+use Prim.Native.Nat.{ℕ, _+_, _≤_}
 use lib.ListN.{length}
-use Rattle.resolution.proofs.writing.write_units.Statement.{statement}
-use mathlib.Core.Bool.{true, false}
-use borrow.Author.Tests.{eq-eqb, ne-eqb}
-use Rattle.units.specs.Units.{Sample, sample, size, next, isAggregator}
-use Rattle.units.specs.Aggregators.{includedStart}
-use Rattle.units.proofs.Units.{next-after}
-use Rattle.samples.proofs.Walks.{next-is}
+use Rattle.units.specs.Units.{sample}
 use Rattle.tables.specs.Tables.{recordingIn}
-use Rattle.bundles.specs.Recordings.{Recording}
-use Rattle.resolution.specs.Steps.{outputAt}
-use Rattle.judging.proofs.Counting.{Passing, passing-skip, passing-take}
-use Rattle.resolution.proofs.Output.{Writing, writing-start, writing-length, writing-skip, writing-room, writing-take, writing-end}
+use Rattle.delivery.proofs.Falling.{bound}
+use Rattle.delivery.proofs.Rests.{moved-less, unit-less}
+use Rattle.delivery.proofs.Folds.{Folded, folded-moved}
+use Rattle.resolution.proofs.Puts.{Puts, puts-start, puts-length, puts-end, puts-never, puts-inside, puts-room, puts-fit, puts-take}
+use Rattle.resolution.proofs.writing.write_units.Statement.{statement}
 use Rattle.resolution.proofs.writing.write_units.Tie as tie
 
 abbrev Inv-loop : tie.InvT-loop
-Inv-loop out₀ b t n k x l w at₀ p₀ out at p = Writing (recordingIn b t) (n .0) (sample k x) out₀ p at out
+Inv-loop out₀ b t n k x at₀ c₀ out at c = Folded (recordingIn b t) (n .0) (sample k x) (Puts (recordingIn b t) (n .0) (sample k x) out₀ out at) c
 
 abbrev μ-loop : tie.MeasureT-loop
-μ-loop out₀ b t n k x l w at₀ p₀ out at p = length x - p
+μ-loop out₀ b t n k x at₀ c₀ out at c = bound (recordingIn b t) (sample k x) c
 
--- the sample, and the place of the unit at hand
-abbrev At : Type 0
-At = tie.In-loop Inv-loop μ-loop
+-- there is room for the unit
+room : (c : tie.After-s2 Inv-loop μ-loop) → c .before .before .before .loop .at + (4 + c .s2 .given .0 .0 .span .size) ≤ length (c .before .before .before .before .before .before .before .before .before .args .out .now)
+room c = let h = c .before .before .before .before .before .before .before .before .before .pre in puts-room _ _ _ _ _ _ _ (c .before .before .before .loop .inv) (h .0) (h .1) (sym (c .before .before .step .ensures) ∙ c .s2 .given .1) (h .2)
 
-abbrev X : At → Sample
-X c = sample (c .before .before .before .before .before .before .before .args .k) (c .before .before .before .before .before .before .before .args .x .now)
+wrote : (c : tie.After-put-unit Inv-loop μ-loop) → c .before .before .before .before .before .before .loop .at + c .put-unit .result ≤ length (c .before .before .before .before .before .before .before .before .before .before .before .before .args .out .now)
+wrote c = let h = c .before .before .before .before .before .before .before .before .before .before .before .before .pre in rw (c .put-unit .ensures .0) (puts-fit _ _ _ _ _ _ _ (c .before .before .before .before .before .before .loop .inv) (h .0) (h .1) (sym (c .before .before .before .before .before .step .ensures) ∙ c .before .before .before .s2 .given .1) (h .2))
 
-abbrev R : At → Recording
-R c = recordingIn (c .before .before .before .before .before .before .before .args .b .now) (c .before .before .before .before .before .before .before .args .t .now)
-
-abbrev P : At → ℕ
-P c = c .before .loop .p
-
--- it is an aggregator, or another unit
-aggregator : (c : tie.Then1 Inv-loop μ-loop) → isAggregator (X (c .before .before)) (P (c .before .before)) ≡ true
-aggregator c = eq-eqb _ _ (sym (c .before .type-at .ensures) ∙ c .if1 .taken)
-
-other : (c : tie.Else1 Inv-loop μ-loop) → isAggregator (X (c .before .before)) (P (c .before .before)) ≡ false
-other c = ne-eqb _ _ (λ e. c .if1 .left (c .before .type-at .ensures ∙ e))
-
--- where the walk goes on
-skips : (c : tie.Then1 Inv-loop μ-loop) → Passing (R (c .before .before)) (c .before .before .before .before .before .before .before .before .before .args .n .0) (X (c .before .before)) (includedStart (X (c .before .before)) (P (c .before .before)))
-skips c = passing-skip _ _ _ _ (c .before .before .before .loop .inv .passing) (c .before .before .loop-test .taken) (aggregator c)
-
-takes : (c : tie.Else1 Inv-loop μ-loop) → next (X (c .before .before)) (P (c .before .before)) ≤ length (c .before .before .before .before .before .before .before .before .before .args .x .now)
-takes c = passing-take _ _ _ _ (c .before .before .before .loop .inv .passing) (c .before .before .loop-test .taken) (other c) .walking .inside
-
--- there is room for what is delivered
-room : (c : tie.Else1 Inv-loop μ-loop) → c .before .before .before .loop .at + length (outputAt (R (c .before .before)) (c .before .before .before .before .before .before .before .before .before .args .n .0) (X (c .before .before)) (P (c .before .before))) ≤ length (c .before .before .before .before .before .before .before .before .before .args .out .now)
-room c = writing-room _ _ _ _ _ _ _ (c .before .before .before .loop .inv) (c .before .before .loop-test .taken) (other c)
-
-ends : (c : tie.After-number Inv-loop μ-loop) → P (c .before .before .before .before .before .before .before) + c .before .before .before .before .before .before .before .before .before .bytes .result + c .number .result ≡ next (X (c .before .before .before .before .before .before .before)) (P (c .before .before .before .before .before .before .before))
-ends c = let a = c .before .before .before .before .before .before .before .before .before .before .before .before .before .before .args in next-is (a .k) (a .x .now) _ _ _ (c .before .before .before .before .before .before .before .before .before .bytes .ensures .0) (c .number .ensures)
-
-bytes-requires : tie.Need-bytes-requires Inv-loop μ-loop
-bytes-requires c κs = search needs
+start-requires : tie.Need-start-requires Inv-loop μ-loop
+start-requires c κs = search needs
 
 loop-holds : tie.Need-loop-holds Inv-loop μ-loop
-loop-holds c = let h = c .before .before .before .before .before .pre in writing-start _ _ _ _ (h .0) (h .1) (h .2)
+loop-holds c = rw (c .start .ensures) (puts-start _ _ _ _)
 
-type-at-requires : tie.Need-type-at-requires Inv-loop μ-loop
-type-at-requires c κs = search needs
+step-requires : tie.Need-step-requires Inv-loop μ-loop
+step-requires c κs = search needs
 
-add-p : tie.Need-add-p Inv-loop μ-loop
-add-p c = let w = skips c .walking in omega arith
-
-add-p-2 : tie.Need-add-p-2 Inv-loop μ-loop
-add-p-2 c = let w = skips c .walking in omega arith
-
-add-p-3 : tie.Need-add-p-3 Inv-loop μ-loop
-add-p-3 c = let w = skips c .walking in omega arith
-
-loop-less : tie.Need-loop-less Inv-loop μ-loop
-loop-less c = let w = skips c .walking in omega arith
-
-loop-again : tie.Need-loop-again Inv-loop μ-loop
-loop-again c = rw (c .before .before .before .before .bytes .ensures .0) (writing-skip _ _ _ _ _ _ _ (c .before .before .before .loop .inv) (c .before .before .loop-test .taken) (aggregator c))
-
-put-at-requires : tie.Need-put-at-requires Inv-loop μ-loop
-put-at-requires c κs = let r = room (c .before) in let l = writing-length _ _ _ _ _ _ _ (c .before .before .before .before .loop .inv) in (takes (c .before), omega arith)
-
-add-at : tie.Need-add-at Inv-loop μ-loop
-add-at c = let r = room (c .before .before .before .before) in let e = c .before .before .put-at .ensures .0 in omega arith
-
-add-p-4 : tie.Need-add-p-4 Inv-loop μ-loop
-add-p-4 c = let w = takes (c .before .before .before .before) in omega arith
-
-number-requires : tie.Need-number-requires Inv-loop μ-loop
-number-requires c κs = search needs
-
-add-p-5 : tie.Need-add-p-5 Inv-loop μ-loop
-add-p-5 c = let w = takes (c .before .before .before .before .before) in let e = ends c in omega arith
-
-loop-less-2 : tie.Need-loop-less-2 Inv-loop μ-loop
-loop-less-2 c = let w = takes (c .before .before .before .before .before) in let e = ends c in let n = next-after (X (c .before .before .before .before .before .before .before)) (P (c .before .before .before .before .before .before .before)) in omega arith
-
-loop-again-2 : tie.Need-loop-again-2 Inv-loop μ-loop
-unfolding size
-loop-again-2 c = rw (c .before .before .before .put-at .ensures .1, c .before .before .before .put-at .ensures .0, c .number .ensures, c .before .before .before .before .before .before .before .before .before .bytes .ensures .0) (writing-take _ _ _ _ _ _ _ (c .before .before .before .before .before .before .before .before .loop .inv) (c .before .before .before .before .before .before .before .loop-test .taken) (other (c .before .before .before .before .before)))
+enum-told : tie.Need-enum-told Inv-loop μ-loop
+enum-told c = search needs
 
 same-length : tie.Need-same-length Inv-loop μ-loop
-same-length c = writing-length _ _ _ _ _ _ _ (c .before .loop .inv)
+same-length c = puts-length _ _ _ _ _ _ _ (c .before .before .before .loop .inv)
 
 returns : tie.Need-returns Inv-loop μ-loop
-returns c = writing-end _ _ _ _ _ _ _ (c .before .loop .inv) (c .loop-test .left)
+returns c = let h = c .before .before .before .before .before .before .before .before .before .pre in puts-end _ _ _ _ _ _ _ (c .before .before .before .loop .inv) (h .0) (h .1) (sym (c .before .before .step .ensures) ∙ c .enum-told .given .1)
+
+enum-told-2 : tie.Need-enum-told-2 Inv-loop μ-loop
+enum-told-2 c = search needs
+
+same-length-2 : tie.Need-same-length-2 Inv-loop μ-loop
+same-length-2 c = puts-length _ _ _ _ _ _ _ (c .before .before .before .loop .inv)
+
+returns-2 : tie.Need-returns-2 Inv-loop μ-loop
+returns-2 c = let h = c .before .before .before .before .before .before .before .before .before .pre in puts-never _ _ _ _ _ _ _ (c .before .before .before .loop .inv) (h .0) (h .1) (sym (c .before .before .step .ensures) ∙ c .enum-told2 .given .1)
+
+enum-known-s : tie.Need-enum-known-s Inv-loop μ-loop
+enum-known-s c = search needs
+
+loop-less : tie.Need-loop-less Inv-loop μ-loop
+loop-less c = moved-less _ _ _ _ (sym (c .before .before .before .step .ensures) ∙ c .before .s .given .1)
+
+loop-again : tie.Need-loop-again Inv-loop μ-loop
+loop-again c = folded-moved _ _ _ _ _ (c .before .before .before .before .loop .inv) (sym (c .before .before .before .step .ensures) ∙ c .before .s .given .1)
+
+enum-known-s-2 : tie.Need-enum-known-s-2 Inv-loop μ-loop
+enum-known-s-2 c = search needs
+
+put-unit-requires : tie.Need-put-unit-requires Inv-loop μ-loop
+put-unit-requires c κs =
+    let h = c .before .before .before .before .before .before .before .before .before .before .before .pre in
+    let r = room (c .before .before) in
+    let l = puts-length _ _ _ _ _ _ _ (c .before .before .before .before .before .loop .inv) in
+    (puts-inside _ _ _ _ _ _ _ (c .before .before .before .before .before .loop .inv) (h .0) (h .1) (sym (c .before .before .before .before .step .ensures) ∙ c .before .before .s2 .given .1), omega arith)
+
+add-at : tie.Need-add-at Inv-loop μ-loop
+add-at c = let r = wrote (c .before .before) in let k = c .before .before .before .before .before .before .before .before .before .before .before .before .before .before .good .0 in omega arith
+
+loop-less-2 : tie.Need-loop-less-2 Inv-loop μ-loop
+loop-less-2 c = let l = unit-less _ _ _ _ (sym (c .before .before .before .before .before .before .before .step .ensures) ∙ c .before .before .before .before .before .s2 .given .1) in omega arith
+
+loop-again-2 : tie.Need-loop-again-2 Inv-loop μ-loop
+loop-again-2 c = let h = c .before .before .before .before .before .before .before .before .before .before .before .before .before .before .pre in rw (c .before .before .put-unit .ensures .1, c .before .before .put-unit .ensures .0) (puts-take _ _ _ _ _ _ _ (c .before .before .before .before .before .before .before .before .loop .inv) (h .0) (h .1) (sym (c .before .before .before .before .before .before .before .step .ensures) ∙ c .before .before .before .before .before .s2 .given .1) (h .2))
 
 pub write-units-spec : {M : Type 1} → statement M
 write-units-spec =
@@ -116,20 +87,20 @@ write-units-spec =
     (tie.spec
     Inv-loop
     μ-loop
-    bytes-requires
+    start-requires
     loop-holds
-    type-at-requires
-    add-p
-    add-p-2
-    add-p-3
+    step-requires
+    enum-told
+    same-length
+    returns
+    enum-told-2
+    same-length-2
+    returns-2
+    enum-known-s
     loop-less
     loop-again
-    put-at-requires
+    enum-known-s-2
+    put-unit-requires
     add-at
-    add-p-4
-    number-requires
-    add-p-5
     loop-less-2
-    loop-again-2
-    same-length
-    returns)
+    loop-again-2)

@@ -1,0 +1,283 @@
+// What a sample delivers, unit by unit: a cursor, and the one step that all loops over delivered units take.
+// Every function takes any bytes, any table, any numbers and any cursor.
+ghost use mathlib.Core.Path.{_≡_};
+ghost use Rattle.units.specs.Units.{sample};
+ghost use Rattle.tables.specs.Tables.{layoutIn, recordingIn};
+ghost use Rattle.delivery.specs.Steps.{start, trackFor, itemAt, copyFor, withCopyAt, withPlace, copyStep, ownStep, stepOf};
+use copies::range::CopyRange;
+use links::Named;
+use numbers::ByteOffset;
+use numbers::Kind;
+use numbers::LengthSize;
+use numbers::Refusal;
+use numbers::SampleNumber;
+use numbers::refusals;
+use units::Extractor;
+use units::MaybeExtractor;
+use units::NalUnit;
+use units::Track;
+
+// A copy that is being delivered: the extractor's place in its own sample, the sample that it names with what its track says of it, where
+// the copy goes on there, and where it ends.
+pub struct CopyCursor {
+    pub extractor: ByteOffset,
+    pub named: SampleNumber,
+    pub track: Track,
+    pub at: ByteOffset,
+    pub end: ByteOffset,
+}
+
+// How far the delivery of a sample has come: where its own units go on, and a copy, which comes first until it is at its end.
+pub struct Cursor {
+    pub place: ByteOffset,
+    pub copy: CopyCursor,
+}
+
+// A unit: which sample it stands in, where it starts there, after its length field, and its size.
+pub struct Span {
+    pub sample: SampleNumber,
+    pub start: ByteOffset,
+    pub size: usize,
+}
+
+// A delivered unit, and whether an extractor copies it.
+pub struct DeliveredUnit {
+    pub span: Span,
+    pub copied: bool,
+}
+
+// A step: nothing is left; a refusal, 23 to 28; nothing delivered, and how it goes on; a unit, and how it goes on.
+pub enum Stepped {
+    Done,
+    Refused(Refusal),
+    Moved(Cursor),
+    Unit(DeliveredUnit, Cursor),
+}
+
+// What stands at a place: nothing that lies in the sample; an aggregator, and where its included units start; an extractor, and where the
+// next unit starts; another unit.
+enum Item {
+    Nothing,
+    Aggregator(ByteOffset),
+    Extractor(ByteOffset),
+    Unit(NalUnit),
+}
+
+// An extractor: 23 to 27, or the copy that it stands for.
+enum FoundCopy {
+    Refused(u8),
+    Copy(CopyCursor),
+}
+
+// What the track of a sample says of it.
+pub fn track_of(t: &[u64], n: SampleNumber) -> Track
+    ensures { λ r. ⌜ r ≡ trackFor (layoutIn (now (t .entry))) (n .0) ⌝ }
+{
+    let k = tables::sample_track(t, n);
+    let kind = tables::track_kind(t, k);
+    let length_size = tables::track_length_size(t, k);
+    Track { kind, length_size }
+}
+
+// The cursor before the first unit; its copy is at its end.
+pub fn start() -> Cursor
+    ensures { λ r. ⌜ r ≡ start ⌝ }
+{
+    Cursor {
+        place: ByteOffset(0),
+        copy: CopyCursor {
+            extractor: ByteOffset(0),
+            named: SampleNumber(0),
+            track: Track {
+                kind: Kind::Avc,
+                length_size: LengthSize::One,
+            },
+            at: ByteOffset(0),
+            end: ByteOffset(0),
+        },
+    }
+}
+
+// What stands at a place of a sample. Its type is read once, and its length once where it matters.
+fn item_at(k: Track, s: &[u8], at: ByteOffset) -> Item
+    ensures { λ r. ⌜ r ≡ itemAt (sample k (now (s .entry))) (at .0) ⌝ }
+{
+    let l = k.length_size;
+    let n = l.bytes();
+    let p = at.0;
+    if s.len() <= p {
+        return Item::Nothing;
+    }
+    if s.len() - p < n {
+        return Item::Nothing;
+    }
+    let start = p + n;
+    let t = numbers::byte(s, start) % 32;
+    if t == units::AGGREGATOR {
+        let included = start + LengthSize::HEADER + n;
+        return Item::Aggregator(ByteOffset(included));
+    }
+    let size = l.number(s, p);
+    if s.len() - start < size {
+        return Item::Nothing;
+    }
+    let next = start + size;
+    if t == units::EXTRACTOR {
+        return Item::Extractor(ByteOffset(next));
+    }
+    Item::Unit(NalUnit {
+        start: ByteOffset(start),
+        size: size,
+        nal_type: t,
+        next: ByteOffset(next),
+    })
+}
+
+// The copy of an extractor at a place of sample n: here the sample is named and checked and the copy's end found, once for each extractor.
+fn copy_for(b: &[u8], t: &[u64], n: SampleNumber, at: ByteOffset, f: Extractor) -> FoundCopy
+    ensures { λ r. ⌜ r ≡ copyFor (recordingIn (now (b .entry)) (now (t .entry))) (n .0) at f ⌝ }
+{
+    let named = links::name(t, n, f.track_ref_index, f.sample_offset);
+    match named {
+        Named::Refused(fault) => FoundCopy::Refused(fault),
+        Named::Sample(m) => {
+            let k = track_of(t, m);
+            let z = tables::sample_bytes(b, t, m);
+            let from = f.data_offset;
+            let range = copies::range::range_of(k, z, from, f.data_length);
+            match range {
+                CopyRange::Refused(fault) => FoundCopy::Refused(fault),
+                CopyRange::End(end) => FoundCopy::Copy(CopyCursor {
+                    extractor: at,
+                    named: m,
+                    track: k,
+                    at: from,
+                    end: end,
+                }),
+            }
+        }
+    }
+}
+
+// The cursor with another place in the copy.
+fn with_copy_at(c: Cursor, at: ByteOffset) -> Cursor
+    ensures { λ r. ⌜ r ≡ withCopyAt c at ⌝ }
+{
+    let place = c.place;
+    let copy = c.copy;
+    let extractor = copy.extractor;
+    let named = copy.named;
+    let track = copy.track;
+    let end = copy.end;
+    Cursor {
+        place: place,
+        copy: CopyCursor {
+            extractor: extractor,
+            named: named,
+            track: track,
+            at: at,
+            end: end,
+        },
+    }
+}
+
+// The cursor with another place in the own sample.
+fn with_place(c: Cursor, place: ByteOffset) -> Cursor
+    ensures { λ r. ⌜ r ≡ withPlace c place ⌝ }
+{
+    let copy = c.copy;
+    Cursor {
+        place: place,
+        copy: copy,
+    }
+}
+
+// A step in the copy, of the sample z.
+fn copy_step(z: &[u8], c: Cursor) -> Stepped
+    ensures { λ r. ⌜ r ≡ copyStep (now (z .entry)) c ⌝ }
+{
+    let copy = c.copy;
+    let extractor = copy.extractor;
+    let named = copy.named;
+    let item = item_at(copy.track, z, copy.at);
+    match item {
+        Item::Nothing => Stepped::Done,
+        Item::Aggregator(included) => Stepped::Moved(with_copy_at(c, included)),
+        Item::Extractor(_) => Stepped::Refused(Refusal {
+            number: refusals::EXTRACTOR_COPIED,
+            place: extractor,
+        }),
+        Item::Unit(u) => {
+            let start = u.start;
+            let next = with_copy_at(c, u.next);
+            Stepped::Unit(
+                DeliveredUnit {
+                    span: Span {
+                        sample: named,
+                        start: start,
+                        size: u.size,
+                    },
+                    copied: true,
+                },
+                next,
+            )
+        }
+    }
+}
+
+// A step in the own sample, which is sample n, x.
+fn own_step(b: &[u8], t: &[u64], n: SampleNumber, k: Track, x: &[u8], c: Cursor) -> Stepped
+    ensures { λ r. ⌜ r ≡ ownStep (recordingIn (now (b .entry)) (now (t .entry))) (n .0) (sample k (now (x .entry))) c ⌝ }
+{
+    let place = c.place;
+    let item = item_at(k, x, place);
+    match item {
+        Item::Nothing => Stepped::Done,
+        Item::Aggregator(included) => Stepped::Moved(with_place(c, included)),
+        Item::Extractor(next) => {
+            let fields = unit_steps::extractor_at(k, x, place, ByteOffset(x.len()));
+            match fields {
+                MaybeExtractor::Nothing => Stepped::Done,
+                MaybeExtractor::Extractor(f) => {
+                    let found = copy_for(b, t, n, place, f);
+                    match found {
+                        FoundCopy::Refused(fault) => Stepped::Refused(Refusal {
+                            number: fault,
+                            place: place,
+                        }),
+                        FoundCopy::Copy(copy) => Stepped::Moved(Cursor {
+                            place: next,
+                            copy: copy,
+                        }),
+                    }
+                }
+            }
+        }
+        Item::Unit(u) => {
+            let start = u.start;
+            let next = with_place(c, u.next);
+            Stepped::Unit(
+                DeliveredUnit {
+                    span: Span {
+                        sample: n,
+                        start: start,
+                        size: u.size,
+                    },
+                    copied: false,
+                },
+                next,
+            )
+        }
+    }
+}
+
+// The step from a cursor over sample n, which is x: in the copy, until that is at its end; then in the sample itself.
+pub fn step(b: &[u8], t: &[u64], n: SampleNumber, k: Track, x: &[u8], c: Cursor) -> Stepped
+    ensures { λ r. ⌜ r ≡ stepOf (recordingIn (now (b .entry)) (now (t .entry))) (n .0) (sample k (now (x .entry))) c ⌝ }
+{
+    let copy = c.copy;
+    if copy.at.0 < copy.end.0 {
+        return copy_step(tables::sample_bytes(b, t, copy.named), c);
+    }
+    own_step(b, t, n, k, x, c)
+}
