@@ -12,8 +12,8 @@ use numbers::Kind;
 use numbers::MaybeKind;
 use numbers::Refusal;
 use numbers::refusals;
+use record_rules::Reading;
 use record_writer::Written;
-use records::Reading;
 
 // How many numbers a record is.
 pub const NUMBER_COUNT: usize = 18;

@@ -18,12 +18,12 @@ use Rattle.words.proofs.Refusals.{NoneOr, none-or-if, none-or-orElse, none-or-f
 use Rattle.numbers.specs.declared.Kind.{Kind}
 use Rattle.sets.specs.Sets.{setFault, setsFault, setEnd, oneOf}
 use Rattle.sets.specs.declared.SetTypes.{SetTypes}
-use Rattle.records.specs.Layout.{recordLayout, fixedIn, pictureTypes, missing, byteFault}
-use Rattle.records.specs.Trailers.{chromaShape, depthShape, extensionTypes, valuesFault, ending}
-use Rattle.records.specs.Read.{headFault, lengthSize, sequenceCount, sequencesEnd, pictureCount, picturesEnd, trailerOf, extensionsAt, recordEnd, recordFault}
-use Rattle.records.specs.declared.Shape.{Shape}
-use Rattle.records.specs.declared.Trailer.{Trailer}
-use Rattle.records.specs.declared.Trailer.the-variants.{Without, With}
+use Rattle.record_rules.specs.Layout.{recordLayout, fixedIn, pictureTypes, missing, byteFault}
+use Rattle.record_rules.specs.Trailers.{chromaShape, depthShape, extensionTypes, valuesFault, ending}
+use Rattle.record_rules.specs.Read.{headFault, lengthSize, sequenceCount, sequencesEnd, pictureCount, picturesEnd, trailerOf, extensionsAt, recordEnd, recordFault}
+use Rattle.record_rules.specs.declared.Shape.{Shape}
+use Rattle.record_rules.specs.declared.Trailer.{Trailer}
+use Rattle.record_rules.specs.declared.Trailer.the-variants.{Without, With}
 
 abbrev OfRecord : ℕ → Type 0
 OfRecord n = NoneOr recordRefusals n

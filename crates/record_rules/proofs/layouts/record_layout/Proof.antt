@@ -1,7 +1,7 @@
 -- Each kind's row, by its variant. Assumes nothing.
 use borrow.Author.Needs.{needs}
-use Rattle.records.proofs.layouts.record_layout.Statement.{statement}
-use Rattle.records.proofs.layouts.record_layout.Tie as tie
+use Rattle.record_rules.proofs.layouts.record_layout.Statement.{statement}
+use Rattle.record_rules.proofs.layouts.record_layout.Tie as tie
 
 enum-told : tie.Need-enum-told
 enum-told c = search needs

@@ -12,13 +12,13 @@ use Rattle.words.specs.Bytes.{Bytes, byteAt, part}
 use Rattle.words.proofs.Tests.{by-bool}
 use Rattle.words.proofs.Positions.{split-one, split-part, part-rest, six, four}
 use Rattle.numbers.specs.declared.Kind.{Kind}
-use Rattle.records.specs.Layout.{recordLayout, byteOf, valueIn, flagIn, flagsByte}
-use Rattle.records.specs.Trailers.{chromaShape, depthShape, hasTrailer, highBytes, highOf, ending}
-use Rattle.records.specs.Read.{recordFault, lengthSize, sequencesEnd, picturesEnd, trailerOf, extensionsAt, recordEnd, fieldsOf, recordOf}
-use Rattle.records.specs.Fields.{recordBytes}
-use Rattle.records.specs.Answers.{partBytes, writtenAgain}
-use Rattle.records.proofs.Shapes.{row, byte-rest, plain-byte, flags-made}
-use Rattle.records.proofs.Parsed.{Head, Trailed, Parsed, parsed}
+use Rattle.record_rules.specs.Layout.{recordLayout, byteOf, valueIn, flagIn, flagsByte}
+use Rattle.record_rules.specs.Trailers.{chromaShape, depthShape, hasTrailer, highBytes, highOf, ending}
+use Rattle.record_rules.specs.Read.{recordFault, lengthSize, sequencesEnd, picturesEnd, trailerOf, extensionsAt, recordEnd, fieldsOf, recordOf}
+use Rattle.record_rules.specs.Fields.{recordBytes}
+use Rattle.record_rules.specs.Answers.{partBytes, writtenAgain}
+use Rattle.record_rules.proofs.Shapes.{row, byte-rest, plain-byte, flags-made}
+use Rattle.record_rules.proofs.Parsed.{Head, Trailed, Parsed, parsed}
 
 -- the bytes of a trailer before its sets, with what follows them, are what stands from q on
 high-back : (s : List ℕ) (q : ℕ) → Bytes s → Trailed s q → highBytes (highOf s q) ++ drop (q + 4) s ≡ drop q s

@@ -1,12 +1,12 @@
 -- The row tells whether there is a trailer at all, then one test for each profile. Assumes nothing.
 use borrow.Author.Needs.{needs}
 use mathlib.Core.Path.{_≡_, sym, ap, _∙_}
-use Rattle.records.proofs.layouts.has_trailer.Statement.{statement}
+use Rattle.record_rules.proofs.layouts.has_trailer.Statement.{statement}
 use mathlib.Core.Bool.{true, false}
 use borrow.Author.Tests.{not-true, not-false}
 use Rattle.words.proofs.Tests.{tests}
-use Rattle.records.specs.Layout.{recordLayout}
-use Rattle.records.proofs.layouts.has_trailer.Tie as tie
+use Rattle.record_rules.specs.Layout.{recordLayout}
+use Rattle.record_rules.proofs.layouts.has_trailer.Tie as tie
 
 -- the kind has trailers
 row-has : (c : tie.Else1) → recordLayout (c .before .before .before .args .k) .trailer ≡ true

@@ -10,11 +10,11 @@ use borrow.Author.Tests.{ltb-true, leb-true, lt-ltb, le-leb}
 use Rattle.words.specs.Tests.{_<?_, _≤?_, all}
 use Rattle.words.proofs.Tests.{all-first}
 use Rattle.numbers.specs.declared.Kind.{Kind}
-use Rattle.records.specs.Layout.{recordLayout, flagsFit}
-use Rattle.records.specs.Trailers.{highNumbersFit, ending}
-use Rattle.records.specs.Fields.{flagsOf, numbersFit}
-use Rattle.records.specs.declared.High.{High}
-use Rattle.records.specs.declared.Fields.{Fields}
+use Rattle.record_rules.specs.Layout.{recordLayout, flagsFit}
+use Rattle.record_rules.specs.Trailers.{highNumbersFit, ending}
+use Rattle.record_rules.specs.Fields.{flagsOf, numbersFit}
+use Rattle.record_rules.specs.declared.High.{High}
+use Rattle.record_rules.specs.declared.Fields.{Fields}
 
 pub record HighNumbers (t : High) : Type 0 where
   pub format : t .format < 4

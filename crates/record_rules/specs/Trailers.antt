@@ -16,11 +16,11 @@ use Rattle.words.specs.Refusals.{_orElse_}
 use Rattle.words.specs.Bytes.{byteAt}
 use Rattle.numbers.specs.declared.Kind.{Kind}
 use Rattle.sets.specs.declared.SetTypes.{SetTypes}
-use Rattle.records.specs.Layout.{recordLayout, profileAt, _ones_bits, valueIn, byteOf, isByte, missing, byteFault}
-use Rattle.records.specs.declared.Shape.{Shape}
-use Rattle.records.specs.declared.High.{High}
-use Rattle.records.specs.declared.Trailer.{Trailer}
-use Rattle.records.specs.declared.Trailer.the-variants.{Without, With}
+use Rattle.record_rules.specs.Layout.{recordLayout, profileAt, _ones_bits, valueIn, byteOf, isByte, missing, byteFault}
+use Rattle.record_rules.specs.declared.Shape.{Shape}
+use Rattle.record_rules.specs.declared.High.{High}
+use Rattle.record_rules.specs.declared.Trailer.{Trailer}
+use Rattle.record_rules.specs.declared.Trailer.the-variants.{Without, With}
 
 -- the profiles whose AVC record has a trailer
 abbrev pub isHigh : ℕ → Bool

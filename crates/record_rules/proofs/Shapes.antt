@@ -20,12 +20,12 @@ use Rattle.words.specs.Tests.{_≡?_}
 use Rattle.words.proofs.Tests.{by-bool, true-false}
 use Rattle.numbers.specs.declared.Kind.{Kind}
 use Rattle.numbers.specs.declared.Kind.the-variants.{Avc, Svc}
-use Rattle.records.specs.Layout.{Sound, recordLayout, byteOf, fixedIn, valueIn, bit, flagOf, flagFits, flagIn, flagsByte, flagsFit}
-use Rattle.records.specs.Trailers.{chromaShape, depthShape}
-use Rattle.records.specs.declared.Shape.{Shape}
-use Rattle.records.specs.declared.Layout.{Layout}
-use Rattle.records.specs.declared.Flag.{Flag}
-use Rattle.records.specs.declared.Flag.the-variants.{Absent, Clear, Set}
+use Rattle.record_rules.specs.Layout.{Sound, recordLayout, byteOf, fixedIn, valueIn, bit, flagOf, flagFits, flagIn, flagsByte, flagsFit}
+use Rattle.record_rules.specs.Trailers.{chromaShape, depthShape}
+use Rattle.record_rules.specs.declared.Shape.{Shape}
+use Rattle.record_rules.specs.declared.Layout.{Layout}
+use Rattle.record_rules.specs.declared.Flag.{Flag}
+use Rattle.record_rules.specs.declared.Flag.the-variants.{Absent, Clear, Set}
 
 pub byte-rest : (h : Shape) (b : ℕ) → fixedIn h b ≡ h .fixed → byteOf h (valueIn h b) ≡ b % h .unit
 byte-rest h b e =

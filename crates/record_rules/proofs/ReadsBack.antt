@@ -21,19 +21,19 @@ use Rattle.numbers.specs.declared.Kind.{Kind}
 use Rattle.sets.specs.Sets.{setsFault, setsEnd, exactly}
 use Rattle.sets.specs.declared.SetTypes.{SetTypes}
 use Rattle.sets.proofs.Laws.{sets-inside}
-use Rattle.records.specs.Layout.{Sound, recordLayout, byteOf, fixedIn, valueIn, pictureTypes, flagIn, flagsByte, missing, byteFault}
-use Rattle.records.specs.Trailers.{extensionTypes, chromaShape, depthShape, hasTrailer, valuesFault, highBytes, highOf, ending, endingOf}
-use Rattle.records.specs.Read.{lengthSize, headFault, sequenceCount, sequencesFault, sequencesEnd, pictureCount, picturesFault, picturesEnd, followFault, trailerOf, extensionsAt, recordEnd, recordFault, fieldsOf, recordOf}
-use Rattle.records.specs.Fields.{flagsOf, recordBytes, placed}
-use Rattle.records.specs.Answers.{partBytes}
-use Rattle.records.specs.declared.Shape.{Shape}
-use Rattle.records.specs.declared.High.{High}
-use Rattle.records.specs.declared.Trailer.{Trailer}
-use Rattle.records.specs.declared.Trailer.the-variants.{Without, With}
-use Rattle.records.specs.declared.Fields.{Fields}
-use Rattle.records.specs.declared.Record.{Record}
-use Rattle.records.proofs.Shapes.{sound-chroma, sound-depth, row, byte-below, plain-rest, fixed-back, value-back, Flagged, flagged}
-use Rattle.records.proofs.Numbers.{Numbers, HighNumbers, high-numbers}
+use Rattle.record_rules.specs.Layout.{Sound, recordLayout, byteOf, fixedIn, valueIn, pictureTypes, flagIn, flagsByte, missing, byteFault}
+use Rattle.record_rules.specs.Trailers.{extensionTypes, chromaShape, depthShape, hasTrailer, valuesFault, highBytes, highOf, ending, endingOf}
+use Rattle.record_rules.specs.Read.{lengthSize, headFault, sequenceCount, sequencesFault, sequencesEnd, pictureCount, picturesFault, picturesEnd, followFault, trailerOf, extensionsAt, recordEnd, recordFault, fieldsOf, recordOf}
+use Rattle.record_rules.specs.Fields.{flagsOf, recordBytes, placed}
+use Rattle.record_rules.specs.Answers.{partBytes}
+use Rattle.record_rules.specs.declared.Shape.{Shape}
+use Rattle.record_rules.specs.declared.High.{High}
+use Rattle.record_rules.specs.declared.Trailer.{Trailer}
+use Rattle.record_rules.specs.declared.Trailer.the-variants.{Without, With}
+use Rattle.record_rules.specs.declared.Fields.{Fields}
+use Rattle.record_rules.specs.declared.Record.{Record}
+use Rattle.record_rules.proofs.Shapes.{sound-chroma, sound-depth, row, byte-below, plain-rest, fixed-back, value-back, Flagged, flagged}
+use Rattle.record_rules.proofs.Numbers.{Numbers, HighNumbers, high-numbers}
 
 -- a byte that is there with its fixed bits, and one that was made
 byte-fits : (s : List ℕ) (h : Shape) (p : ℕ) → p < length s → fixedIn h (byteAt s p) ≡ h .fixed → byteFault s h p ≡ 0

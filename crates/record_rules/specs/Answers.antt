@@ -4,11 +4,11 @@ use Prim.Native.Nat.{ℕ}
 use Rattle.words.specs.Refusals.{Answer, refused, ok}
 use Rattle.words.specs.Bytes.{part}
 use Rattle.numbers.specs.declared.Kind.{Kind}
-use Rattle.records.specs.Fields.{recordBytes}
-use Rattle.records.specs.declared.Part.{Part}
-use Rattle.records.specs.declared.Record.{Record}
-use Rattle.records.specs.declared.Reading.{Reading}
-use Rattle.records.specs.declared.Reading.the-variants.{Refused, Accepted}
+use Rattle.record_rules.specs.Fields.{recordBytes}
+use Rattle.record_rules.specs.declared.Part.{Part}
+use Rattle.record_rules.specs.declared.Record.{Record}
+use Rattle.record_rules.specs.declared.Reading.{Reading}
+use Rattle.record_rules.specs.declared.Reading.the-variants.{Refused, Accepted}
 
 abbrev pub answerOf : Reading → Answer Record
 answerOf (Refused r) = refused (r .number) (r .place .0)

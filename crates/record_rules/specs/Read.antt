@@ -21,12 +21,12 @@ use Rattle.words.specs.Bytes.{byteAt}
 use Rattle.numbers.specs.Kinds.{kindOf, onKind}
 use Rattle.numbers.specs.declared.Kind.{Kind}
 use Rattle.sets.specs.Sets.{setsFault, setsEnd}
-use Rattle.records.specs.Layout.{version, versionAt, profileAt, compatibilityAt, levelAt, lengthSizeAt, countAt, headSize, badSize}
-use Rattle.records.specs.Layout.{recordLayout, valueIn, pictureTypes, completeFlag, flagIn, missing, byteFault}
-use Rattle.records.specs.Trailers.{extensionTypes, ending, endingOf}
-use Rattle.records.specs.declared.Trailer.{Trailer}
-use Rattle.records.specs.declared.Fields.{Fields}
-use Rattle.records.specs.declared.Record.{Record}
+use Rattle.record_rules.specs.Layout.{version, versionAt, profileAt, compatibilityAt, levelAt, lengthSizeAt, countAt, headSize}
+use Rattle.record_rules.specs.Layout.{badSize, recordLayout, valueIn, pictureTypes, completeFlag, flagIn, missing, byteFault}
+use Rattle.record_rules.specs.Trailers.{extensionTypes, ending, endingOf}
+use Rattle.record_rules.specs.declared.Trailer.{Trailer}
+use Rattle.record_rules.specs.declared.Fields.{Fields}
+use Rattle.record_rules.specs.declared.Record.{Record}
 
 module _ (k : Kind) (s : List ℕ) where
   -- Version, profile, compatibility, level; then the length size and the number of sequence sets, each with its fixed bits.

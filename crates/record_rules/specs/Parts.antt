@@ -5,10 +5,10 @@ use mathlib.Core.List.{List, [], _∷_}
 use Rattle.words.specs.Tests.{_≡?_, all}
 use Rattle.numbers.specs.declared.Kind.{Kind}
 use Rattle.sets.specs.Sets.{setsFit}
-use Rattle.records.specs.Layout.{recordLayout, badSize, pictureTypes}
-use Rattle.records.specs.Trailers.{extensionTypes, ending}
-use Rattle.records.specs.Fields.{numbersFit}
-use Rattle.records.specs.declared.Fields.{Fields}
+use Rattle.record_rules.specs.Layout.{recordLayout, badSize, pictureTypes}
+use Rattle.record_rules.specs.Trailers.{extensionTypes, ending}
+use Rattle.record_rules.specs.Fields.{numbersFit}
+use Rattle.record_rules.specs.declared.Fields.{Fields}
 
 unfoldable pub fitsByParts : Kind → Fields → List ℕ → List ℕ → List ℕ → Bool
 fitsByParts k f sequences pictures extensions =

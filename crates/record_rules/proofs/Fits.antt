@@ -25,20 +25,20 @@ use Rattle.numbers.specs.declared.Kind.{Kind}
 use Rattle.sets.specs.Sets.{setsFault, setsEnd, exactly, setsFit}
 use Rattle.sets.specs.declared.SetTypes.{SetTypes}
 use Rattle.sets.proofs.Laws.{fit-true, fit-sets, sets-inside, sets-outside}
-use Rattle.records.specs.Layout.{recordLayout, valueIn, pictureTypes}
-use Rattle.records.specs.Trailers.{extensionTypes, chromaShape, depthShape, hasTrailer, highOf, ending}
-use Rattle.records.specs.Read.{recordFault, lengthSize, sequenceCount, pictureCount, sequencesEnd, picturesEnd, trailerOf, extensionsAt, recordEnd, fieldsOf, recordOf}
-use Rattle.records.specs.Fields.{recordBytes, numbersFit, fits}
-use Rattle.records.specs.Parts.{fitsByParts}
-use Rattle.records.specs.Answers.{partBytes, writtenAgain}
-use Rattle.records.specs.declared.Trailer.{Trailer}
-use Rattle.records.specs.declared.Trailer.the-variants.{Without, With}
-use Rattle.records.specs.declared.Fields.{Fields}
-use Rattle.records.proofs.Shapes.{row, value-below, byte-below, plain-below, flagged, flags-fit, sound-chroma, sound-depth}
-use Rattle.records.proofs.Parsed.{Parsed, parsed, Trailed}
-use Rattle.records.proofs.BytesBack.{bytes-back}
-use Rattle.records.proofs.Numbers.{Numbers, numbers, numbers-true, high-numbers, high-true}
-use Rattle.records.proofs.ReadsBack.{bytes-fault}
+use Rattle.record_rules.specs.Layout.{recordLayout, valueIn, pictureTypes}
+use Rattle.record_rules.specs.Trailers.{extensionTypes, chromaShape, depthShape, hasTrailer, highOf, ending}
+use Rattle.record_rules.specs.Read.{recordFault, lengthSize, sequenceCount, pictureCount, sequencesEnd, picturesEnd, trailerOf, extensionsAt, recordEnd, fieldsOf, recordOf}
+use Rattle.record_rules.specs.Fields.{recordBytes, numbersFit, fits}
+use Rattle.record_rules.specs.Parts.{fitsByParts}
+use Rattle.record_rules.specs.Answers.{partBytes, writtenAgain}
+use Rattle.record_rules.specs.declared.Trailer.{Trailer}
+use Rattle.record_rules.specs.declared.Trailer.the-variants.{Without, With}
+use Rattle.record_rules.specs.declared.Fields.{Fields}
+use Rattle.record_rules.proofs.Shapes.{row, value-below, byte-below, plain-below, flagged, flags-fit, sound-chroma, sound-depth}
+use Rattle.record_rules.proofs.Parsed.{Parsed, parsed, Trailed}
+use Rattle.record_rules.proofs.BytesBack.{bytes-back}
+use Rattle.record_rules.proofs.Numbers.{Numbers, numbers, numbers-true, high-numbers, high-true}
+use Rattle.record_rules.proofs.ReadsBack.{bytes-fault}
 
 pub record Fitting (k : Kind) (f : Fields) (a b x : List ℕ) : Type 0 where
   pub numbers : Numbers k f

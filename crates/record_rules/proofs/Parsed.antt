@@ -21,11 +21,11 @@ use Rattle.words.proofs.Refusals.{if-none, orElse-none}
 use Rattle.numbers.specs.declared.Kind.{Kind}
 use Rattle.sets.specs.Sets.{setsFault, setsEnd}
 use Rattle.sets.proofs.Laws.{sets-within}
-use Rattle.records.specs.Layout.{recordLayout, fixedIn, valueIn, pictureTypes, missing, byteFault}
-use Rattle.records.specs.Trailers.{extensionTypes, chromaShape, depthShape, hasTrailer, valuesFault, ending}
-use Rattle.records.specs.Read.{lengthSize, headFault, sequenceCount, sequencesFault, sequencesEnd, pictureCount, picturesFault, picturesEnd, trailerOf, followFault, extensionsAt, recordEnd, recordFault}
-use Rattle.records.specs.declared.Shape.{Shape}
-use Rattle.records.proofs.Shapes.{row, value-below}
+use Rattle.record_rules.specs.Layout.{recordLayout, fixedIn, valueIn, pictureTypes, missing, byteFault}
+use Rattle.record_rules.specs.Trailers.{extensionTypes, chromaShape, depthShape, hasTrailer, valuesFault, ending}
+use Rattle.record_rules.specs.Read.{lengthSize, headFault, sequenceCount, sequencesFault, sequencesEnd, pictureCount, picturesFault, picturesEnd, trailerOf, followFault, extensionsAt, recordEnd, recordFault}
+use Rattle.record_rules.specs.declared.Shape.{Shape}
+use Rattle.record_rules.proofs.Shapes.{row, value-below}
 
 pub there : (s : List ℕ) (p : ℕ) → missing s p ≡ 0 → p < length s
 there s p e = leb-false _ _ (if-none _ _ e)

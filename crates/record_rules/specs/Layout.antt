@@ -25,10 +25,10 @@ use Rattle.words.specs.Bytes.{byteAt}
 use Rattle.numbers.specs.declared.Kind.{Kind}
 use Rattle.numbers.specs.declared.Kind.the-variants.{Avc, Svc}
 use Rattle.sets.specs.declared.SetTypes.{SetTypes}
-use Rattle.records.specs.declared.Shape.{Shape}
-use Rattle.records.specs.declared.Layout.{Layout}
-use Rattle.records.specs.declared.Flag.{Flag}
-use Rattle.records.specs.declared.Flag.the-variants.{Absent, Clear, Set}
+use Rattle.record_rules.specs.declared.Shape.{Shape}
+use Rattle.record_rules.specs.declared.Layout.{Layout}
+use Rattle.record_rules.specs.declared.Flag.{Flag}
+use Rattle.record_rules.specs.declared.Flag.the-variants.{Absent, Clear, Set}
 
 infix 60 _ones_bits _zeros_bits
 -- The bytes before the sequence sets, one each: version, profile, compatibility, level, length size, number of sequence sets.

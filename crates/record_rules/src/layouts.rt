@@ -1,14 +1,16 @@
 // What the bytes of a record hold, and what the kinds differ in.
 ghost use mathlib.Core.Path.{_≡_};
-ghost use Rattle.records.specs.Layout.{recordLayout};
-ghost use Rattle.records.specs.Trailers.{hasTrailer};
+ghost use Rattle.record_rules.specs.Layout.{recordLayout};
+ghost use Rattle.record_rules.specs.Trailers.{hasTrailer};
 use crate::Layout;
 use crate::Shape;
 use numbers::Kind;
 use sets::SetTypes;
 
-// A record's version, where the other bytes before the sequence sets stand, and how many these are.
+// A record's version; where the bytes before the sequence sets stand, and how many these are.
 pub const VERSION: u8 = 1;
+
+pub const VERSION_AT: usize = 0;
 
 pub const PROFILE_AT: usize = 1;
 

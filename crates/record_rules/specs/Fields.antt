@@ -14,12 +14,12 @@ use lib.ListN.{length}
 use Rattle.words.specs.Tests.{_<?_, _≤?_, _≡?_, all}
 use Rattle.numbers.specs.declared.Kind.{Kind}
 use Rattle.sets.specs.Sets.{exactly}
-use Rattle.records.specs.Layout.{version, headSize, recordLayout, byteOf, isByte, flagsByte, flagsFit}
-use Rattle.records.specs.Trailers.{ending}
-use Rattle.records.specs.Read.{recordFault}
-use Rattle.records.specs.declared.Flag.{Flag}
-use Rattle.records.specs.declared.Fields.{Fields}
-use Rattle.records.specs.declared.Record.{Record}
+use Rattle.record_rules.specs.Layout.{version, headSize, recordLayout, byteOf, isByte, flagsByte, flagsFit}
+use Rattle.record_rules.specs.Trailers.{ending}
+use Rattle.record_rules.specs.Read.{recordFault}
+use Rattle.record_rules.specs.declared.Flag.{Flag}
+use Rattle.record_rules.specs.declared.Fields.{Fields}
+use Rattle.record_rules.specs.declared.Record.{Record}
 
 -- a new flag is one more here, and one more in `fieldsOf`
 abbrev pub flagsOf : Fields → List Flag
