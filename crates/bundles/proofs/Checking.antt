@@ -28,9 +28,9 @@ use Rattle.numbers.specs.declared.Kind.{Kind}
 use Rattle.numbers.specs.declared.Kind.the-variants.{Avc, Svc}
 use Rattle.numbers.specs.declared.MaybeKind.{MaybeKind}
 use Rattle.numbers.specs.declared.MaybeKind.the-variants.{Known, Unknown}
-use Rattle.records.specs.Read.{recordFault, lengthSize, recordOf, readAs}
-use Rattle.records.specs.declared.Record.{Record}
-use Rattle.records.proofs.Parsed.{parsed, length-size-most}
+use Rattle.record_rules.specs.Read.{recordFault, lengthSize, recordOf, readAs}
+use Rattle.record_rules.specs.declared.Record.{Record}
+use Rattle.record_rules.proofs.Parsed.{parsed, length-size-most}
 use Rattle.bundles.specs.Recordings.{Track, noTrack}
 use Rattle.bundles.specs.Tracks.{trackCount, tracksAt, trackEnd, kindAt, recordAt, recordFaultAs, knownKind, knownSize, sizeAt, trackFault, trackOn, trackPlaces, tracks}
 use Rattle.bundles.specs.References.{lengthSizeOn}

@@ -22,8 +22,8 @@ use Rattle.words.proofs.Refusals.{at-ok, ok-refused, NoneOr, none-or-if, none-o
 use Rattle.numbers.specs.declared.Kind.{Kind}
 use Rattle.numbers.specs.declared.MaybeKind.{MaybeKind}
 use Rattle.numbers.specs.declared.MaybeKind.the-variants.{Known, Unknown}
-use Rattle.records.specs.Read.{recordFault}
-use Rattle.records.proofs.Refusals.{record-refusal}
+use Rattle.record_rules.specs.Read.{recordFault}
+use Rattle.record_rules.proofs.Refusals.{record-refusal}
 use Rattle.bundles.specs.Limits.{countFault, cut, bundleMost, trackLeast, trackMost, referenceMost, sampleMost}
 use Rattle.bundles.specs.Fields.{trackCountSize, trackHeadSize, referenceCountSize, referenceSize, sampleCountSize, entrySize, byteCountSize}
 use Rattle.bundles.specs.Recordings.{Entry}

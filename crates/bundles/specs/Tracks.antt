@@ -24,7 +24,7 @@ use Rattle.numbers.specs.declared.MaybeKind.the-variants.{Known, Unknown}
 use Rattle.numbers.specs.declared.LengthSize.{LengthSize}
 use Rattle.numbers.specs.declared.LengthSize.the-variants.{One}
 use Rattle.numbers.specs.declared.MaybeLengthSize as M
-use Rattle.records.specs.Read.{recordFault, lengthSize}
+use Rattle.record_rules.specs.Read.{recordFault, lengthSize}
 use Rattle.bundles.specs.Limits.{cut, countFault, trackLeast, trackMost}
 use Rattle.bundles.specs.Fields.{trackCountSize, recordLengthSize, recordLengthOffset, trackHeadSize}
 use Rattle.bundles.specs.Recordings.{Track}

@@ -5,7 +5,7 @@ ghost use lib.ListN.{length};
 ghost use Rattle.words.specs.Tests.{_<?_};
 ghost use Rattle.words.specs.Refusals.{ok, _andThen_, _atPlace_};
 ghost use Rattle.words.specs.Lists.{sum};
-ghost use Rattle.records.specs.Read.{recordFault, lengthSize};
+ghost use Rattle.record_rules.specs.Read.{recordFault, lengthSize};
 ghost use Rattle.bundles.specs.Limits.{countFault, trackMost};
 ghost use Rattle.bundles.specs.Fields.{entrySize};
 ghost use Rattle.bundles.specs.Tracks.{tracksVerdict, referencesAt};
@@ -19,7 +19,7 @@ use numbers::Kind;
 use numbers::MaybeKind;
 use numbers::Refusal;
 use numbers::refusals;
-use records::Reading;
+use record_rules::Reading;
 
 pub mod fields;
 

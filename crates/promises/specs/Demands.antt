@@ -25,8 +25,8 @@ use Rattle.words.specs.Buffers.{Wrote}
 use Rattle.words.proofs.Buffers as buffers
 use Rattle.words.proofs.Lists.{Rising}
 use Rattle.numbers.specs.Places.{placeSize}
-use Rattle.records.specs.Read.{readRecord}
-use Rattle.records.specs.declared.Fields.{Fields}
+use Rattle.record_rules.specs.Read.{readRecord}
+use Rattle.record_rules.specs.declared.Fields.{Fields}
 use Rattle.record_writer.specs.Write.{writeRecord}
 use Rattle.record_writer.specs.Promise.{WritesBack, ReadsBack, MisfitsExactly}
 use Rattle.record_writer.proofs.Promise as records

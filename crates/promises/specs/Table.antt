@@ -9,10 +9,10 @@ use Rattle.words.specs.Lists.{keep, some, nth, lastThat, each, upto, sum}
 use Rattle.words.specs.Walks.{entries, skip}
 use Rattle.words.specs.Bytes.{big, bytes, cuts}
 use Rattle.sets.specs.Sets.{setFault}
-use Rattle.records.specs.Layout.{byteFault}
-use Rattle.records.specs.Trailers.{valuesFault}
-use Rattle.records.specs.Read.{headFault, sequencesEnd, picturesEnd, recordFault, readAs, readRecord}
-use Rattle.records.specs.declared.Record.{Record}
+use Rattle.record_rules.specs.Layout.{byteFault}
+use Rattle.record_rules.specs.Trailers.{valuesFault}
+use Rattle.record_rules.specs.Read.{headFault, sequencesEnd, picturesEnd, recordFault, readAs, readRecord}
+use Rattle.record_rules.specs.declared.Record.{Record}
 use Rattle.units.specs.Units.{size, type, unitFault, placesFrom, topUnits, border, topBetween}
 use Rattle.units.specs.Aggregators.{coverFault, includedFault, withIncluded, units, extractors}
 use Rattle.samples.specs.Check.{insideVerdict, coverVerdict, contentVerdict, check, checkAlone}

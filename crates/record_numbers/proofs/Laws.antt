@@ -21,11 +21,11 @@ use Rattle.words.specs.Buffers.{overwrite, Wrote}
 use Rattle.words.proofs.Refusals.{if-none, orElse-none}
 use Rattle.words.proofs.Buffers.{copy-step, within-room, within-not}
 use Rattle.numbers.specs.declared.Kind.{Kind}
-use Rattle.records.specs.Read.{readRecord}
-use Rattle.records.specs.declared.Trailer.{Trailer}
-use Rattle.records.specs.declared.Trailer.the-variants.{Without, With}
-use Rattle.records.specs.declared.Part.{Part}
-use Rattle.records.specs.declared.Record.{Record}
+use Rattle.record_rules.specs.Read.{readRecord}
+use Rattle.record_rules.specs.declared.Trailer.{Trailer}
+use Rattle.record_rules.specs.declared.Trailer.the-variants.{Without, With}
+use Rattle.record_rules.specs.declared.Part.{Part}
+use Rattle.record_rules.specs.declared.Record.{Record}
 use Rattle.record_writer.specs.Write.{writeAs}
 use Rattle.record_numbers.specs.Indices.{numberCount}
 use Rattle.record_numbers.specs.Numbers.{trailerNumbers, numbersOf, readNumbers, numbersFault, fieldsFrom, writeNumbersAs}

@@ -22,13 +22,13 @@ use Rattle.numbers.specs.declared.Kind.{Kind}
 use Rattle.numbers.specs.declared.Kind.the-variants.{Avc, Svc}
 use Rattle.numbers.specs.declared.MaybeKind.{MaybeKind}
 use Rattle.numbers.specs.declared.MaybeKind.the-variants.{Known, Unknown}
-use Rattle.records.specs.Layout.{recordLayout, bit, flagOf}
-use Rattle.records.specs.Trailers.{hasTrailer, extensionTypes}
+use Rattle.record_rules.specs.Layout.{recordLayout, bit, flagOf}
+use Rattle.record_rules.specs.Trailers.{hasTrailer, extensionTypes}
 use Rattle.sets.proofs.Laws.{sets-none}
-use Rattle.records.proofs.Shapes.{flag-back}
-use Rattle.records.specs.Read.{recordFault, recordOf, readAs, readRecord, picturesEnd, recordEnd}
-use Rattle.records.specs.Answers.{partBytes}
-use Rattle.records.specs.declared.Record.{Record}
+use Rattle.record_rules.proofs.Shapes.{flag-back}
+use Rattle.record_rules.specs.Read.{recordFault, recordOf, readAs, readRecord, picturesEnd, recordEnd}
+use Rattle.record_rules.specs.Answers.{partBytes}
+use Rattle.record_rules.specs.declared.Record.{Record}
 use Rattle.record_writer.specs.Write.{writeRecord}
 use Rattle.record_writer.specs.Promise.{Holds}
 use Rattle.record_writer.proofs.Promise as writer

@@ -18,14 +18,14 @@ use Rattle.words.specs.Refusals.{_if_, _orElse_, Answer, refused, ok, _atPlace_
 use Rattle.words.specs.Buffers.{within}
 use Rattle.numbers.specs.Kinds.{kindOf, onKind}
 use Rattle.numbers.specs.declared.Kind.{Kind}
-use Rattle.records.specs.Layout.{recordLayout, bit, completeFlag, flagOf}
-use Rattle.records.specs.Read.{readRecord}
-use Rattle.records.specs.declared.High.{High}
-use Rattle.records.specs.declared.Trailer.{Trailer}
-use Rattle.records.specs.declared.Trailer.the-variants.{Without, With}
-use Rattle.records.specs.declared.Fields.{Fields}
-use Rattle.records.specs.declared.Part.{Part}
-use Rattle.records.specs.declared.Record.{Record}
+use Rattle.record_rules.specs.Layout.{recordLayout, bit, completeFlag, flagOf}
+use Rattle.record_rules.specs.Read.{readRecord}
+use Rattle.record_rules.specs.declared.High.{High}
+use Rattle.record_rules.specs.declared.Trailer.{Trailer}
+use Rattle.record_rules.specs.declared.Trailer.the-variants.{Without, With}
+use Rattle.record_rules.specs.declared.Fields.{Fields}
+use Rattle.record_rules.specs.declared.Part.{Part}
+use Rattle.record_rules.specs.declared.Record.{Record}
 use Rattle.record_writer.specs.Write.{writeAs}
 use Rattle.record_numbers.specs.Indices.{profile, compatibility, level, completeRepresentation, lengthSize}
 use Rattle.record_numbers.specs.Indices.{sequenceCount, pictureCount}

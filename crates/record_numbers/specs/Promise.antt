@@ -8,8 +8,8 @@ use Rattle.words.specs.Bytes.{Bytes, part}
 use Rattle.numbers.specs.Kinds.{kindOf}
 use Rattle.numbers.specs.declared.Kind.{Kind}
 use Rattle.numbers.specs.declared.MaybeKind.the-variants.{Known}
-use Rattle.records.specs.Read.{readRecord}
-use Rattle.records.specs.declared.Record.{Record}
+use Rattle.record_rules.specs.Read.{readRecord}
+use Rattle.record_rules.specs.declared.Record.{Record}
 use Rattle.record_numbers.specs.Indices.{sequenceStart, sequenceLength, pictureStart, pictureLength}
 use Rattle.record_numbers.specs.Indices.{extensionStart, extensionLength, numberCount}
 use Rattle.record_numbers.specs.Numbers.{numbersOf, readNumbers, _at_, numbersFault, fieldsFrom, writeNumbers}

@@ -12,7 +12,7 @@ use numbers::MaybeKind;
 use numbers::Refusal;
 use numbers::Written;
 use numbers::refusals;
-use records::Reading;
+use record_rules::Reading;
 
 // How many numbers a record is.
 pub const NUMBER_COUNT: usize = 18;

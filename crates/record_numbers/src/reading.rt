@@ -3,15 +3,15 @@ ghost use mathlib.Core.Path.{_≡_};
 ghost use Prim.Native.Nat.{_≤_};
 ghost use lib.ListN.{length};
 ghost use Rattle.words.specs.Buffers.{overwrite};
-ghost use Rattle.records.specs.Layout.{bit};
+ghost use Rattle.record_rules.specs.Layout.{bit};
 ghost use Rattle.record_numbers.specs.Indices.{numberCount};
 ghost use Rattle.record_numbers.specs.Numbers.{trailerNumbers, numbersOf};
 use crate::TRAILER_NONE;
 use crate::TRAILER_PRESENT;
-use records::Flag;
-use records::Part;
-use records::Record;
-use records::Trailer;
+use record_rules::Flag;
+use record_rules::Part;
+use record_rules::Record;
+use record_rules::Trailer;
 
 // complete_representation.
 fn flag_number(flag: Flag) -> u64

@@ -3,7 +3,7 @@ ghost use mathlib.Core.Path.{_≡_};
 ghost use Prim.Native.Nat.{_≤_};
 ghost use lib.ListN.{length};
 ghost use Rattle.words.specs.Buffers.{within, Wrote};
-ghost use Rattle.records.specs.Layout.{flagOf};
+ghost use Rattle.record_rules.specs.Layout.{flagOf};
 ghost use Rattle.numbers.specs.Answers.{answerOf};
 ghost use Rattle.record_numbers.specs.Indices.{numberCount};
 ghost use Rattle.record_numbers.specs.Numbers.{flagMost, highFrom, trailerFrom, numbersFault, fieldsFrom, writeNumbersAs};
@@ -15,11 +15,11 @@ use numbers::Kind;
 use numbers::Refusal;
 use numbers::Written;
 use numbers::refusals;
-use records::Fields;
-use records::Flag;
-use records::High;
-use records::Trailer;
-use records::layouts;
+use record_rules::Fields;
+use record_rules::Flag;
+use record_rules::High;
+use record_rules::Trailer;
+use record_rules::layouts;
 
 // The most that complete_representation may be.
 fn flag_most(k: Kind) -> u64

@@ -18,9 +18,9 @@ use Rattle.words.specs.Buffers.{writeAt, put, overwrite}
 use Rattle.words.proofs.Tests.{by-bool}
 use Rattle.words.proofs.Buffers.{put-fits, put-next, write-write, write-first}
 use Rattle.numbers.specs.declared.Kind.{Kind}
-use Rattle.records.specs.Trailers.{ending}
-use Rattle.records.specs.Fields.{headBytes, recordBytes, fits}
-use Rattle.records.specs.declared.Fields.{Fields}
+use Rattle.record_rules.specs.Trailers.{ending}
+use Rattle.record_rules.specs.Fields.{headBytes, recordBytes, fits}
+use Rattle.record_rules.specs.declared.Fields.{Fields}
 use Rattle.record_writer.specs.Write.{writeAs}
 use Rattle.record_writer.specs.Steps.{roomFor}
 use Rattle.record_writer.specs.declared.Room.{Room}

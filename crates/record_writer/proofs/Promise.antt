@@ -24,15 +24,15 @@ use Rattle.numbers.specs.Kinds.{kindOf, onKind}
 use Rattle.numbers.specs.declared.Kind.{Kind}
 use Rattle.numbers.specs.declared.MaybeKind.{MaybeKind}
 use Rattle.numbers.specs.declared.MaybeKind.the-variants.{Known, Unknown}
-use Rattle.records.specs.Read.{recordFault, recordOf, readAs, readRecord}
-use Rattle.records.specs.Fields.{recordBytes, placed, fits}
-use Rattle.records.specs.Answers.{partBytes, writtenAgain}
-use Rattle.records.specs.declared.Fields.{Fields}
-use Rattle.records.specs.declared.Record.{Record}
-use Rattle.records.proofs.BytesBack.{bytes-back}
-use Rattle.records.proofs.ReadsBack.{bytes-record, bytes-parts}
-use Rattle.records.proofs.Fits.{Fitting, fitting, bytes-bytes, read-fits}
-use Rattle.records.proofs.Refusals.{record-refusal}
+use Rattle.record_rules.specs.Read.{recordFault, recordOf, readAs, readRecord}
+use Rattle.record_rules.specs.Fields.{recordBytes, placed, fits}
+use Rattle.record_rules.specs.Answers.{partBytes, writtenAgain}
+use Rattle.record_rules.specs.declared.Fields.{Fields}
+use Rattle.record_rules.specs.declared.Record.{Record}
+use Rattle.record_rules.proofs.BytesBack.{bytes-back}
+use Rattle.record_rules.proofs.ReadsBack.{bytes-record, bytes-parts}
+use Rattle.record_rules.proofs.Fits.{Fitting, fitting, bytes-bytes, read-fits}
+use Rattle.record_rules.proofs.Refusals.{record-refusal}
 use Rattle.record_writer.specs.Write.{writeAs, writeRecord}
 use Rattle.record_writer.specs.Promise.{Holds, WritesBack, ReadsBack, MisfitsExactly, ReadRefusals, WriteRefusals}
 use Rattle.record_writer.proofs.Laws.{write-misfit, write-fits}

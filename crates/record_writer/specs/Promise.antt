@@ -10,10 +10,10 @@ use Rattle.words.specs.Bytes.{Bytes}
 use Rattle.numbers.specs.Kinds.{kindOf}
 use Rattle.numbers.specs.declared.Kind.{Kind}
 use Rattle.numbers.specs.declared.MaybeKind.the-variants.{Known}
-use Rattle.records.specs.Read.{readRecord}
-use Rattle.records.specs.Answers.{partBytes}
-use Rattle.records.specs.declared.Fields.{Fields}
-use Rattle.records.specs.declared.Record.{Record}
+use Rattle.record_rules.specs.Read.{readRecord}
+use Rattle.record_rules.specs.Answers.{partBytes}
+use Rattle.record_rules.specs.declared.Fields.{Fields}
+use Rattle.record_rules.specs.declared.Record.{Record}
 use Rattle.record_writer.specs.Write.{writeRecord}
 
 -- The bytes s are an accepted record of these fields and these sets.

@@ -3,8 +3,8 @@ use Prim.Native.Nat.{ℕ}
 use lib.ListN.{length}
 use Rattle.words.specs.Tests.{_<?_, pick}
 use Rattle.numbers.specs.declared.Kind.{Kind}
-use Rattle.records.specs.Trailers.{ending}
-use Rattle.records.specs.declared.Trailer.{Trailer}
+use Rattle.record_rules.specs.Trailers.{ending}
+use Rattle.record_rules.specs.declared.Trailer.{Trailer}
 use Rattle.record_writer.specs.declared.Facts.{Facts}
 use Rattle.record_writer.specs.declared.Room.{Room}
 use Rattle.record_writer.specs.declared.Room.the-variants.{Lacks, Fits}

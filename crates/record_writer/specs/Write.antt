@@ -7,8 +7,8 @@ use Rattle.words.specs.Refusals.{_if_, Answer, refused, ok, _atPlace_, _andThen
 use Rattle.words.specs.Buffers.{within}
 use Rattle.numbers.specs.Kinds.{kindOf, onKind}
 use Rattle.numbers.specs.declared.Kind.{Kind}
-use Rattle.records.specs.Fields.{recordBytes, fits}
-use Rattle.records.specs.declared.Fields.{Fields}
+use Rattle.record_rules.specs.Fields.{recordBytes, fits}
+use Rattle.record_rules.specs.declared.Fields.{Fields}
 
 -- the record of fields f with its sequence sets, its picture sets and its trailer's sets
 unfoldable pub writeAs : Kind → Fields → List ℕ → List ℕ → List ℕ → Answer (List ℕ)

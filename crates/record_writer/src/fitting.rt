@@ -1,17 +1,17 @@
 // Whether fields and sets fit a record, without making its bytes.
 ghost use mathlib.Core.Path.{_≡_};
 ghost use Prim.Native.Nat.{_≤_};
-ghost use Rattle.records.specs.Layout.{flagFits, flagsFit};
-ghost use Rattle.records.specs.Trailers.{highNumbersFit};
-ghost use Rattle.records.specs.Fields.{flagsOf, numbersFit, fits};
+ghost use Rattle.record_rules.specs.Layout.{flagFits, flagsFit};
+ghost use Rattle.record_rules.specs.Trailers.{highNumbersFit};
+ghost use Rattle.record_rules.specs.Fields.{flagsOf, numbersFit, fits};
 ghost use Rattle.record_writer.specs.Steps.{factsOf};
 use crate::Facts;
 use numbers::Kind;
-use records::Fields;
-use records::Flag;
-use records::High;
-use records::Trailer;
-use records::layouts;
+use record_rules::Fields;
+use record_rules::Flag;
+use record_rules::High;
+use record_rules::Trailer;
+use record_rules::layouts;
 
 // A flag is given exactly where a record has it.
 fn flag_fits(has: bool, flag: Flag) -> bool

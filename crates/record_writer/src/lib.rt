@@ -13,7 +13,7 @@ use numbers::MaybeKind;
 use numbers::Refusal;
 use numbers::Written;
 use numbers::refusals;
-use records::Fields;
+use record_rules::Fields;
 
 // How many bytes of a record stand neither in sets nor in a trailer: its head, and the number of picture sets.
 const FRONT: usize = 7;

@@ -5,18 +5,18 @@ ghost use mathlib.Core.List.{[], _∷_, _++_};
 ghost use Prim.Native.Nat.{_+_, _-_, _≤_, _<_};
 ghost use lib.ListN.{length};
 ghost use Rattle.words.specs.Buffers.{writeAt, put, overwrite};
-ghost use Rattle.records.specs.Layout.{byteOf, bit};
-ghost use Rattle.records.specs.Trailers.{highBytes, highNumbersFit, ending};
-ghost use Rattle.records.specs.Fields.{headBytes, recordBytes, numbersFit, fits};
+ghost use Rattle.record_rules.specs.Layout.{byteOf, bit};
+ghost use Rattle.record_rules.specs.Trailers.{highBytes, highNumbersFit, ending};
+ghost use Rattle.record_rules.specs.Fields.{headBytes, recordBytes, numbersFit, fits};
 ghost use Rattle.record_writer.specs.Steps.{roomFor};
 use crate::Room;
 use numbers::Kind;
-use records::Fields;
-use records::Flag;
-use records::High;
-use records::Shape;
-use records::Trailer;
-use records::layouts;
+use record_rules::Fields;
+use record_rules::Flag;
+use record_rules::High;
+use record_rules::Shape;
+use record_rules::Trailer;
+use record_rules::layouts;
 
 // A flag as a bit.
 fn bit_of(flag: Flag) -> u8

@@ -1,18 +1,4 @@
--- Laws and theorems about the definitions of records.
+-- Laws for the reader.
 --
---   Shapes       a byte as flags, fixed bits and a value; what holds of each kind's row
---   Parsed       an accepted record, taken apart
 --   Walked       the steps of the reader
---   BytesBack    a record that was read makes the bytes that were read
---   Numbers      what numbers that fit say
---   ReadsBack    fields and sets that fit are read back from the bytes that they make
---   Fits         what fits, set by set
---   Refusals     every refusal is one of the table
-pub mod Shapes
-pub mod Parsed
 pub mod Walked
-pub mod BytesBack
-pub mod Numbers
-pub mod ReadsBack
-pub mod Fits
-pub mod Refusals

@@ -23,13 +23,13 @@ use Rattle.sets.specs.Sets.{setsFault, setsEnd, walkOf}
 use Rattle.sets.specs.declared.SetTypes.{SetTypes}
 use Rattle.sets.specs.declared.Walk.{Walk}
 use Rattle.sets.proofs.Laws.{sets-none, walk-fault, walk-end}
-use Rattle.records.specs.Layout.{recordLayout, byteFault}
-use Rattle.records.specs.Trailers.{extensionTypes, hasTrailer, valuesFault, highOf}
-use Rattle.records.specs.Read.{picturesEnd, headFault, lengthSize, sequencesFault, picturesFault, followFault, recordEnd, recordFault, recordOf, readAs}
+use Rattle.record_rules.specs.Layout.{recordLayout, byteFault}
+use Rattle.record_rules.specs.Trailers.{extensionTypes, hasTrailer, valuesFault, highOf}
+use Rattle.record_rules.specs.Read.{picturesEnd, headFault, lengthSize, sequencesFault, picturesFault, followFault, recordEnd, recordFault, recordOf, readAs}
 use Rattle.records.specs.Steps.{Walked, Followed}
-use Rattle.records.specs.declared.High.{High}
-use Rattle.records.specs.declared.Trailer.the-variants.{Without, With}
-use Rattle.records.specs.declared.Record.{Record}
+use Rattle.record_rules.specs.declared.High.{High}
+use Rattle.record_rules.specs.declared.Trailer.the-variants.{Without, With}
+use Rattle.record_rules.specs.declared.Record.{Record}
 
 pub head-on : (k : Kind) (s : List ℕ) → 0 < length s → byteAt s 0 ≡ 1 → headFault k s ≡ (byteFault s (recordLayout k .«length_size») 4 orElse badLengthSize if lengthSize k s ≡? 3 orElse byteFault s (recordLayout k .count) 5)
 unfolding headFault

@@ -4,7 +4,7 @@ use mathlib.Core.Path.{_≡_}
 use mathlib.Core.List.{List}
 use Rattle.sets.specs.declared.Walk.{Walk}
 use Rattle.numbers.specs.declared.Kind.{Kind}
-use Rattle.records.specs.Read.{followFault, trailerOf, extensionsAt, recordEnd}
+use Rattle.record_rules.specs.Read.{followFault, trailerOf, extensionsAt, recordEnd}
 use Rattle.records.specs.declared.Follow.{Follow}
 
 -- a walk has found this refusal and, if it is none, this end

@@ -5,19 +5,19 @@ ghost use lib.ListN.{length};
 ghost use Rattle.words.specs.Refusals.{_orElse_};
 ghost use Rattle.words.specs.Bytes.{byteAt};
 ghost use Rattle.sets.specs.Sets.{setsFault, setsEnd};
-ghost use Rattle.records.specs.Layout.{Sound, recordLayout, valueIn, flagOf, pictureTypes, missing, byteFault};
-ghost use Rattle.records.specs.Trailers.{extensionTypes, valuesFault, highOf};
-ghost use Rattle.records.specs.Read.{headFault, sequencesFault, sequencesEnd, picturesEnd, fieldsOf, trailerOf};
+ghost use Rattle.record_rules.specs.Layout.{Sound, recordLayout, valueIn, flagOf, pictureTypes, missing, byteFault};
+ghost use Rattle.record_rules.specs.Trailers.{extensionTypes, valuesFault, highOf};
+ghost use Rattle.record_rules.specs.Read.{headFault, sequencesFault, sequencesEnd, picturesEnd, fieldsOf, trailerOf};
 ghost use Rattle.records.specs.Steps.{Walked, Followed};
-use crate::Fields;
-use crate::Flag;
 use crate::Follow;
-use crate::High;
-use crate::Shape;
-use crate::Trailer;
-use crate::layouts;
 use numbers::Kind;
 use numbers::refusals;
+use record_rules::Fields;
+use record_rules::Flag;
+use record_rules::High;
+use record_rules::Shape;
+use record_rules::Trailer;
+use record_rules::layouts;
 use sets::Walk;
 
 // The value of a byte.
@@ -49,10 +49,10 @@ pub(crate) fn head_fault(k: Kind, s: &[u8]) -> u8
     let l = layouts::record_layout(k);
     let shape = l.length_size;
     let count = l.count;
-    if s.len() <= 0 {
+    if s.len() <= layouts::VERSION_AT {
         return refusals::RECORD_CUT;
     }
-    if s[0] != layouts::VERSION {
+    if s[layouts::VERSION_AT] != layouts::VERSION {
         return refusals::BAD_VERSION;
     }
     let fifth = byte_fault(s, shape, layouts::LENGTH_SIZE_AT);

@@ -5,6 +5,9 @@ ghost use lib.ListN.{length};
 ghost use Rattle.sets.specs.Sets.{setFault, walkOf, setsFit};
 use numbers::refusals;
 
+// The bytes of the length before a set.
+pub const SET_LENGTH_SIZE: usize = 2;
+
 // The one or two unit types that a set may have.
 pub struct SetTypes {
     pub one: u8,
@@ -24,17 +27,17 @@ fn set_fault(types: SetTypes, s: &[u8], at: usize) -> u8
     if s.len() < at {
         return refusals::RECORD_CUT;
     }
-    if s.len() - at < 2 {
+    if s.len() - at < SET_LENGTH_SIZE {
         return refusals::RECORD_CUT;
     }
-    let n = numbers::number(s, at, 2);
+    let n = numbers::number(s, at, SET_LENGTH_SIZE);
     if n == 0 {
         return refusals::BAD_SET;
     }
-    if s.len() - at - 2 < n {
+    if s.len() - at - SET_LENGTH_SIZE < n {
         return refusals::RECORD_CUT;
     }
-    let h = s[at + 2];
+    let h = s[at + SET_LENGTH_SIZE];
     if 128 <= h {
         return refusals::BAD_SET;
     }
@@ -58,7 +61,7 @@ pub fn walk_sets(types: SetTypes, s: &[u8], n: usize, at: usize) -> Walk
         if fault != 0 {
             return Walk { fault, end: 0 };
         }
-        p = p + 2 + numbers::number(s, p, 2);
+        p = p + SET_LENGTH_SIZE + numbers::number(s, p, SET_LENGTH_SIZE);
         left -= 1;
     }
     Walk { fault: 0, end: p }

@@ -1,11 +1,11 @@
 // The request `record`: a kind and the bytes of a record.
 use crate::print;
 use crate::request;
-use records::Flag;
-use records::Part;
-use records::Reading;
-use records::Record;
-use records::Trailer;
+use record_rules::Flag;
+use record_rules::Part;
+use record_rules::Reading;
+use record_rules::Record;
+use record_rules::Trailer;
 
 fn print_flag(flag: Flag) {
     match flag {

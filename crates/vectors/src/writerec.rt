@@ -2,10 +2,10 @@
 use crate::print;
 use crate::request;
 use numbers::Written;
-use records::Fields;
-use records::Flag;
-use records::High;
-use records::Trailer;
+use record_rules::Fields;
+use record_rules::Flag;
+use record_rules::High;
+use record_rules::Trailer;
 
 // complete_representation: 0 in an AVC record is none.
 fn flag(kind: u32, complete: usize) -> Flag {

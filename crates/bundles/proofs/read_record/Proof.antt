@@ -3,7 +3,7 @@ use borrow.Author.Needs.{needs}
 use Rattle.bundles.proofs.read_record.Statement.{statement}
 use native.Mathlib.Omega.{arith}
 use mathlib.Core.Path.{refl, sym}
-use Rattle.records.proofs.Parsed.{length-size-most}
+use Rattle.record_rules.proofs.Parsed.{length-size-most}
 use Rattle.bundles.proofs.Checking.{read-refused, read-accepted}
 use Rattle.bundles.proofs.read_record.Tie as tie
 

@@ -9,8 +9,8 @@ use mathlib.Core.Bool.{true}
 use borrow.Author.Tests.{not-true, not-false}
 use Rattle.words.specs.Buffers.{within}
 use Rattle.words.proofs.Buffers.{refuse, accept, within-room, within-not}
-use Rattle.records.specs.Trailers.{ending}
-use Rattle.records.specs.Fields.{fits, recordBytes}
+use Rattle.record_rules.specs.Trailers.{ending}
+use Rattle.record_rules.specs.Fields.{fits, recordBytes}
 use Rattle.record_writer.proofs.Laws.{bytes-length, write-misfit, write-fits, room-lacks, room-fits}
 use Rattle.record_writer.proofs.write_as.Tie as tie
 

@@ -1,7 +1,7 @@
 -- The fields and the places of an accepted record are the definition's. Assumes nothing.
 use native.Mathlib.Omega.{arith}
 use Rattle.records.proofs.accepted.Statement.{statement}
-use Rattle.records.proofs.Parsed.{Parsed, parsed}
+use Rattle.record_rules.proofs.Parsed.{Parsed, parsed}
 use Rattle.records.proofs.Walked.{accepted}
 use Rattle.records.proofs.accepted.Tie as tie
 

@@ -3,8 +3,8 @@ use borrow.Author.Needs.{needs}
 use native.Mathlib.Omega.{arith}
 use mathlib.Core.Path.{_≡_}
 use Rattle.words.specs.Bytes.{byteAt}
-use Rattle.records.specs.Layout.{recordLayout, valueIn}
-use Rattle.records.proofs.Shapes.{row, value-byte}
+use Rattle.record_rules.specs.Layout.{recordLayout, valueIn}
+use Rattle.record_rules.proofs.Shapes.{row, value-byte}
 use Rattle.records.proofs.length_size.Statement.{statement}
 use Rattle.records.proofs.length_size.Tie as tie
 

@@ -1,7 +1,7 @@
 -- An unknown kind is refused; a known one goes on. Assumes nothing.
 use borrow.Author.Needs.{needs}
 use Rattle.records.proofs.read.Statement.{statement}
-use Rattle.records.specs.Read.{readRecord}
+use Rattle.record_rules.specs.Read.{readRecord}
 use Rattle.records.proofs.read.Tie as tie
 
 from-number-requires : tie.Need-from-number-requires

@@ -3,9 +3,9 @@ use borrow.Author.Needs.{needs}
 use native.Mathlib.Omega.{arith}
 use mathlib.Core.Path.{_≡_, sym, _∙_}
 use Rattle.records.proofs.read_as.Statement.{statement}
-use Rattle.records.specs.Read.{headFault, sequencesFault, sequencesEnd, picturesFault, picturesEnd, followFault, recordEnd}
-use Rattle.records.specs.Layout.{missing}
-use Rattle.records.proofs.Parsed.{head-good, pictures-in, there}
+use Rattle.record_rules.specs.Read.{headFault, sequencesFault, sequencesEnd, picturesFault, picturesEnd, followFault, recordEnd}
+use Rattle.record_rules.specs.Layout.{missing}
+use Rattle.record_rules.proofs.Parsed.{head-good, pictures-in, there}
 use Rattle.records.proofs.Walked.{refused-head, refused-sequences, refused-pictures, refused-follow, refused-after, whole-record}
 use Rattle.words.proofs.Refusals.{orElse-none}
 use Rattle.records.proofs.read_as.Tie as tie

@@ -6,9 +6,9 @@ use mathlib.Core.Bool.{and-true}
 use borrow.Author.Tests.{ne-eqb, not-true, not-false}
 use Rattle.words.specs.Tests.{all}
 use Rattle.words.proofs.Tests.{tests}
-use Rattle.records.specs.Trailers.{ending}
-use Rattle.records.specs.Parts.{fitsByParts}
-use Rattle.records.proofs.Fits.{fits-by-parts}
+use Rattle.record_rules.specs.Trailers.{ending}
+use Rattle.record_rules.specs.Parts.{fitsByParts}
+use Rattle.record_rules.proofs.Fits.{fits-by-parts}
 use Rattle.record_writer.proofs.fitting.fit.Tie as tie
 
 numbers-fit-requires : tie.Need-numbers-fit-requires

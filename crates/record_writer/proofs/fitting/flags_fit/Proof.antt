@@ -2,7 +2,7 @@
 use borrow.Author.Needs.{needs}
 use mathlib.Core.Path.{sym, _∙_}
 use mathlib.Core.Bool.{and-true}
-use Rattle.records.specs.Layout.{flagsFit}
+use Rattle.record_rules.specs.Layout.{flagsFit}
 use Rattle.record_writer.proofs.fitting.flags_fit.Statement.{statement}
 use Rattle.record_writer.proofs.fitting.flags_fit.Tie as tie
 

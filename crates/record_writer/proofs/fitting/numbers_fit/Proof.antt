@@ -4,7 +4,7 @@ use Rattle.record_writer.proofs.fitting.numbers_fit.Statement.{statemen
 use borrow.Author.Tests.{not-true, not-false, lt-ltb, le-leb}
 use Rattle.words.specs.Tests.{all}
 use Rattle.words.proofs.Tests.{tests}
-use Rattle.records.specs.Fields.{numbersFit}
+use Rattle.record_rules.specs.Fields.{numbersFit}
 use mathlib.Core.Bool.{and-true}
 use Rattle.record_writer.proofs.fitting.numbers_fit.Tie as tie
 

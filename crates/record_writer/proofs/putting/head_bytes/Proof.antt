@@ -4,9 +4,9 @@ use native.Mathlib.Omega.{arith}
 use mathlib.Core.Path.{_≡_, sym, _∙_}
 use mathlib.Core.List.{[], _∷_}
 use Prim.Native.Nat.{_+_, _-_, _*_, _<_}
-use Rattle.records.specs.Layout.{recordLayout, byteOf, bit}
-use Rattle.records.proofs.Shapes.{row, byte-below, plain-below, Flagged, flagged, flags-one}
-use Rattle.records.proofs.Numbers.{Numbers, numbers}
+use Rattle.record_rules.specs.Layout.{recordLayout, byteOf, bit}
+use Rattle.record_rules.proofs.Shapes.{row, byte-below, plain-below, Flagged, flagged, flags-one}
+use Rattle.record_rules.proofs.Numbers.{Numbers, numbers}
 use Rattle.record_writer.proofs.putting.head_bytes.Statement.{statement}
 use Rattle.record_writer.proofs.putting.head_bytes.Tie as tie
 

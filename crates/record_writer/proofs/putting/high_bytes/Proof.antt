@@ -1,9 +1,9 @@
 -- Each byte by its shape. Assumes nothing.
 use native.Mathlib.Omega.{arith}
 use Rattle.record_writer.proofs.putting.high_bytes.Statement.{statement}
-use Rattle.records.specs.Trailers.{chromaShape, depthShape}
-use Rattle.records.proofs.Shapes.{sound-chroma, sound-depth, plain-below}
-use Rattle.records.proofs.Numbers.{HighNumbers, high-numbers}
+use Rattle.record_rules.specs.Trailers.{chromaShape, depthShape}
+use Rattle.record_rules.proofs.Shapes.{sound-chroma, sound-depth, plain-below}
+use Rattle.record_rules.proofs.Numbers.{HighNumbers, high-numbers}
 use Rattle.record_writer.proofs.putting.high_bytes.Tie as tie
 
 -- the values fit

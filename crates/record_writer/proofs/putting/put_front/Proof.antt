@@ -3,7 +3,7 @@ use borrow.Author.Needs.{needs}
 use native.Mathlib.Omega.{arith}
 use mathlib.Core.Path.{_∙_}
 use Rattle.record_writer.proofs.putting.put_front.Statement.{statement}
-use Rattle.records.proofs.Numbers.{numbers}
+use Rattle.record_rules.proofs.Numbers.{numbers}
 use Rattle.record_writer.proofs.Laws.{front-written}
 use Rattle.record_writer.proofs.putting.put_front.Tie as tie
 

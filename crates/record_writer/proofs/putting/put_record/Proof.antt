@@ -4,10 +4,10 @@ use native.Mathlib.Omega.{arith}
 use mathlib.Core.Path.{_≡_, _∙_}
 use Prim.Native.Nat.{_+_}
 use lib.ListN.{length}
-use Rattle.records.proofs.Numbers.{numbers-true}
-use Rattle.records.proofs.Fits.{Fitting, fitting}
-use Rattle.records.specs.Trailers.{ending}
-use Rattle.records.specs.Fields.{recordBytes}
+use Rattle.record_rules.proofs.Numbers.{numbers-true}
+use Rattle.record_rules.proofs.Fits.{Fitting, fitting}
+use Rattle.record_rules.specs.Trailers.{ending}
+use Rattle.record_rules.specs.Fields.{recordBytes}
 use Rattle.record_writer.proofs.Laws.{bytes-length, record-written}
 use Rattle.record_writer.proofs.putting.put_record.Statement.{statement}
 use Rattle.record_writer.proofs.putting.put_record.Tie as tie

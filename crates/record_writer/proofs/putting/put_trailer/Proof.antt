@@ -2,7 +2,7 @@
 use borrow.Author.Needs.{needs}
 use native.Mathlib.Omega.{arith}
 use mathlib.Core.Path.{_∙_}
-use Rattle.records.specs.Trailers.{highBytes}
+use Rattle.record_rules.specs.Trailers.{highBytes}
 use Rattle.words.proofs.Buffers.{write-none, put-fits}
 use Rattle.record_writer.proofs.putting.put_trailer.Statement.{statement}
 use Rattle.record_writer.proofs.putting.put_trailer.Tie as tie

@@ -3,7 +3,7 @@ use borrow.Author.Needs.{needs}
 use native.Mathlib.Omega.{arith}
 use Rattle.records.proofs.steps.byte_fault.Statement.{statement}
 use Rattle.words.proofs.Tests.{tests}
-use Rattle.records.specs.Layout.{byteFault}
+use Rattle.record_rules.specs.Layout.{byteFault}
 use Rattle.records.proofs.steps.byte_fault.Tie as tie
 
 returns : tie.Need-returns

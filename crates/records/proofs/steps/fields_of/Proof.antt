@@ -5,8 +5,8 @@ use mathlib.Core.Path.{_≡_}
 use lib.ListN.{length}
 use Rattle.records.proofs.steps.fields_of.Statement.{statement}
 use Rattle.words.specs.Bytes.{byteAt}
-use Rattle.records.specs.Layout.{recordLayout, valueIn}
-use Rattle.records.proofs.Shapes.{row, value-byte}
+use Rattle.record_rules.specs.Layout.{recordLayout, valueIn}
+use Rattle.record_rules.proofs.Shapes.{row, value-byte}
 use Rattle.records.proofs.steps.fields_of.Tie as tie
 
 -- the length size less one

@@ -9,8 +9,8 @@ use mathlib.Core.Bool.{true}
 use borrow.Author.Tests.{not-true, not-false}
 use Rattle.words.specs.Bytes.{byteAt}
 use Rattle.words.proofs.Refusals.{orElse-none}
-use Rattle.records.specs.Trailers.{hasTrailer, valuesFault}
-use Rattle.records.proofs.Parsed.{values-good}
+use Rattle.record_rules.specs.Trailers.{hasTrailer, valuesFault}
+use Rattle.record_rules.proofs.Parsed.{values-good}
 use Rattle.records.proofs.Walked.{follow-none, follow-refused, follow-with}
 use Rattle.records.proofs.steps.follow_of.Tie as tie
 

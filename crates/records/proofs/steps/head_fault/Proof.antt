@@ -9,10 +9,10 @@ use Rattle.words.specs.RefusalNumbers.{badLengthSize}
 use Rattle.words.specs.Bytes.{byteAt}
 use Rattle.words.proofs.Tests.{tests}
 use Rattle.words.proofs.Refusals.{orElse-here, orElse-on}
-use Rattle.records.specs.Layout.{recordLayout, valueIn, byteFault}
-use Rattle.records.specs.Read.{headFault, lengthSize}
-use Rattle.records.proofs.Shapes.{row, value-byte}
-use Rattle.records.proofs.Parsed.{byte-good}
+use Rattle.record_rules.specs.Layout.{recordLayout, valueIn, byteFault}
+use Rattle.record_rules.specs.Read.{headFault, lengthSize}
+use Rattle.record_rules.proofs.Shapes.{row, value-byte}
+use Rattle.record_rules.proofs.Parsed.{byte-good}
 use Rattle.records.proofs.Walked.{head-on}
 use borrow.Author.Tests.{eq-eqb, ne-eqb}
 use Rattle.records.proofs.steps.head_fault.Tie as tie

@@ -3,7 +3,7 @@ use borrow.Author.Needs.{needs}
 use native.Mathlib.Omega.{arith}
 use Prim.Native.Nat.{_+_}
 use Rattle.records.proofs.steps.high_of.Statement.{statement}
-use Rattle.records.proofs.Shapes.{sound-chroma, sound-depth}
+use Rattle.record_rules.proofs.Shapes.{sound-chroma, sound-depth}
 use Rattle.records.proofs.steps.high_of.Tie as tie
 
 shared-slice-read-value-in : tie.Need-shared-slice-read-value-in

@@ -3,8 +3,8 @@ use borrow.Author.Needs.{needs}
 use Rattle.records.proofs.steps.values_fault.Statement.{statement}
 use Rattle.words.proofs.Tests.{tests}
 use Rattle.words.proofs.Refusals.{orElse-here, orElse-on}
-use Rattle.records.specs.Trailers.{valuesFault}
-use Rattle.records.proofs.Shapes.{sound-chroma, sound-depth}
+use Rattle.record_rules.specs.Trailers.{valuesFault}
+use Rattle.record_rules.proofs.Shapes.{sound-chroma, sound-depth}
 use Rattle.records.proofs.steps.values_fault.Tie as tie
 
 byte-fault-requires : tie.Need-byte-fault-requires

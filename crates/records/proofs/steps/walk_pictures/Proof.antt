@@ -7,7 +7,7 @@ use lib.ListN.{length}
 use Rattle.records.proofs.steps.walk_pictures.Statement.{statement}
 use borrow.Author.Tests.{le-leb, lt-leb}
 use Rattle.words.specs.Bytes.{byteAt}
-use Rattle.records.specs.Layout.{pictureTypes}
+use Rattle.record_rules.specs.Layout.{pictureTypes}
 use Rattle.records.proofs.Walked.{walked}
 use Rattle.records.proofs.steps.walk_pictures.Tie as tie
 

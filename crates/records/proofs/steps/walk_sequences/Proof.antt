@@ -2,9 +2,9 @@
 use borrow.Author.Needs.{needs}
 use mathlib.Core.Path.{_≡_}
 use Rattle.records.proofs.steps.walk_sequences.Statement.{statement}
-use Rattle.records.specs.Layout.{recordLayout}
-use Rattle.records.specs.Read.{sequencesEnd, sequenceCount}
-use Rattle.records.proofs.Shapes.{row}
+use Rattle.record_rules.specs.Layout.{recordLayout}
+use Rattle.record_rules.specs.Read.{sequencesEnd, sequenceCount}
+use Rattle.record_rules.proofs.Shapes.{row}
 use Rattle.records.proofs.Walked.{walked}
 use Rattle.records.proofs.steps.walk_sequences.Tie as tie
 

@@ -6,8 +6,8 @@ use Prim.Native.Nat.{_+_, _<_}
 use lib.ListN.{length}
 use Rattle.records.proofs.steps.walk_trailer.Statement.{statement}
 use Rattle.words.specs.Bytes.{byteAt}
-use Rattle.records.specs.Trailers.{extensionTypes, valuesFault}
-use Rattle.records.proofs.Parsed.{values-good}
+use Rattle.record_rules.specs.Trailers.{extensionTypes, valuesFault}
+use Rattle.record_rules.proofs.Parsed.{values-good}
 use Rattle.records.proofs.Walked.{walked, cut-walk}
 use Rattle.records.proofs.steps.walk_trailer.Tie as tie
 
