@@ -8,9 +8,9 @@ ghost use Rattle.words.specs.Lists.{nth};
 ghost use Rattle.numbers.specs.Kinds.{kindOf};
 ghost use Rattle.numbers.specs.Sizes.{lengthSizeOf};
 ghost use Rattle.bundles.specs.Limits.{trackMost, referenceMost, sampleMost};
-ghost use Rattle.bundles.specs.Recordings.{noTrack, noReference, sampleCount, trackOf, timeOf, referencesFrom, contentOf};
+ghost use Rattle.bundles.specs.Recordings.{noTrack, noReference, sampleCount, trackOf, timeOf, samplesIn, referencesFrom, contentOf};
 ghost use Rattle.bundles.specs.Tracks.{knownKind, knownSize};
-ghost use Rattle.tables.specs.Tables.{columns, sampleRow, atMost, inside, sampleCell, startIn, keptCountIn, withKeptCount, cell, trackTotal, referenceTotal, sampleTotal, ownerIn, afterIn, rangeIn, layoutIn, recordingIn};
+ghost use Rattle.tables.specs.Tables.{columns, sampleRow, atMost, inside, sampleCell, startIn, keptCountIn, withKeptCount, cell, trackTotal, referenceTotal, sampleTotal, ownerIn, afterIn, rangeIn, numbersIn, layoutIn, recordingIn};
 use numbers::ByteOffset;
 use numbers::Kind;
 use numbers::LengthSize;
@@ -301,7 +301,7 @@ fn after(t: &[u64], k: usize) -> usize
 
 // The samples of a track; none where there is no such track.
 pub fn sample_range(t: &[u64], k: TrackNumber) -> SampleRange
-    ensures { λ r. ⌜ r ≡ rangeIn (now (t .entry)) (k .0) ⌝ }
+    ensures { λ r. ⌜ (r ≡ rangeIn (now (t .entry)) (k .0)) × (0 < k .0 → numbersIn r ≡ samplesIn (layoutIn (now (t .entry))) (k .0)) ⌝ }
 {
     let n = k.0;
     if n == 0 {

@@ -58,7 +58,7 @@ returns c =
     let a = c .before .before .before .before .before .before .args in
     let r = c .before .before .before .sample-range .result in
     let e : c .before .before .loop .m - r .before ≡ r .after - r .before = omega arith in
-    rw (base-searched (a .t .now) (a .n .0) (a .track .0), ← c .before .before .before .before .sample-time .ensures, ← c .before .before .before .sample-range .ensures, ← e) (c .before .before .loop .inv .2)
+    rw (base-searched (a .t .now) (a .n .0) (a .track .0), ← c .before .before .before .before .sample-time .ensures, ← c .before .before .before .sample-range .ensures .0, ← e) (c .before .before .loop .inv .2)
 
 pub base-in-spec : {M : Type 1} → statement M
 base-in-spec =

@@ -59,20 +59,20 @@ sample-range-requires c κs = search needs
 
 sub-if3 : tie.Need-sub-if3
 sub-if3 c =
-    let h = rw (← c .before .sample-range .ensures) at (within (c .before .before .before .before .before)) in
+    let h = rw (← c .before .sample-range .ensures .0) at (within (c .before .before .before .before .before)) in
     omega (arith, pos-of-ne-zero (c .before .before .before .before .if1 .left))
 
 returns-3 : tie.Need-returns-3
 returns-3 c =
     let t = c .before .before .before .before .before .before .before .before .before .before .args .t .now in
     let k = c .before .before .before .before .before .before .before .reference .result .0 in
-    rw (at (c .before .before .before .before)) (sym (range-past t k (track (c .before .before .before .before .before)) (c .before .before .before .before .stepped .result) (rw (← c .before .before .sample-range .ensures) (c .if3 .taken))))
+    rw (at (c .before .before .before .before)) (sym (range-past t k (track (c .before .before .before .before .before)) (c .before .before .before .before .stepped .result) (rw (← c .before .before .sample-range .ensures .0) (c .if3 .taken))))
 
 add-t10 : tie.Need-add-t10
 add-t10 c =
     let t = c .before .before .before .before .before .before .before .before .before .before .before .args .t .now in
     let k = c .before .before .before .before .before .before .before .before .reference .result .0 in
-    let m = rw (← c .before .before .before .sample-range .ensures) at (range-most t k) in
+    let m = rw (← c .before .before .before .sample-range .ensures .0) at (range-most t k) in
     let h = c .before .if3 .left in
     omega arith
 
@@ -80,7 +80,7 @@ returns-4 : tie.Need-returns-4
 returns-4 c =
     let t = c .before .before .before .before .before .before .before .before .before .before .before .args .t .now in
     let k = c .before .before .before .before .before .before .before .before .reference .result .0 in
-    rw (at (c .before .before .before .before .before), range-at t k (track (c .before .before .before .before .before .before)) (c .before .before .before .before .before .stepped .result) (pos-of-ne-zero (c .before .before .before .before .if2 .left)) (rw (← c .before .before .before .sample-range .ensures) (c .before .if3 .left)), c .before .before .before .sample-range .ensures)
+    rw (at (c .before .before .before .before .before), range-at t k (track (c .before .before .before .before .before .before)) (c .before .before .before .before .before .stepped .result) (pos-of-ne-zero (c .before .before .before .before .if2 .left)) (rw (← c .before .before .before .sample-range .ensures .0) (c .before .if3 .left)), c .before .before .before .sample-range .ensures .0)
 
 pub sample-named-spec : {M : Type 1} → statement M
 sample-named-spec =
