@@ -17,10 +17,10 @@ use mathlib.Core.Bool.{false}
 use mathlib.Core.List.{List, [], _∷_}
 use mathlib.Core.Logic.{_⊎_, _↔_}
 use lib.ListN.{length, getD}
-use Rattle.words.specs.RefusalNumbers.{refusalNumbers, recordRefusals}
+use Rattle.words.specs.RefusalNumbers.{refusalNumbers}
 use Rattle.words.specs.Refusals.{Answer, refused, ok, passed, countOf}
 use Rattle.words.specs.Lists.{_∈_}
-use Rattle.words.specs.Bytes.{big, splice}
+use Rattle.words.specs.Bytes.{Bytes, big, splice}
 use Rattle.words.specs.Buffers.{Wrote}
 use Rattle.words.proofs.Buffers as buffers
 use Rattle.words.proofs.Lists.{Rising}
@@ -28,7 +28,7 @@ use Rattle.numbers.specs.Places.{placeSize}
 use Rattle.records.specs.Read.{readRecord}
 use Rattle.records.specs.declared.Fields.{Fields}
 use Rattle.record_writer.specs.Write.{writeRecord}
-use Rattle.record_writer.specs.Promise.{WritesBack, ReadsBack, MisfitsExactly}
+use Rattle.record_writer.specs.Promise.{Holds, WritesBack, ReadsBack}
 use Rattle.record_writer.proofs.Promise as records
 use Rattle.units.specs.Units.{Sample}
 use Rattle.units.specs.Aggregators.{units}
@@ -50,6 +50,8 @@ use Rattle.tally.specs.declared.Outcome.the-variants.{Passed, Empty}
 use Rattle.audit_rules.specs.Auditing.{lineSize, lines, tally, auditCall, tallyCall}
 use Rattle.audit_rules.specs.Rules.{lineAt, outcomeByLine, LinePerSample, Counts}
 use Rattle.audit_rules.proofs.Promises as auditing
+use Rattle.promises.specs.Records.{RecordOf, WriteRefused, ReadRefused}
+use Rattle.promises.specs.RecordLaws as recordLaws
 use Rattle.promises.specs.Refused.{InBundle, InSample}
 use Rattle.promises.specs.Refused as refusals
 
@@ -64,15 +66,16 @@ pub table-numbers :
     ∷ []
 table-numbers = refl
 
--- records read: 4 or 8 to 13, at 0 (crates/record_writer/proofs/Promise)
-pub read-refused : (kind : ℕ) (s : List ℕ) (n p : ℕ) → readRecord kind s ≡ refused n p → (p ≡ 0) × (n ∈ (4 ∷ recordRefusals))
-read-refused = records.read-refusals
+-- records read: 4 or 8 to 13, at 0, and only what is no record (specs/RecordLaws)
+pub read-refused : (kind : ℕ) (s : List ℕ) (n p : ℕ) → readRecord kind s ≡ refused n p → ReadRefused kind s n p
+read-refused = recordLaws.read-refused
 
--- records written: 4, 31 or 29, at 0 (crates/record_writer/proofs/Promise)
+-- records written: 4, 31 or 29, at 0, exactly if the kind is unknown, the fields are not valid, or there is no room (specs/RecordLaws)
 pub write-refused :
-    (kind : ℕ) (f : Fields) (sequences pictures extensions : List ℕ) (room n p : ℕ) →
-    writeRecord kind f sequences pictures extensions room ≡ refused n p → (p ≡ 0) × (n ∈ (4 ∷ 31 ∷ 29 ∷ []))
-write-refused = records.write-refusals
+    (f : Fields) (sequences pictures extensions : List ℕ) (kind room n p : ℕ) →
+    (writeRecord kind f sequences pictures extensions room ≡ refused n p)
+    ↔ WriteRefused kind f sequences pictures extensions room n p
+write-refused = recordLaws.write-refused-exactly
 
 -- samples checked: 4 or 11 at 0, or 14 to 22 at a place in the sample (crates/samples/proofs/Laws)
 pub check-refused : (kind l : ℕ) (s : List ℕ) (n p : ℕ) → checkAlone kind l s ≡ refused n p → AloneRefusal s n p
@@ -144,9 +147,18 @@ writes-back = records.writes-back
 pub reads-back : ReadsBack
 reads-back = records.reads-back
 
--- fields are valid exactly if an accepted record has them (crates/record_writer/proofs/Promise)
-pub misfits-exactly : MisfitsExactly
-misfits-exactly = records.misfits-exactly
+-- bytes are accepted, with these fields and these sets, exactly if they are the record that valid fields and sets spell (specs/RecordLaws)
+pub record-exactly :
+    (f : Fields) (sequences pictures extensions : List ℕ) (kind : ℕ) (s : List ℕ) → Bytes s →
+    Holds kind s f sequences pictures extensions ↔ RecordOf f sequences pictures extensions kind s
+record-exactly = recordLaws.accepted-exactly
+
+-- valid fields and sets, and no others, are written if there is room, as the record that they spell (specs/RecordLaws)
+pub written-exactly :
+    (f : Fields) (sequences pictures extensions : List ℕ) (kind room : ℕ) (s : List ℕ) →
+    (writeRecord kind f sequences pictures extensions room ≡ ok s)
+    ↔ (RecordOf f sequences pictures extensions kind s × (length s ≤ room))
+written-exactly = recordLaws.written-exactly
 
 -- the audit of a bundle b that is accepted and means r, with room for the lines (crates/audit_rules/proofs/Promises)
 module _ (b : List ℕ) (r : Recording) (accepted : firstLayout .means b ≡ ok r) where
