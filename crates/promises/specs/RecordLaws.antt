@@ -12,13 +12,13 @@ use mathlib.Core.List.{List, [], _∷_, _++_, append-nil, List·Memᴰ·head, Li
 use mathlib.Core.Logic.{_⊎_, inl, inr, ⊎-elim, _↔_}
 use native.Mathlib.Omega.{arith}
 use borrow.Author.Tests.{ltb-true, ltb-false, eqb-true, eqb-false, ne-eqb, eq-eqb, not-true}
-use lib.ListN.{length}
+use lib.ListN.{length, drop}
 use Rattle.words.specs.Tests.{_<?_, _≡?_, all}
 use Rattle.words.specs.Refusals.{_orElse_, firstOf, Answer, refused, ok}
 use Rattle.words.specs.Lists.{_∈_}
 use Rattle.words.specs.Walks.{entries, skip}
 use Rattle.words.specs.Bytes.{Bytes, byteAt, big}
-use Rattle.words.specs.Buffers.{within}
+use Rattle.words.specs.Buffers.{within, overwrite, Wrote}
 use Rattle.words.proofs.Tests.{by-bool, all-first, true-false}
 use Rattle.words.proofs.Refusals.{orElse-none, ok-same, ok-refused, refused-same}
 use Rattle.words.proofs.Buffers.{within-room, within-not}
@@ -481,3 +481,13 @@ read-refused kind s n p e = by-kind kind
     (λ z. let w = read-known kind Avc s (rw z) e in rw (w .1) (ReadRefused.bytes n (w .0) (inl z) (no-record kind s e)))
     (λ z. let w = read-known kind Svc s (rw z) e in rw (w .1) (ReadRefused.bytes n (w .0) (inr z) (no-record kind s e)))
     (λ g h. let q = refused-same (sym (read-none kind s g h) ∙ e) in rw (← q .0, ← q .1) (ReadRefused.kind g h))
+
+-- given room, a record read and written again: the same bytes, and the rest of the buffer as it was
+pub written-back :
+    (kind : ℕ) (s : List ℕ) (f : Fields) (a b x : List ℕ) → Bytes s → Holds kind s f a b x → {out out₁ : List ℕ} {c : Answer ℕ} →
+    Wrote out out₁ c (writeRecord kind f a b x (length out)) → length s ≤ length out →
+    (c ≡ ok (length s)) × (out₁ ≡ s ++ drop (length s) out)
+unfolding overwrite
+written-back kind s f a b x g h {out} {out₁} {c} w l =
+    let v : Wrote out out₁ c (ok s) = subst (Wrote out out₁ c) (writes-back kind s f a b x (length out) g h l) w in
+    (v .answer, v .buffer)
