@@ -38,6 +38,7 @@ pub record TallyOf (r : Recording) (out : List ℕ) (t : Tally) : Type 0 where
       t .passed
       ≡ length (keep (λ n. (big out (13 * (n - 1)) 1 ≡? 0) && not (length (contentOf r n) ≡? 0)) (upto (sampleCount (r .layout))))
   pub empty :
-      t .empty ≡ length (keep (λ n. (big out (13 * (n - 1)) 1 ≡? 0) && (length (contentOf r n) ≡? 0)) (upto (sampleCount (r .layout))))
+      t .empty
+      ≡ length (keep (λ n. (big out (13 * (n - 1)) 1 ≡? 0) && (length (contentOf r n) ≡? 0)) (upto (sampleCount (r .layout))))
   pub refused : t .refused ≡ length (keep (λ n. not (big out (13 * (n - 1)) 1 ≡? 0)) (upto (sampleCount (r .layout))))
   pub all : t .passed + t .empty + t .refused ≡ sampleCount (r .layout)

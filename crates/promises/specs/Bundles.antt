@@ -102,7 +102,8 @@ module _ (b : List ℕ) where
     pub track : (k : ℕ) → 0 < k → k ≤ big b 0 1 → TrackMeans (nth (trackPlaces b) k 0) (nth (r .layout .tracks) k noTrack)
     pub references : r .layout .references ≡ map (λ p. record { from = big b p 1; to = big b (p + 1) 1 }) (referencePlaces b)
     pub entries :
-        r .layout .entries ≡ map (λ n. record { track = big b (entry b n) 1; time = big b (entry b n + 1) 8 }) (upto (big b (three b) 2))
+        r .layout .entries
+        ≡ map (λ n. record { track = big b (entry b n) 1; time = big b (entry b n + 1) 8 }) (upto (big b (three b) 2))
     -- the samples' bytes, in order, are the rest of the bundle, each of its length: without gaps, those of length 0 too
     pub lengths : map length (r .contents) ≡ map (λ n. big b (entry b n + 9) 4) (upto (big b (three b) 2))
     pub bytes : each (λ c. c) (r .contents) ≡ drop (four b + 4) b

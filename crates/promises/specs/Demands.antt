@@ -1,16 +1,18 @@
--- The demands, in their order and nearly in their words, each as theorems in plain facts about the definitions that the contracts of the code
--- cite. The numbers are those of document 01. What a word means stands in the file that its `use` line names; specs/*Laws prove. Assumes nothing.
+-- The demands, in their order and nearly in their words, each as theorems in plain facts about the definitions that the contracts
+-- of the code cite. The numbers are those of document 01. What a word means stands in the file that its `use` line names; the
+-- files specs/*Laws prove. Assumes nothing.
 --
--- Demand 1. Every public entry takes any bytes, ends, and either answers or refuses with a number of the table and a place. After a refusal
--- each output buffer holds what it held before, and the count returned is zero. No caller is asked to have checked anything.
--- Demand 2. Records, units, aggregators and extractors mean what ISO/IEC 14496-15:2010 says, as narrowed by document 01. Given room, a
--- record read and written again gives the same bytes, and a record written from valid fields reads back as them. With room for the lines,
--- every sample of an accepted bundle, after a blank or bad one too, gets exactly one line, in order: empty exactly if its length is zero,
--- passed exactly if it has bytes and its whole length is good.
--- Demand 3. For any sample of an accepted bundle, and with room, the naming list is exactly the extractors, in well-formed samples, that
--- name it: every one, each once, in order, nothing else. Put any bytes of the same length in place of that sample's: the bundle is still
--- accepted, and every other sample without an extractor in the list taken before, itself well formed or not, resolves with the same room to
--- the same number, place and count, and writes the same bytes up to that count.
+-- Demand 1. Every public entry takes any bytes, ends, and either answers or refuses with a number of the table and a place.
+-- After a refusal each output buffer holds what it held before, and the count returned is zero. No caller is asked to have
+-- checked anything.
+-- Demand 2. Records, units, aggregators and extractors mean what ISO/IEC 14496-15:2010 says, as narrowed by document 01. Given
+-- room, a record read and written again gives the same bytes, and a record written from valid fields reads back as them. With
+-- room for the lines, every sample of an accepted bundle, after a blank or bad one too, gets exactly one line, in order: empty
+-- exactly if its length is zero, passed exactly if it has bytes and its whole length is good.
+-- Demand 3. For any sample of an accepted bundle, and with room, the naming list is exactly the extractors, in well-formed
+-- samples, that name it: every one, each once, in order, nothing else. Put any bytes of the same length in place of that
+-- sample's: the bundle is still accepted, and every other sample without an extractor in the list taken before, itself well
+-- formed or not, resolves with the same room to the same number, place and count, and writes the same bytes up to that count.
 use Prim.Native.Nat.{ℕ, _+_, _-_, _*_, _≤_, _<_}
 use mathlib.Core.Path.{_≡_, refl}
 use mathlib.Core.Bool.{false, _&&_}
@@ -62,8 +64,9 @@ use Rattle.promises.specs.AuditLaws as auditLaws
 use Rattle.promises.specs.RefusedLaws as refusedLaws
 
 -- Demand 1.
--- That every entry takes any bytes and ends is what `rt check` proves of the code: no public function requires anything. Its answer is the
--- definition's that its contract cites. `Bytes b` says that b holds numbers below 256, as every lent slice does. The numbers of the table:
+-- That every entry takes any bytes and ends is what `rt check` proves of the code: no public function requires anything. Its
+-- answer is the definition's that its contract cites. `Bytes b` says that b holds numbers below 256, as every lent slice does.
+-- The numbers of the table:
 pub table-numbers :
     refusalNumbers
     ≡ 1 ∷ 2 ∷ 3 ∷ 4 ∷ 5 ∷ 6 ∷ 7 ∷ 8 ∷ 9 ∷ 10 ∷ 11 ∷ 12 ∷ 13
@@ -119,7 +122,8 @@ tally-refused = auditing.refused-alike firstLayout
 
 -- after a refusal: `write`, `resolve`, `names` and `audit` promise `Wrote`
 pub refusal-leaves :
-    {out out₁ : List ℕ} {a : Answer ℕ} {is : Answer (List ℕ)} → Wrote out out₁ a is → passed a ≡ false → (countOf a ≡ 0) × (out₁ ≡ out)
+    {out out₁ : List ℕ} {a : Answer ℕ} {is : Answer (List ℕ)} → Wrote out out₁ a is → passed a ≡ false →
+    (countOf a ≡ 0) × (out₁ ≡ out)
 refusal-leaves = buffers.refused-leaves
 
 -- Demand 2. The marked cases of document 01 are in specs/Table.
@@ -167,8 +171,9 @@ bundle-read = bundleLaws.one-meaning
 -- Resolving and the audit, of a bundle b that is accepted and means r
 module _ (b : List ℕ) (bytes : Bytes b) (r : Recording) (accepted : firstLayout .means b ≡ ok r) where
   module _ (n : ℕ) (some : 0 < n) (there : n ≤ sampleCount (r .layout)) where
-    -- sample n is good exactly if it is well formed and each of its extractors names a sample and copies units of it, by the rules.
-    -- Which sample is named goes by the layout alone: sample_offset is signed and counts from the base, and an empty sample counts as any.
+    -- sample n is good exactly if it is well formed and each of its extractors names a sample and copies units of it, by the
+    -- rules. Which sample is named goes by the layout alone: sample_offset is signed and counts from the base, and an empty
+    -- sample counts as any other
     pub good-exactly : (judged r n ≡ ok tt) ↔ GoodSample r n
     good-exactly = callLaws.good-exactly b bytes r accepted n some there
 
@@ -184,8 +189,9 @@ module _ (b : List ℕ) (bytes : Bytes b) (r : Recording) (accepted : firstLayou
       pub unit-gives : (k : ℕ) → 0 < k → k ≤ length us → unitCall firstLayout b n k ≡ ok (nth us k noSpan)
       unit-gives = callLaws.unit-gives b bytes r accepted n some there us delivers
 
-      -- and where it stands: a part of the bundle with the unit's bytes, in the own sample or one that an extractor of it names. The
-      -- function that lends a unit's bytes may lend any part that holds them; this says which part they are.
+      -- and where it stands: a part of the bundle with the unit's bytes, in the own sample or one that an extractor of it names.
+      -- Of the function that lends a unit's bytes (`unit_bytes`) only the bytes are said, which part it lends is free; the part
+      -- is fixed by this call (`unit_place`)
       pub unit-stands :
           (k : ℕ) → 0 < k → k ≤ length us →
           (start : ℕ) × (size : ℕ) × (placeCall firstLayout b n k ≡ ok (record { start = start; size = size }))
@@ -266,8 +272,8 @@ module _ (b : List ℕ) (r : Recording) (accepted : firstLayout .means b ≡ ok 
       list-kept = naming.list-kept firstLayout firstLayout-sound b r accepted s some there new equal-length
 
       module _ (n : ℕ) (other : n ≡ s → ⊥) (unlisted-before : Unlisted r s n) where
-        -- two calls that resolve another sample n, with buffers of the same length: one by b that answered a and turned out into out₁,
-        -- one by the bundle after
+        -- two calls that resolve another sample n, with buffers of the same length: one by b that answered a and turned out into
+        -- out₁, one by the bundle after
         pub others-resolve :
             {out out₁ out' out₁' : List ℕ} {a a' : Answer ℕ} → length out ≡ length out' →
             Wrote out out₁ a (resolveCall firstLayout b n (length out)) →
@@ -282,7 +288,8 @@ module _ (b : List ℕ) (r : Recording) (accepted : firstLayout .means b ≡ ok 
         -- its line in two audits with room: every number in it
         pub others-line :
             {out out₁ out' out₁' : List ℕ} {a a' : Answer ℕ} →
-            Wrote out out₁ a (auditCall firstLayout b (length out)) → Wrote out' out₁' a' (auditCall firstLayout after (length out')) →
+            Wrote out out₁ a (auditCall firstLayout b (length out)) →
+            Wrote out' out₁' a' (auditCall firstLayout after (length out')) →
             13 * sampleCount (r .layout) ≤ length out → 13 * sampleCount (r .layout) ≤ length out' →
             0 < n → n ≤ sampleCount (r .layout) → (i k : ℕ) → i + k ≤ 13 →
             big out₁ (13 * (n - 1) + i) k ≡ big out₁' (13 * (n - 1) + i) k

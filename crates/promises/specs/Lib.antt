@@ -1,7 +1,7 @@
 -- What the product promises as a whole.
 --
 --   Demands     the demands, in their order and nearly in their words: read this first
---   Records, Samples, Bundles, Resolving, Audits    what the words of Demands mean, in plain facts, with the numbers of document 01
+--   Records, Samples, Bundles, Resolving, Audits    what the words of Demands mean: plain facts, with document 01's numbers
 --   Refused     with which number, and where, a call is refused
 --   Table       the marked cases M1 to M12 of document 01, and its bench bundle B0
 --   *Laws       the proofs that Demands cites. They stand here since a file of specs/ may not cite its own crate's proofs/

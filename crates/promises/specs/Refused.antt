@@ -3,7 +3,8 @@
 --   BundleRefused b m p           the bundle: 1 to 13, at a place in it or at its end
 --   SampleRefused r n m p         sample n: 14 to 28, at a place in the sample
 --   ResolveRefused b n room m p   resolving: the bundle, the sample's number, the sample, the room
---   UnitRefused b n k m p         one delivered unit, and where it stands: the bundle, the sample's number, the sample, the unit's number
+--   UnitRefused b n k m p         one delivered unit, and where it stands: the bundle, the sample's number, the sample, the
+--                                 unit's number
 use Prim.Native.Nat.{ℕ, _≤_, _<_}
 use mathlib.Core.Path.{_≡_}
 use mathlib.Core.List.{List, [], _∷_}

@@ -1,5 +1,5 @@
--- Resolving in plain facts (01, 'Resolving'). n is the extractor's own sample, y the layout of the recording; samples and tracks are numbered
--- from 1. p is the place of an extractor in its sample, q that of a unit of the sample named.
+-- Resolving in plain facts (01, 'Resolving'). n is the extractor's own sample, y the layout of the recording; samples and
+-- tracks are numbered from 1. p is the place of an extractor in its sample, q that of a unit of the sample named.
 --
 --   Sampled y m k            m is a sample of track k
 --   BaseOf y n k c           c is the last sample of track k at or before the time of sample n
@@ -81,8 +81,12 @@ module _ (r : Recording) (n : ℕ) where
     pub extracts :
         (p : ℕ) → p ∈ units (sampleOf r n) → type (sampleOf r n) p ≡ 31 → (m : ℕ) × (qs : List ℕ) × Extraction p m qs
 
--- The units at places ps of sample n deliver us, in order: an aggregator's header is dropped, an extractor replaced by the units that it
--- copies, any other unit delivered as it stands.
+--   unitIn r m q          the unit at q of sample m, as it is delivered: its sample, its start after the length field, its size
+--   Delivery r n ps us    the units at places ps of sample n deliver us, in order: an aggregator's header is dropped, an
+--                         extractor replaced by the units that it copies, any other unit delivered as it stands
+--   afterLength r u       a delivered unit as it is written
+--   Resolved r n us       sample n is good and delivers us
+--   StandsAt b r n u start size    where a delivered unit stands in the bundle
 abbrev pub unitIn : Recording → ℕ → ℕ → Span
 unitIn r m q = record { sample = m; start = q + L (sampleOf r m); size = size (sampleOf r m) q }
 

@@ -1,5 +1,5 @@
--- A well-formed sample in plain facts, with the numbers of document 01, 'Units in a sample'. p and q are places of units: where their
--- length fields start. `topUnits`, `included` and `next` walk from unit to unit (crates/units/specs).
+-- A well-formed sample in plain facts, with the numbers of document 01, 'Units in a sample'. p and q are places of units: where
+-- their length fields start. `topUnits`, `included` and `next` walk from unit to unit (crates/units/specs).
 --
 --   UnitAt x e p     the unit at p is whole, in what ends at e
 --   BorderAt x q     q is the start of a top-level unit, or the end of the sample
