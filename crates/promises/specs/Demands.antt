@@ -1,61 +1,78 @@
--- The demands, in their order and nearly in their words, each as theorems about the definitions that the contracts of the code cite. The
--- comment before a theorem names the file that proves it. Assumes nothing.
+-- The demands, in their order and nearly in their words, each as theorems in plain facts about the definitions that the contracts
+-- of the code cite. The numbers are those of document 01. What a word means stands in the file that its `use` line names; the
+-- files specs/*Laws prove. Assumes nothing.
 --
--- Demand 1. Every public entry takes any bytes, ends, and either answers or refuses with a number of the table and a place. After a refusal
--- each output buffer holds what it held before, and the count returned is zero. No caller is asked to have checked anything.
--- Demand 2. Records, units, aggregators and extractors mean what ISO/IEC 14496-15:2010 says, as narrowed by document 01. Given room, a
--- record read and written again gives the same bytes, and a record written from valid fields reads back as them. With room for the lines,
--- every sample of an accepted bundle, after a blank or bad one too, gets exactly one line, in order: empty exactly if its length is zero,
--- passed exactly if it has bytes and its whole length is good.
--- Demand 3. For any sample of an accepted bundle, and with room, the naming list is exactly the extractors, in well-formed samples, that
--- name it: every one, each once, in order, nothing else. Put any bytes of the same length in place of that sample's: the bundle is still
--- accepted, and every other sample without an extractor in the list taken before, itself well formed or not, resolves with the same room to
--- the same number, place and count, and writes the same bytes up to that count.
-use Prim.Native.Nat.{ℕ, _+_, _*_, _≤_, _<_}
+-- Demand 1. Every public entry takes any bytes, ends, and either answers or refuses with a number of the table and a place.
+-- After a refusal each output buffer holds what it held before, and the count returned is zero. No caller is asked to have
+-- checked anything.
+-- Demand 2. Records, units, aggregators and extractors mean what ISO/IEC 14496-15:2010 says, as narrowed by document 01. Given
+-- room, a record read and written again gives the same bytes, and a record written from valid fields reads back as them. With
+-- room for the lines, every sample of an accepted bundle, after a blank or bad one too, gets exactly one line, in order: empty
+-- exactly if its length is zero, passed exactly if it has bytes and its whole length is good.
+-- Demand 3. For any sample of an accepted bundle, and with room, the naming list is exactly the extractors, in well-formed
+-- samples, that name it: every one, each once, in order, nothing else. Put any bytes of the same length in place of that
+-- sample's: the bundle is still accepted, and every other sample without an extractor in the list taken before, itself well
+-- formed or not, resolves with the same room to the same number, place and count, and writes the same bytes up to that count.
+use Prim.Native.Nat.{ℕ, _+_, _-_, _*_, _≤_, _<_}
 use mathlib.Core.Path.{_≡_, refl}
-use mathlib.Core.Bool.{false}
-use mathlib.Core.List.{List, [], _∷_}
+use mathlib.Core.Bool.{false, _&&_}
+use mathlib.Core.List.{List, [], _∷_, _++_}
 use mathlib.Core.Logic.{_⊎_, _↔_}
-use lib.ListN.{length, getD}
-use Rattle.words.specs.RefusalNumbers.{refusalNumbers, recordRefusals}
+use lib.ListN.{length, getD, drop}
+use Rattle.words.specs.RefusalNumbers.{refusalNumbers}
 use Rattle.words.specs.Refusals.{Answer, refused, ok, passed, countOf}
-use Rattle.words.specs.Lists.{_∈_}
-use Rattle.words.specs.Bytes.{big, splice}
+use Rattle.words.specs.Tests.{_≡?_}
+use Rattle.words.specs.Lists.{_∈_, keep, nth, each}
+use Rattle.words.specs.Bytes.{Bytes, big, splice}
 use Rattle.words.specs.Buffers.{Wrote}
 use Rattle.words.proofs.Buffers as buffers
 use Rattle.words.proofs.Lists.{Rising}
+<<<<<<< HEAD
 use Rattle.numbers.specs.Places.{placeSize}
 use Rattle.record_rules.specs.Read.{readRecord}
 use Rattle.record_rules.specs.declared.Fields.{Fields}
+=======
+use Rattle.record_rules.specs.Read.{readRecord}
+use Rattle.record_rules.specs.declared.Fields.{Fields}
+>>>>>>> help-J
 use Rattle.record_writer.specs.Write.{writeRecord}
-use Rattle.record_writer.specs.Promise.{WritesBack, ReadsBack, MisfitsExactly}
+use Rattle.record_writer.specs.Promise.{Holds}
 use Rattle.record_writer.proofs.Promise as records
-use Rattle.units.specs.Units.{Sample}
-use Rattle.units.specs.Aggregators.{units}
+use Rattle.units.specs.Units.{Sample, L, type, next, topUnits}
+use Rattle.units.specs.Aggregators.{additionalBytes}
 use Rattle.samples.specs.Check.{check, checkAlone}
-use Rattle.samples.specs.Rules.{Rules, AloneRefusal}
+use Rattle.samples.specs.Rules.{AloneRefusal}
 use Rattle.samples.proofs.Laws as samples
 use Rattle.bundles.specs.Recordings.{Recording, sampleCount, contentOf, replaced}
 use Rattle.bundles.specs.Bundles.{bundleVerdict}
 use Rattle.bundles.specs.Readers.{firstLayout}
-use Rattle.resolution_rules.specs.Resolving.{Span, own, delivered, judged}
-use Rattle.resolution_rules.specs.Calls.{resolveCall, unitCall, placeCall}
-use Rattle.resolution_rules.specs.Rules.{Good, Delivers}
-use Rattle.resolution_rules.proofs.Readers.{firstLayout-sound, verdict-refuses}
-use Rattle.resolution_rules.proofs.Promises as resolving
-use Rattle.naming_list_rules.specs.Naming.{Namer, namer, namingList, sampleSize, entrySize, listBytes, namesCall}
-use Rattle.naming_list_rules.specs.Rules.{Names, Before, timesListed, Unlisted, SameAnswer}
+use Rattle.resolution_rules.specs.Resolving.{sampleOf, Span, judged}
+use Rattle.resolution_rules.specs.Calls.{noSpan, resolveCall, unitCall, placeCall}
+use Rattle.resolution_rules.proofs.Readers.{firstLayout-sound}
+use Rattle.naming_list_rules.specs.Naming.{Namer, namer, namingList, listBytes, namesCall}
+use Rattle.naming_list_rules.specs.Rules.{Names, Before, timesListed, Unlisted, NamesRefuses, SameAnswer}
 use Rattle.naming_list_rules.proofs.Promises as naming
-use Rattle.tally.specs.declared.Outcome.the-variants.{Passed, Empty}
-use Rattle.audit_rules.specs.Auditing.{lineSize, lines, tally, auditCall, tallyCall}
-use Rattle.audit_rules.specs.Rules.{lineAt, outcomeByLine, LinePerSample, Counts}
+use Rattle.tally.specs.declared.Tally.{Tally}
+use Rattle.audit_rules.specs.Auditing.{auditCall, tallyCall}
+use Rattle.audit_rules.specs.Rules.{AuditRefuses}
 use Rattle.audit_rules.proofs.Promises as auditing
-use Rattle.promises.specs.Refused.{InBundle, InSample}
-use Rattle.promises.specs.Refused as refusals
+use Rattle.promises.specs.Records.{RecordOf, WriteRefused, ReadRefused}
+use Rattle.promises.specs.Samples.{Formed}
+use Rattle.promises.specs.Bundles.{BundleOf, Means}
+use Rattle.promises.specs.Resolving.{GoodSample, Resolved, afterLength, StandsAt}
+use Rattle.promises.specs.Audits.{SampleSays, TallyOf}
+use Rattle.promises.specs.Refused.{BundleRefused, ResolveRefused, UnitRefused}
+use Rattle.promises.specs.RecordLaws as recordLaws
+use Rattle.promises.specs.SampleLaws as sampleLaws
+use Rattle.promises.specs.BundleLaws as bundleLaws
+use Rattle.promises.specs.CallLaws as callLaws
+use Rattle.promises.specs.AuditLaws as auditLaws
+use Rattle.promises.specs.RefusedLaws as refusedLaws
 
 -- Demand 1.
--- That every entry takes any bytes and ends is what `rt check` proves of the code: no public function requires anything. Its answer is the
--- definition's that its contract cites. The numbers of the table:
+-- That every entry takes any bytes and ends is what `rt check` proves of the code: no public function requires anything. Its
+-- answer is the definition's that its contract cites. `Bytes b` says that b holds numbers below 256, as every lent slice does.
+-- The numbers of the table:
 pub table-numbers :
     refusalNumbers
     ≡ 1 ∷ 2 ∷ 3 ∷ 4 ∷ 5 ∷ 6 ∷ 7 ∷ 8 ∷ 9 ∷ 10 ∷ 11 ∷ 12 ∷ 13
@@ -64,118 +81,159 @@ pub table-numbers :
     ∷ []
 table-numbers = refl
 
--- records read: 4 or 8 to 13, at 0 (crates/record_writer/proofs/Promise)
-pub read-refused : (kind : ℕ) (s : List ℕ) (n p : ℕ) → readRecord kind s ≡ refused n p → (p ≡ 0) × (n ∈ (4 ∷ recordRefusals))
-read-refused = records.read-refusals
+-- records read: 4 or 8 to 13, at 0, and only what is no record
+pub read-refused : (kind : ℕ) (s : List ℕ) (n p : ℕ) → readRecord kind s ≡ refused n p → ReadRefused kind s n p
+read-refused = recordLaws.read-refused
 
--- records written: 4, 31 or 29, at 0 (crates/record_writer/proofs/Promise)
+-- records written: 4, 31 or 29, at 0, exactly if the kind is unknown, the fields are not valid, or there is no room
 pub write-refused :
-    (kind : ℕ) (f : Fields) (sequences pictures extensions : List ℕ) (room n p : ℕ) →
-    writeRecord kind f sequences pictures extensions room ≡ refused n p → (p ≡ 0) × (n ∈ (4 ∷ 31 ∷ 29 ∷ []))
-write-refused = records.write-refusals
+    (f : Fields) (sequences pictures extensions : List ℕ) (kind room n p : ℕ) →
+    (writeRecord kind f sequences pictures extensions room ≡ refused n p)
+    ↔ WriteRefused kind f sequences pictures extensions room n p
+write-refused = recordLaws.write-refused-exactly
 
--- samples checked: 4 or 11 at 0, or 14 to 22 at a place in the sample (crates/samples/proofs/Laws)
+-- samples checked: 4 or 11 at 0, or 14 to 22 at a place in the sample
 pub check-refused : (kind l : ℕ) (s : List ℕ) (n p : ℕ) → checkAlone kind l s ≡ refused n p → AloneRefusal s n p
 check-refused = samples.alone-refusals
 
--- bundles checked: 1 to 13 at a place in the bundle or at its end (crates/resolution_rules/proofs/Readers)
-pub bundle-refused : (b : List ℕ) (n p : ℕ) → bundleVerdict b ≡ refused n p → InBundle firstLayout b n p
-bundle-refused b n p e = firstLayout-sound .refusal b n p (verdict-refuses b n p e)
+-- bundles checked: 1 to 13 at a place in the bundle or at its end
+pub bundle-refused : (b : List ℕ) → Bytes b → {m p : ℕ} → firstLayout .means b ≡ refused m p → BundleRefused b m p
+bundle-refused = refusedLaws.bundle-refused
 
--- samples resolved: 1 to 13 of the bundle, 14 to 28 at a place in the sample, or 29 or 30 at 0 (specs/Refused)
+-- samples resolved: 1 to 13 of the bundle, 30 at 0, 14 to 28 at a place in the sample, 29 at 0
 pub resolve-refused :
-    (b : List ℕ) (n room m p : ℕ) → resolveCall firstLayout b n room ≡ refused m p →
-    InBundle firstLayout b m p ⊎ (InSample firstLayout b n m p ⊎ (((m ≡ 29) ⊎ (m ≡ 30)) × (p ≡ 0)))
-resolve-refused = refusals.resolve-refused firstLayout firstLayout-sound
+    (b : List ℕ) → Bytes b → (n room m p : ℕ) → resolveCall firstLayout b n room ≡ refused m p → ResolveRefused b n room m p
+resolve-refused = refusedLaws.resolve-refused
 
--- one delivered unit: the same without 29 (specs/Refused)
-pub unit-refused :
-    (b : List ℕ) (n k m p : ℕ) → unitCall firstLayout b n k ≡ refused m p →
-    InBundle firstLayout b m p ⊎ (InSample firstLayout b n m p ⊎ ((m ≡ 30) × (p ≡ 0)))
-unit-refused = refusals.unit-refused firstLayout firstLayout-sound
+-- one delivered unit, and where in the bundle it stands: the same, but 30 for the unit's number and no 29
+pub unit-refused : (b : List ℕ) → Bytes b → (n k m p : ℕ) → unitCall firstLayout b n k ≡ refused m p → UnitRefused b n k m p
+unit-refused = refusedLaws.unit-refused
 
--- where in the bundle that unit stands: the same (specs/Refused)
-pub place-refused :
-    (b : List ℕ) (n k m p : ℕ) → placeCall firstLayout b n k ≡ refused m p →
-    InBundle firstLayout b m p ⊎ (InSample firstLayout b n m p ⊎ ((m ≡ 30) × (p ≡ 0)))
-place-refused = refusals.place-refused firstLayout firstLayout-sound
+pub place-refused : (b : List ℕ) → Bytes b → (n k m p : ℕ) → placeCall firstLayout b n k ≡ refused m p → UnitRefused b n k m p
+place-refused = refusedLaws.place-refused
 
--- the naming list: 1 to 13 of the bundle, or 29 or 30 at 0 (crates/naming_list_rules/proofs/Promises)
+-- the naming list: 1 to 13 of the bundle, 30 at 0, 29 at 0, exactly if ..
 pub names-refused :
-    (b : List ℕ) (s room m p : ℕ) → namesCall firstLayout b s room ≡ refused m p →
-    InBundle firstLayout b m p ⊎ (((m ≡ 29) ⊎ (m ≡ 30)) × (p ≡ 0))
-names-refused b s room = naming.names-refused-with firstLayout b s room firstLayout-sound
+    (b : List ℕ) (s room m p : ℕ) → (namesCall firstLayout b s room ≡ refused m p) ↔ NamesRefuses firstLayout b s room m p
+names-refused = naming.names-refused-exactly firstLayout
 
--- the audit: 1 to 13 of the bundle, or 29 at 0, for the lines and the tally alike (crates/audit_rules/proofs/Promises)
+-- the audit: 1 to 13 of the bundle, or 29 at 0, exactly if ..; for the lines and the tally alike
 pub audit-refused :
-    (b : List ℕ) (room m p : ℕ) → auditCall firstLayout b room ≡ refused m p → InBundle firstLayout b m p ⊎ ((m ≡ 29) × (p ≡ 0))
-audit-refused b room = auditing.audit-refused-with firstLayout b room firstLayout-sound
+    (b : List ℕ) (room m p : ℕ) → (auditCall firstLayout b room ≡ refused m p) ↔ AuditRefuses firstLayout b room m p
+audit-refused = auditing.audit-refused-exactly firstLayout
 
 pub tally-refused :
     (b : List ℕ) (room m p : ℕ) → (auditCall firstLayout b room ≡ refused m p) ↔ (tallyCall firstLayout b room ≡ refused m p)
 tally-refused = auditing.refused-alike firstLayout
 
--- after a refusal (crates/words/proofs/Buffers): `write`, `resolve`, `names` and `audit` promise `Wrote`
+-- after a refusal: `write`, `resolve`, `names` and `audit` promise `Wrote`
 pub refusal-leaves :
-    {out out₁ : List ℕ} {a : Answer ℕ} {is : Answer (List ℕ)} → Wrote out out₁ a is → passed a ≡ false → (countOf a ≡ 0) × (out₁ ≡ out)
+    {out out₁ : List ℕ} {a : Answer ℕ} {is : Answer (List ℕ)} → Wrote out out₁ a is → passed a ≡ false →
+    (countOf a ≡ 0) × (out₁ ≡ out)
 refusal-leaves = buffers.refused-leaves
 
--- Demand 2.
--- What the layouts are stands in crates/{sets,records,units,samples,links,copies,resolution_rules}/specs; the marked cases are in
--- specs/Table. In plain facts: a sample is well formed exactly if every unit's rules hold (crates/samples/proofs/Laws)
-pub well-formed-exactly : (x : Sample) → (check x ≡ ok tt) ↔ Rules x
-well-formed-exactly x = (samples.rules x, samples.rules-check x)
+-- Demand 2. The marked cases of document 01 are in specs/Table.
+-- Records: accepted, with these fields and these sets, exactly if the bytes are what valid fields and sets spell
+pub record-exactly :
+    (f : Fields) (sequences pictures extensions : List ℕ) (kind : ℕ) (s : List ℕ) → Bytes s →
+    Holds kind s f sequences pictures extensions ↔ RecordOf f sequences pictures extensions kind s
+record-exactly = recordLaws.accepted-exactly
 
--- it is good exactly if, besides, each of its extractors follows the rules (crates/resolution_rules/proofs/Promises)
-pub good-exactly : (r : Recording) (n : ℕ) → (judged r n ≡ ok tt) ↔ Good r n
-good-exactly = resolving.good-exactly
+-- valid fields and sets, and no others, are written if there is room, as the record that they spell
+pub written-exactly :
+    (f : Fields) (sequences pictures extensions : List ℕ) (kind room : ℕ) (s : List ℕ) →
+    (writeRecord kind f sequences pictures extensions room ≡ ok s)
+    ↔ (RecordOf f sequences pictures extensions kind s × (length s ≤ room))
+written-exactly = recordLaws.written-exactly
 
--- and then it delivers what the rules say, and nothing else (crates/resolution_rules/proofs/Promises)
-pub delivers-exactly :
-    (r : Recording) (n : ℕ) → judged r n ≡ ok tt →
-    Delivers r n (units (own r n)) (delivered r n) × ((us : List Span) → Delivers r n (units (own r n)) us → us ≡ delivered r n)
-delivers-exactly = resolving.delivers-exactly
+-- given room, a record read and written again gives the same bytes in the lent buffer, and the rest of it as it was
+pub writes-back :
+    (kind : ℕ) (s : List ℕ) (f : Fields) (sequences pictures extensions : List ℕ) → Bytes s →
+    Holds kind s f sequences pictures extensions → {out out₁ : List ℕ} {a : Answer ℕ} →
+    Wrote out out₁ a (writeRecord kind f sequences pictures extensions (length out)) → length s ≤ length out →
+    (a ≡ ok (length s)) × (out₁ ≡ s ++ drop (length s) out)
+writes-back = recordLaws.written-back
 
--- given room, a record read and written again gives the same bytes (crates/record_writer/proofs/Promise)
-pub writes-back : WritesBack
-writes-back = records.writes-back
-
--- a record written from valid fields reads back as them (crates/record_writer/proofs/Promise)
-pub reads-back : ReadsBack
+-- a record written from valid fields reads back as them
+pub reads-back :
+    (kind : ℕ) (s : List ℕ) (f : Fields) (sequences pictures extensions : List ℕ) (room : ℕ) →
+    writeRecord kind f sequences pictures extensions room ≡ ok s → Holds kind s f sequences pictures extensions
 reads-back = records.reads-back
 
--- fields are valid exactly if an accepted record has them (crates/record_writer/proofs/Promise)
-pub misfits-exactly : MisfitsExactly
-misfits-exactly = records.misfits-exactly
+-- Samples: well formed exactly if every unit's rules hold
+pub formed-exactly : (x : Sample) → (check x ≡ ok tt) ↔ Formed x
+formed-exactly = sampleLaws.formed-exactly
 
--- the audit of a bundle b that is accepted and means r, with room for the lines (crates/audit_rules/proofs/Promises)
-module _ (b : List ℕ) (r : Recording) (accepted : firstLayout .means b ≡ ok r) where
-  module _ (room : ℕ) (fits : lineSize * sampleCount (r .layout) ≤ room) where
-    -- every sample, after a blank or bad one too, gets exactly one line, in order
-    pub one-line-each : (auditCall firstLayout b room ≡ ok (lines r)) × LinePerSample r (lines r)
-    one-line-each = auditing.every-sample-one-line firstLayout firstLayout-sound b r accepted room fits
+-- Bundles: accepted exactly if the rules of the four sections hold; and then the recording is what the sections say
+pub bundle-exactly : (b : List ℕ) → Bytes b → (bundleVerdict b ≡ ok tt) ↔ BundleOf b
+bundle-exactly = bundleLaws.accepted-exactly-if
 
-    module _ (n : ℕ) (some : 0 < n) (there : n ≤ sampleCount (r .layout)) where
-      -- a sample is empty, by its line and its length, exactly if its length is zero
-      pub empty-exactly : (outcomeByLine (lineAt (lines r) n) (length (contentOf r n)) ≡ Empty) ↔ (length (contentOf r n) ≡ 0)
-      empty-exactly = auditing.line-empty-exactly firstLayout firstLayout-sound b r accepted room fits n some there
+pub bundle-means : (b : List ℕ) → Bytes b → (r : Recording) → firstLayout .means b ≡ ok r → BundleOf b × Means b r
+bundle-means = bundleLaws.means-exactly
 
-      -- passed exactly if it has bytes and its whole length is good
-      pub passed-exactly :
-          (outcomeByLine (lineAt (lines r) n) (length (contentOf r n)) ≡ Passed)
-          ↔ ((0 < length (contentOf r n)) × (judged r n ≡ ok tt))
-      passed-exactly = auditing.line-passed-exactly firstLayout firstLayout-sound b r accepted room fits n some there
+pub bundle-read : (b : List ℕ) → Bytes b → BundleOf b → (r : Recording) × (firstLayout .means b ≡ ok r)
+bundle-read = bundleLaws.one-meaning
 
--- the tally counts the samples, and adds to the sample count (crates/audit_rules/proofs/Promises)
-pub tally-counts : (r : Recording) → Counts r (tally r)
-tally-counts = auditing.tally-counts
+-- Resolving and the audit, of a bundle b that is accepted and means r
+module _ (b : List ℕ) (bytes : Bytes b) (r : Recording) (accepted : firstLayout .means b ≡ ok r) where
+  module _ (n : ℕ) (some : 0 < n) (there : n ≤ sampleCount (r .layout)) where
+    -- sample n is good exactly if it is well formed and each of its extractors names a sample and copies units of it, by the
+    -- rules. Which sample is named goes by the layout alone: sample_offset is signed and counts from the base, and an empty
+    -- sample counts as any other
+    pub good-exactly : (judged r n ≡ ok tt) ↔ GoodSample r n
+    good-exactly = callLaws.good-exactly b bytes r accepted n some there
 
--- Demand 3, of sample s of a bundle b that is accepted and means r. All in crates/naming_list_rules/proofs/Promises.
+    -- it is resolved exactly if it is good and there is room: to the units that it delivers, each after its length in 4 bytes
+    pub resolved-exactly :
+        (room : ℕ) (out : List ℕ) →
+        (resolveCall firstLayout b n room ≡ ok out)
+        ↔ ((us : List Span) × Resolved r n us × (out ≡ each (afterLength r) us) × (length out ≤ room))
+    resolved-exactly = callLaws.resolved-exactly b bytes r accepted n some there
+
+    module _ (us : List Span) (delivers : Resolved r n us) where
+      -- the call for a unit gives the kth of them, from 1
+      pub unit-gives : (k : ℕ) → 0 < k → k ≤ length us → unitCall firstLayout b n k ≡ ok (nth us k noSpan)
+      unit-gives = callLaws.unit-gives b bytes r accepted n some there us delivers
+
+      -- and where it stands: a part of the bundle with the unit's bytes, in the own sample or one that an extractor of it names.
+      -- Of the function that lends a unit's bytes (`unit_bytes`) only the bytes are said, which part it lends is free; the part
+      -- is fixed by this call (`unit_place`)
+      pub unit-stands :
+          (k : ℕ) → 0 < k → k ≤ length us →
+          (start : ℕ) × (size : ℕ) × (placeCall firstLayout b n k ≡ ok (record { start = start; size = size }))
+          × StandsAt b r n (nth us k noSpan) start size
+      unit-stands = callLaws.unit-there b bytes r accepted n some there us delivers
+
+      -- a unit q that the additional_bytes of an aggregator p cover is delivered once
+      pub covered-once :
+          (p q : ℕ) → p ∈ topUnits (sampleOf r n) → type (sampleOf r n) p ≡ 30 → q ∈ topUnits (sampleOf r n) →
+          next (sampleOf r n) p ≤ q → q < next (sampleOf r n) p + additionalBytes (sampleOf r n) p →
+          (type (sampleOf r n) q ≡ 31 → ⊥) →
+          length (keep (λ u. ((u .sample) ≡? n) && ((u .start) ≡? q + L (sampleOf r n))) us) ≡ 1
+      covered-once = callLaws.covered-once b bytes r accepted n some there us delivers
+
+  -- an audit call that answered a and turned out into out₁, with room for the lines
+  module _
+      {out out₁ : List ℕ} {a : Answer ℕ} (audited : Wrote out out₁ a (auditCall firstLayout b (length out)))
+      (fits : 13 * sampleCount (r .layout) ≤ length out)
+    where
+      pub thirteen-each : a ≡ ok (13 * sampleCount (r .layout))
+      thirteen-each = auditLaws.audit-count b r accepted audited fits
+
+      -- every sample, after a blank or bad one too, has its line in its place: it is passed, empty or bad, and the line says so
+      pub line-each : (n : ℕ) → 0 < n → n ≤ sampleCount (r .layout) → SampleSays r n out₁
+      line-each = auditLaws.line-each b r accepted audited fits bytes
+
+      -- the tally of the same call counts what the lines say, and adds to the sample count
+      pub tally-counts : (t : Tally) × (tallyCall firstLayout b (length out) ≡ ok t) × TallyOf r out₁ t
+      tally-counts = auditLaws.tally-done b r accepted audited fits
+
+-- Demand 3, of sample s of a bundle b that is accepted and means r.
 module _ (b : List ℕ) (r : Recording) (accepted : firstLayout .means b ≡ ok r) where
   module _ (s : ℕ) (some : 0 < s) (there : s ≤ sampleCount (r .layout)) where
     -- with room the naming call answers with the list, 6 bytes an extractor
     pub list-answered :
-        (room : ℕ) → length (namingList r s) * entrySize ≤ room → namesCall firstLayout b s room ≡ ok (listBytes (namingList r s))
+        (room : ℕ) → length (namingList r s) * 6 ≤ room → namesCall firstLayout b s room ≡ ok (listBytes (namingList r s))
     list-answered = naming.names-answers firstLayout firstLayout-sound b r accepted s some there
 
     -- exactly the extractors, in well-formed samples, that name s
@@ -197,14 +255,14 @@ module _ (b : List ℕ) (r : Recording) (accepted : firstLayout .means b ≡ ok 
     -- nothing is cut: the number and the place of entry i, from 0 on, are read from 2 and 4 bytes at 6 i
     pub list-read-back :
         (i : ℕ) → i < length (namingList r s) →
-        (big (listBytes (namingList r s)) (i * entrySize) sampleSize ≡ getD (namingList r s) i (namer 0 0) .sample)
-        × (big (listBytes (namingList r s)) (i * entrySize + sampleSize) placeSize ≡ getD (namingList r s) i (namer 0 0) .place)
+        (big (listBytes (namingList r s)) (i * 6) 2 ≡ getD (namingList r s) i (namer 0 0) .sample)
+        × (big (listBytes (namingList r s)) (i * 6 + 2) 4 ≡ getD (namingList r s) i (namer 0 0) .place)
     list-read-back = naming.entries-read-back firstLayout firstLayout-sound b r accepted s some there
 
     -- a sample without an extractor in the list: its number is read from no entry that the naming call wrote
     pub unlisted :
         {out out₁ : List ℕ} {count : ℕ} → Wrote out out₁ (ok count) (namesCall firstLayout b s (length out)) →
-        (n : ℕ) → ((i : ℕ) → i * entrySize < count → big out₁ (i * entrySize) sampleSize ≡ n → ⊥) → Unlisted r s n
+        (n : ℕ) → ((i : ℕ) → i * 6 < count → big out₁ (i * 6) 2 ≡ n → ⊥) → Unlisted r s n
     unlisted = naming.unlisted-by-call firstLayout firstLayout-sound b r accepted s some there
 
     -- any bytes of the same length in place of those of s
@@ -219,10 +277,26 @@ module _ (b : List ℕ) (r : Recording) (accepted : firstLayout .means b ≡ ok 
       pub list-kept : (room : ℕ) → namesCall firstLayout after s room ≡ namesCall firstLayout b s room
       list-kept = naming.list-kept firstLayout firstLayout-sound b r accepted s some there new equal-length
 
-      -- two calls that resolve another sample n, with buffers of the same length: one by b that answered a and turned out into out₁, one by
-      -- the bundle after
-      pub others-resolve :
-          (n : ℕ) → (n ≡ s → ⊥) → Unlisted r s n → {out out₁ out' out₁' : List ℕ} {a a' : Answer ℕ} → length out ≡ length out' →
-          Wrote out out₁ a (resolveCall firstLayout b n (length out)) →
-          Wrote out' out₁' a' (resolveCall firstLayout after n (length out')) → SameAnswer a a' out₁ out₁'
-      others-resolve = naming.others-answer firstLayout firstLayout-sound b r accepted s some there new equal-length
+      module _ (n : ℕ) (other : n ≡ s → ⊥) (unlisted-before : Unlisted r s n) where
+        -- two calls that resolve another sample n, with buffers of the same length: one by b that answered a and turned out into
+        -- out₁, one by the bundle after
+        pub others-resolve :
+            {out out₁ out' out₁' : List ℕ} {a a' : Answer ℕ} → length out ≡ length out' →
+            Wrote out out₁ a (resolveCall firstLayout b n (length out)) →
+            Wrote out' out₁' a' (resolveCall firstLayout after n (length out')) → SameAnswer a a' out₁ out₁'
+        others-resolve =
+            naming.others-answer firstLayout firstLayout-sound b r accepted s some there new equal-length n other unlisted-before
+
+        -- the call for one of its units
+        pub others-unit : (k : ℕ) → unitCall firstLayout after n k ≡ unitCall firstLayout b n k
+        others-unit = auditLaws.others-unit b r accepted s some there new equal-length n other unlisted-before
+
+        -- its line in two audits with room: every number in it
+        pub others-line :
+            {out out₁ out' out₁' : List ℕ} {a a' : Answer ℕ} →
+            Wrote out out₁ a (auditCall firstLayout b (length out)) →
+            Wrote out' out₁' a' (auditCall firstLayout after (length out')) →
+            13 * sampleCount (r .layout) ≤ length out → 13 * sampleCount (r .layout) ≤ length out' →
+            0 < n → n ≤ sampleCount (r .layout) → (i k : ℕ) → i + k ≤ 13 →
+            big out₁ (13 * (n - 1) + i) k ≡ big out₁' (13 * (n - 1) + i) k
+        others-line = auditLaws.others-line b r accepted s some there new equal-length n other unlisted-before

@@ -1,0 +1,176 @@
+-- The proofs of what Demands says of the calls that resolve. Assumes nothing.
+use Prim.Native.Nat.{ℕ, zero, suc, _+_, _-_, _*_, _≤_, _<_}
+use mathlib.Core.Path.{_≡_, refl, ap, ap₂, sym, _∙_, subst}
+use mathlib.Core.Bool.{Bool, true, false, not, _&&_}
+use mathlib.Core.List.{List, [], _∷_, _++_, map, List·Memᴰ, List·Memᴰ·head, List·Memᴰ·tail, List·Memᴰ·not-nil, List·Memᴰ·cases-cons, List·Memᴰ·append-cases, Memᴰ·of-map}
+use mathlib.Core.Logic.{_⊎_, inl, inr, ⊎-elim, _↔_}
+use native.Mathlib.Omega.{arith}
+use native.Mathlib.Nat.{pos-of-ne-zero}
+use borrow.Author.Tests.{ltb-true, ltb-false, lt-ltb, le-leb, eqb-true, eqb-false, ne-eqb, eq-eqb}
+use lib.ListN.{length, length-take, List·getD-eq-default}
+use Rattle.words.specs.Tests.{_≤?_, _<?_, _≡?_, pick}
+use Rattle.words.specs.Refusals.{Answer, refused, ok}
+use Rattle.words.specs.Lists.{_∈_, each, keep, nth}
+use Rattle.words.specs.Bytes.{Bytes, byteAt, bytes, part}
+use Rattle.words.proofs.Tests.{by-bool, by-number, true-false}
+use Rattle.words.proofs.Refusals.{ok-same, ok-refused}
+use Rattle.words.proofs.Lists.{each-cong, nth-mem, keep-mem}
+use Rattle.words.proofs.Joined.{part-byte, part-part}
+use Rattle.units.specs.Units.{Sample, L, size, type, next, isAggregator, isExtractor, topUnits, topBetween}
+use Rattle.units.specs.Extractors.{trackRefIndex, sampleOffset, dataOffset, dataLength}
+use Rattle.units.specs.Aggregators.{additionalBytes, coverEnd, units, extractors}
+use Rattle.bundles.specs.Recordings.{Layout, Recording, sampleCount, contentOf}
+use Rattle.bundles.specs.Readers.{firstLayout}
+use Rattle.links.specs.Order.{TimesRise}
+use Rattle.copies.specs.Copies.{copied}
+use Rattle.resolution_rules.specs.Resolving.{sampleOf, Span, spanOf, own, named, linked, copiedAt, deliveredAt, delivered, judged}
+use Rattle.resolution_rules.specs.Calls.{BundlePart, spanBytes, written, output, noSpan, resolve, resolveCall, unitCall, placedBy, placeCall}
+use Rattle.resolution_rules.specs.Rules.{Extracts, Good, Plain, Resolves, CallResolves}
+use Rattle.resolution_rules.proofs.Good.{good-rules}
+use Rattle.resolution_rules.proofs.Delivered.{delivered-unit, delivered-aggregator, delivered-extractor}
+use Rattle.resolution_rules.proofs.Exactly.{delivered-plain, delivered-there}
+use Rattle.resolution_rules.proofs.Readers.{firstLayout-sound}
+use Rattle.resolution_rules.proofs.Calls as calls
+use Rattle.resolution_rules.proofs.Promises as resolving
+use Rattle.promises.specs.Samples.{Formed}
+use Rattle.promises.specs.Resolving.{Extraction, GoodSample, unitIn, Delivery, afterLength, Resolved, StandsAt}
+use Rattle.promises.specs.ResolveLaws.{extraction-is, good-sample, sample-good}
+
+pub part-bytes : (b : List ℕ) (a n : ℕ) → Bytes b → (i : ℕ) → byteAt (part b a n) i < 256
+part-bytes b a n g i = by-bool (i <? n)
+    (λ t. rw (part-byte b a n i (ltb-true _ _ t)) (g (a + i)))
+    (λ t. let l : n ≤ i = ltb-false _ _ t in let h : length (part b a n) ≤ i = simp (length-take) (omega arith) in rw (List·getD-eq-default (part b a n) 0 {n = i} h) (omega arith))
+
+module _ (b : List ℕ) (g : Bytes b) (r : Recording) (accepted : firstLayout .means b ≡ ok r) where
+  rise : TimesRise (r .layout)
+  rise = firstLayout-sound .rise b r accepted
+
+  module _ (n : ℕ) (some : 0 < n) (there : n ≤ sampleCount (r .layout)) where
+    offset-byte : (p : ℕ) → sampleOffset (sampleOf r n) p < 256
+    unfolding sampleOf
+    offset-byte p = rw (firstLayout-sound .placed b r n accepted some there) (part-bytes b (firstLayout .contentAt b n) (length (contentOf r n)) g (p + L (sampleOf r n) + 4 + 1))
+
+    pub good-exactly : (judged r n ≡ ok tt) ↔ GoodSample r n
+    good-exactly = (good-sample r rise n offset-byte, sample-good r rise n offset-byte)
+
+    -- what is delivered
+    copied-is : (p m : ℕ) (qs : List ℕ) → Extraction r n p m qs → copiedAt r n p ≡ map (unitIn r m) qs
+    unfolding copiedAt
+    copied-is p m qs x = let w = extraction-is r rise n offset-byte p m qs x in rw (w .1) (ap (λ (j : ℕ). map (unitIn r j) qs) (w .0))
+
+    determined : {ps : List ℕ} {us : List Span} → Delivery r n ps us → us ≡ each (deliveredAt r n) ps
+    unfolding each
+    determined Delivery.none = refl
+    determined (Delivery.unit p a e d) = rw (delivered-unit r n p (ne-eqb _ _ a) (ne-eqb _ _ e)) (ap (λ l. unitIn r n p ∷ l) (determined d))
+    determined (Delivery.aggregator p a d) = rw (delivered-aggregator r n p (eq-eqb _ _ a)) (determined d)
+    determined (Delivery.extractor p m qs t x d) = rw (delivered-extractor r n p (eq-eqb _ _ t), copied-is p m qs x) (ap (λ l. map (unitIn r m) qs ++ l) (determined d))
+
+    over : (ps : List ℕ) → ((p : ℕ) → p ∈ ps → type (sampleOf r n) p ≡ 31 → (m : ℕ) × (qs : List ℕ) × Extraction r n p m qs) → Delivery r n ps (each (deliveredAt r n) ps)
+    unfolding each
+    over [] h = Delivery.none
+    over (p ∷ ps) h =
+        let below = over ps (λ q m. h q (List·Memᴰ·tail m)) in
+        by-bool (isAggregator (own r n) p)
+        (λ a. rw (delivered-aggregator r n p a) (Delivery.aggregator p (eqb-true _ _ a) below))
+        (λ a. by-bool (isExtractor (own r n) p)
+        (λ e. let x = h p (List·Memᴰ·head refl) (eqb-true _ _ e) in
+        rw (delivered-extractor r n p e, copied-is p (x .0) (x .1) (x .2)) (Delivery.extractor p (x .0) (x .1) (eqb-true _ _ e) (x .2) below))
+        (λ e. rw (delivered-unit r n p a e) (Delivery.unit p (eqb-false _ _ a) (eqb-false _ _ e) below)))
+
+    pub delivers : GoodSample r n → Delivery r n (units (sampleOf r n)) (delivered r n)
+    unfolding delivered
+    delivers w = over (units (sampleOf r n)) (w .extracts)
+
+    pub delivers-only : (us : List Span) → Delivery r n (units (sampleOf r n)) us → us ≡ delivered r n
+    unfolding delivered
+    delivers-only us d = determined d
+
+    output-is : (us : List Span) → output r us ≡ each (afterLength r) us
+    unfolding output written
+    output-is us = refl
+
+    pub resolved-exactly :
+        (room : ℕ) (out : List ℕ) →
+        (resolveCall firstLayout b n room ≡ ok out)
+        ↔ ((us : List Span) × Resolved r n us × (out ≡ each (afterLength r) us) × (length out ≤ room))
+    resolved-exactly room out = (
+      λ e.
+          let w = calls.call-resolved-because firstLayout b n room out e in
+          let same : w .recording ≡ r = ok-same (sym (w .means) ∙ accepted) in
+          let v : Resolves r n room out = subst (λ (s : Recording). Resolves s n room out) same (w .resolves) in
+          let good = good-sample r rise n offset-byte (v .good) in
+          (delivered r n, record { some = some; there = there; good = good; delivery = delivers good }, v .delivers ∙ output-is (delivered r n), v .fits),
+      λ w.
+          let d = delivers-only (w .0) (w .1 .delivery) in
+          calls.call-resolves firstLayout b n room (record {
+            recording = r;
+            means = accepted;
+            resolves = record {
+              number = (some, there);
+              good = sample-good r rise n offset-byte (w .1 .good);
+              delivers = w .2 ∙ ap (each (afterLength r)) d ∙ sym (output-is (delivered r n));
+              fits = w .3;
+            };
+          }),
+    )
+
+    -- where a delivered unit comes from
+    comes : {ps : List ℕ} {us : List Span} → Delivery r n ps us → ((p : ℕ) → p ∈ ps → p ∈ units (sampleOf r n)) → (u : Span) → u ∈ us →
+        (u .sample ≡ n) ⊎ ((p : ℕ) × (qs : List ℕ) × (p ∈ units (sampleOf r n)) × Extraction r n p (u .sample) qs)
+    comes Delivery.none h u m = absurd (List·Memᴰ·not-nil m)
+    comes (Delivery.unit p a e d) h u m = ⊎-elim
+        (λ z. inl (rw z))
+        (λ k. comes d (λ q l. h q (List·Memᴰ·tail l)) u k)
+        (List·Memᴰ·cases-cons m)
+    comes (Delivery.aggregator p a d) h u m = comes d (λ q l. h q (List·Memᴰ·tail l)) u m
+    comes (Delivery.extractor p j qs t x d) h u m = ⊎-elim
+        (λ k. let w = Memᴰ·of-map (unitIn r j) qs k in inr (p, qs, h p (List·Memᴰ·head refl), subst (λ (i : ℕ). Extraction r n p i qs) (ap (λ (v : Span). v .sample) (w .2)) x))
+        (λ k. comes d (λ q l. h q (List·Memᴰ·tail l)) u k)
+        (List·Memᴰ·append-cases (map (unitIn r j) qs) m)
+
+    module _ (us : List Span) (w : Resolved r n us) where
+      good : judged r n ≡ ok tt
+      good = sample-good r rise n offset-byte (w .good)
+
+      pub unit-there :
+          (k : ℕ) → 0 < k → k ≤ length us →
+          (start : ℕ) × (size : ℕ) × (placeCall firstLayout b n k ≡ ok (record { start = start; size = size }))
+          × StandsAt b r n (nth us k noSpan) start size
+      unfolding placeCall
+      unit-there k h l =
+          let e = delivers-only us (w .delivery) in
+          let u = nth us k noSpan in
+          let m : u ∈ us = nth-mem us k noSpan h l in
+          let c = calls.unit-answers firstLayout firstLayout-sound b r accepted n some there good k h (rw (← e) l) in
+          let f = delivered-plain r n (good-rules r n good) u (rw (← e) m) in
+          let t = delivered-there r n (good-rules r n good) some there u (rw (← e) m) in
+          let i = firstLayout-sound .inside b r (u .sample) accepted (t .0) (t .1) in
+          let j = f .inside in
+          let a = firstLayout .contentAt b (u .sample) in
+          let v : unitCall firstLayout b n k ≡ ok u = rw (← e) at c in (
+            a + u .start,
+            u .size,
+            ap (placedBy (firstLayout .contentAt b)) v,
+            record {
+              some = f .some;
+              inside = omega arith;
+              bytes = sym (rw (firstLayout-sound .placed b r (u .sample) accepted (t .0) (t .1)) (part-part b a (length (contentOf r (u .sample))) (u .start) (u .size) j));
+              from = comes (w .delivery) (λ p k. k) u m;
+            },
+          )
+
+      pub unit-gives : (k : ℕ) → 0 < k → k ≤ length us → unitCall firstLayout b n k ≡ ok (nth us k noSpan)
+      unit-gives k h l =
+          let e = delivers-only us (w .delivery) in
+          rw (← e) at (calls.unit-answers firstLayout firstLayout-sound b r accepted n some there good k h (rw (← e) l))
+
+      pub covered-once :
+          (p q : ℕ) → p ∈ topUnits (sampleOf r n) → type (sampleOf r n) p ≡ 30 → q ∈ topUnits (sampleOf r n) →
+          next (sampleOf r n) p ≤ q → q < next (sampleOf r n) p + additionalBytes (sampleOf r n) p → (type (sampleOf r n) q ≡ 31 → ⊥) →
+          length (keep (λ u. ((u .sample) ≡? n) && ((u .start) ≡? q + L (sampleOf r n))) us) ≡ 1
+      unfolding topBetween
+      covered-once p q m t k a z e =
+          rw (delivers-only us (w .delivery))
+          (resolving.covered-once r n good (resolving.never-itself firstLayout firstLayout-sound b r accepted n good) p m (eq-eqb _ _ t) q
+          (keep-mem _ (topUnits (sampleOf r n)) k (rw (le-leb (next (sampleOf r n) p) q a, lt-ltb q (next (sampleOf r n) p + additionalBytes (sampleOf r n) p) z)))
+          (ne-eqb _ _ e))

@@ -1,0 +1,239 @@
+-- The proofs of what Demands says of resolving. Assumes nothing.
+use Prim.Native.Nat.{ℕ, zero, suc, _+_, _-_, _*_, _≤_, _<_}
+use mathlib.Core.Path.{_≡_, refl, ap, sym, _∙_, subst}
+use mathlib.Core.Bool.{Bool, true, false, not, _&&_}
+use mathlib.Core.List.{List, [], _∷_, List·Memᴰ}
+use mathlib.Core.Logic.{_⊎_, inl, inr, ⊎-elim, _↔_}
+use native.Mathlib.Omega.{arith}
+use native.Mathlib.Nat.{pos-of-ne-zero}
+use borrow.Author.Tests.{ltb-true, ltb-false, le-ltb, eqb-true, eqb-false, ne-eqb, eq-eqb, leb-true, leb-false, le-leb, lt-leb}
+use lib.ListN.{length}
+use Rattle.words.specs.Tests.{_≤?_, _<?_, _≡?_, pick}
+use Rattle.words.specs.Refusals.{Answer, refused, ok}
+use Rattle.words.specs.Lists.{_∈_, keep, nth}
+use Rattle.words.proofs.Tests.{by-bool, by-number, true-false}
+use Rattle.words.proofs.Lists.{keep-mem, keep-from, has-from, some-mem}
+use Rattle.units.specs.Units.{Sample, L, end, size, type, next, isAggregator, isExtractor, topUnits, border}
+use Rattle.units.specs.Extractors.{trackRefIndex, sampleOffset, dataOffset, dataLength}
+use Rattle.units.specs.Aggregators.{additionalBytes, coverEnd, units, extractors}
+use Rattle.samples.specs.Check.{check}
+use Rattle.bundles.specs.Recordings.{Layout, Recording, noReference, sampleCount, trackOf, timeOf, referencesFrom, samplesIn}
+use Rattle.links.specs.Links.{linkFault, linkedTrack, base, sampleNamed, nameFault}
+use Rattle.links.specs.Order.{TimesRise, baseSample, before, upTo, Steps}
+use Rattle.links.proofs.Links.{link-none, link-good, in-track, track-in, named-there, name-none, name-good, linked-none}
+use Rattle.links.proofs.Order.{named-steps, named-baseless, base-times, base-last, later-without, before-test, upTo-test}
+use Rattle.copies.specs.Copies.{copyEnd, copied, copyFault, copyStarts, withoutAggregators}
+use Rattle.copies.specs.Rules.{CopyRules}
+use Rattle.copies.proofs.Copied.{between-units, copy-rules, rules-copy, start-top, end-border, copied-exact}
+use Rattle.resolution_rules.specs.Resolving.{sampleOf, own, named, linked, nameFaultAt, copyFaultAt, extractFault, judged}
+use Rattle.resolution_rules.specs.Rules.{Extracts, Good}
+use Rattle.resolution_rules.proofs.Good.{good-rules, rules-good}
+use Rattle.resolution_rules.proofs.Exactly.{extractor-mem}
+use Rattle.copies.proofs.Borders.{top-border}
+use Rattle.words.proofs.Kept.{keep-keep}
+use Rattle.promises.specs.Samples.{BorderAt, Formed}
+use Rattle.promises.specs.SampleLaws.{formed-rules, rules-formed, border-at, at-border}
+use Rattle.promises.specs.Resolving.{Sampled, BaseOf, On, NamedBy, CopyEnds, CopyOf, Extraction, GoodSample}
+
+-- the sample named
+module _ (y : Layout) (rise : TimesRise y) where
+  sampled : (m k : ℕ) → m ∈ samplesIn y k → Sampled y m k
+  sampled m k h = let w = in-track y 0 k m h in record { some = w .0; there = w .1; track = w .2 }
+
+  in-samples : (m k : ℕ) → Sampled y m k → m ∈ samplesIn y k
+  in-samples m k s = track-in y 0 k m (s .some) (s .there) (s .track)
+
+  base-of : (n k : ℕ) → 0 < base y n k → BaseOf y n k (baseSample y n k)
+  base-of n k h =
+      let b = base-last y rise n k h in
+      let t = base-times y rise n k h in
+      record { sample = sampled (baseSample y n k) k (b .there); before = t .0; last = λ m s l. t .1 m (in-samples m k s) l }
+
+  -- there is one base
+  base-one : (n k c d : ℕ) → BaseOf y n k c → BaseOf y n k d → c ≡ d
+  base-one n k c d u v = by-bool (c ≡? d) (λ t. eqb-true _ _ t) (λ t.
+      let z : c ≡ d → ⊥ = eqb-false _ _ t in
+      by-bool (c <? d)
+      (λ l. let l' : c < d = ltb-true _ _ l in let e = u .last d (v .sample) l' in let f = v .before in absurd (omega arith))
+      (λ l. let l' : d ≤ c = ltb-false _ _ l in let e = v .last c (u .sample) (omega arith) in let f = u .before in absurd (omega arith)))
+
+  in-range : (m k : ℕ) → Sampled y m k → (before y k < m) × (m ≤ upTo y k)
+  in-range m k s =
+      let a = before-test y (rise .tracks) k m (s .some) (s .there) in
+      let b = upTo-test y (rise .tracks) k m (s .some) (s .there) in
+      let e = s .track in
+      (leb-false _ _ (sym a ∙ le-ltb (trackOf y m) k (omega arith)), leb-true _ _ (sym b ∙ le-leb (trackOf y m) k (omega arith)))
+
+  module _ (n index offset : ℕ) (byte : offset < 256) where
+    abbrev track : ℕ
+    track = linkedTrack y n index
+
+    linked-is : nth (keep (λ f. (f .from) ≡? trackOf y n) (y .references)) index noReference .to ≡ track
+    unfolding linkedTrack referencesFrom
+    linked-is = refl
+
+    link-there : linkFault y n index ≡ 0 → index ≤ length (keep (λ f. (f .from) ≡? trackOf y n) (y .references))
+    unfolding referencesFrom
+    link-there e = link-none y n index e .1
+
+    there-link : 0 < index → index ≤ length (keep (λ f. (f .from) ≡? trackOf y n) (y .references)) → linkFault y n index ≡ 0
+    unfolding referencesFrom
+    there-link h l = link-good y n index h l
+
+    -- the steps from the base
+    on-steps : 0 < base y n track → 0 < sampleNamed y n index offset → On offset (baseSample y n track) (sampleNamed y n index offset)
+    on-steps h s =
+        let w = named-steps y rise n index offset h in
+        by-bool (offset <? 128)
+        (λ t. let l : offset < 128 = ltb-true _ _ t in
+        by-bool (baseSample y n track + offset ≤? upTo y track)
+        (λ u. On.ahead l (w .up l (leb-true _ _ u)))
+        (λ u. let z = w .past l (leb-false _ _ u) in absurd (omega arith)))
+        (λ t. let l : 128 ≤ offset = ltb-false _ _ t in
+        by-bool (before y track + (256 - offset) <? baseSample y n track)
+        (λ u. let v : before y track + (256 - offset) < baseSample y n track = ltb-true _ _ u in let z = w .down l (omega arith) v in On.back l (omega arith))
+        (λ u. let z = w .short l (omega arith) (ltb-false _ _ u) in absurd (omega arith)))
+
+    pub names-by : nameFault y n index offset ≡ 0 → NamedBy y n index offset (sampleNamed y n index offset)
+    names-by e =
+        let a = name-none y n index offset e in
+        let h : 0 < base y n track = by-number (base y n track)
+        (λ z. let q = named-baseless y rise n index offset z in let s = a .1 in absurd (omega arith))
+        (λ k z. omega arith) in
+        record {
+          track = track;
+          some = link-none y n index (a .0) .0;
+          there = link-there (a .0);
+          reference = linked-is;
+          base = baseSample y n track;
+          is-base = base-of n track h;
+          steps = on-steps h (a .1);
+          sample = sampled (sampleNamed y n index offset) track (named-there y n index offset (a .1));
+        }
+
+    steps-on : 0 < base y n track → (m : ℕ) → Sampled y m track → On offset (baseSample y n track) m → sampleNamed y n index offset ≡ m
+    steps-on h m s (On.ahead l e) =
+        let w = named-steps y rise n index offset h in
+        let g = in-range m track s in
+        w .up l (omega arith) ∙ sym e
+    steps-on h m s (On.back l e) =
+        let w = named-steps y rise n index offset h in
+        let g = in-range m track s in
+        let i : before y track < m = g .0 in
+        let z = w .down l (omega arith) (omega arith) in
+        omega arith
+
+    pub by-names : (m : ℕ) → NamedBy y n index offset m → (nameFault y n index offset ≡ 0) × (sampleNamed y n index offset ≡ m)
+    by-names m w =
+        let k : w .track ≡ track = sym (w .reference) ∙ linked-is in
+        let c : BaseOf y n track (w .base) = subst (λ (j : ℕ). BaseOf y n j (w .base)) k (w .is-base) in
+        let s : Sampled y m track = subst (Sampled y m) k (w .sample) in
+        let h : 0 < base y n track = by-number (base y n track)
+        (λ z. let q = later-without y rise n track z (w .base) (in-samples (w .base) track (c .sample)) in let f = c .before in absurd (omega arith))
+        (λ j z. omega arith) in
+        let d : w .base ≡ baseSample y n track = base-one n track (w .base) (baseSample y n track) c (base-of n track h) in
+        let e = steps-on h m s (subst (λ (j : ℕ). On offset j m) d (w .steps)) in
+        let t = s .some in
+        (name-good y n index offset (omega arith), e)
+
+-- a copy
+module _ (z : Sample) (o n : ℕ) where
+  copy-ends : CopyEnds z o n (copyEnd z o n)
+  unfolding copyEnd
+  copy-ends = by-bool (n ≡? 0)
+      (λ t. by-bool (isAggregator z o)
+      (λ a. rw (t, a) (CopyEnds.aggregator (eqb-true _ _ t) (eqb-true _ _ a)))
+      (λ a. rw (t, a) (CopyEnds.unit (eqb-true _ _ t) (eqb-false _ _ a))))
+      (λ t. rw t (CopyEnds.span (pos-of-ne-zero (eqb-false _ _ t))))
+
+  ends-copy : (e : ℕ) → CopyEnds z o n e → copyEnd z o n ≡ e
+  unfolding copyEnd
+  ends-copy e (CopyEnds.unit h t) = rw (eq-eqb n 0 h, ne-eqb (type z o) 30 t)
+  ends-copy e (CopyEnds.aggregator h t) = rw (eq-eqb n 0 h, eq-eqb (type z o) 30 t)
+  ends-copy e (CopyEnds.span h) = rw (ne-eqb n 0 (λ q. absurd (omega arith)))
+
+  pub copy-of : copyFault z o n ≡ 0 → CopyOf z o n (copied z o n)
+  copy-of e =
+      let c = copy-rules z o n e in
+      record {
+        formed = formed-rules z (c .formed);
+        start = start-top z o n c;
+        end = copyEnd z o n;
+        ends = copy-ends;
+        border = border-at z (copyEnd z o n) (end-border z o n c);
+        units = copied-exact z o n c;
+        noExtractor = λ q m. eqb-false _ _ (c .noExtractor q m);
+      }
+
+  copied-between : check z ≡ ok tt → o ∈ topUnits z → border z (copyEnd z o n) ≡ true → copied z o n ≡ keep (λ q. (o ≤? q) && (q <? copyEnd z o n)) (withoutAggregators z (units z))
+  unfolding copied
+  copied-between f m e =
+      ap (withoutAggregators z) (between-units z f o (copyEnd z o n) (top-border z o m) e)
+      ∙ keep-keep (λ p. not (isAggregator z p)) (λ q. (o ≤? q) && (q <? copyEnd z o n)) (units z)
+
+  pub of-copy : (qs : List ℕ) → CopyOf z o n qs → (copyFault z o n ≡ 0) × (copied z o n ≡ qs)
+  of-copy qs w =
+      let e = ends-copy (w .end) (w .ends) in
+      let f = rules-formed z (w .formed) in
+      let b : border z (copyEnd z o n) ≡ true = rw e (at-border z (w .end) (w .border)) in
+      let c : copied z o n ≡ qs = copied-between f (w .start) b ∙ ap (λ (j : ℕ). keep (λ q. (o ≤? q) && (q <? j)) (withoutAggregators z (units z))) e ∙ sym (w .units) in (
+        rules-copy z o n (record {
+          formed = f;
+          starts = some-mem (λ q. o ≡? q) (topUnits z) (w .start) (eq-eqb o o refl);
+          ends = b;
+          noExtractor = λ q m. ne-eqb _ _ (w .noExtractor q (subst (λ (l : List ℕ). q ∈ l) c m));
+        }),
+        c,
+      )
+
+-- a good sample
+module _ (r : Recording) (rise : TimesRise (r .layout)) (n : ℕ) (byte : (p : ℕ) → sampleOffset (sampleOf r n) p < 256) where
+  extraction : (p : ℕ) → Extracts r n p → (m : ℕ) × (qs : List ℕ) × Extraction r n p m qs
+  unfolding named
+  extraction p x =
+      let t = in-track (r .layout) n _ _ (x .there) in
+      let e = name-good (r .layout) n (trackRefIndex (own r n) p) (sampleOffset (own r n) p) (t .0) in (
+        named r n p,
+        copied (linked r n p) (dataOffset (own r n) p) (dataLength (own r n) p),
+        record {
+          names = names-by (r .layout) rise n (trackRefIndex (own r n) p) (sampleOffset (own r n) p) (byte p) e;
+          copies = copy-of (linked r n p) (dataOffset (own r n) p) (dataLength (own r n) p) (rules-copy _ _ _ (x .copy));
+        },
+      )
+
+  pub extraction-is : (p m : ℕ) (qs : List ℕ) → Extraction r n p m qs → (named r n p ≡ m) × (copied (linked r n p) (dataOffset (own r n) p) (dataLength (own r n) p) ≡ qs) × Extracts r n p
+  unfolding named
+  extraction-is p m qs x =
+      let w = by-names (r .layout) rise n (trackRefIndex (own r n) p) (sampleOffset (own r n) p) (byte p) m (x .names) in
+      let a = name-none (r .layout) n (trackRefIndex (own r n) p) (sampleOffset (own r n) p) (w .0) in
+      let c = subst (λ (j : ℕ). CopyOf (sampleOf r j) (dataOffset (own r n) p) (dataLength (own r n) p) qs) (sym (w .1)) (x .copies) in
+      let d = of-copy (linked r n p) (dataOffset (own r n) p) (dataLength (own r n) p) qs c in (
+        w .1,
+        d .1,
+        record {
+          index = link-none (r .layout) n (trackRefIndex (own r n) p) (a .0);
+          there = named-there (r .layout) n (trackRefIndex (own r n) p) (sampleOffset (own r n) p) (a .1);
+          copy = copy-rules (linked r n p) (dataOffset (own r n) p) (dataLength (own r n) p) (d .0);
+        },
+      )
+
+  pub good-sample : judged r n ≡ ok tt → GoodSample r n
+  good-sample j =
+      let g = good-rules r n j in
+      record {
+        formed = formed-rules (sampleOf r n) (g .formed);
+        extracts = λ p m t. extraction p (g .extracts p (extractor-mem r n p m (eq-eqb _ _ t)));
+      }
+
+  pub sample-good : GoodSample r n → judged r n ≡ ok tt
+  unfolding extractors
+  sample-good g = rules-good r n (record {
+    formed = rules-formed (sampleOf r n) (g .formed);
+    extracts = λ p m.
+        let k = keep-from (isExtractor (own r n)) (units (own r n)) m in
+        let x = g .extracts p (k .0) (eqb-true _ _ (k .1)) in
+        extraction-is p (x .0) (x .1) (x .2) .2;
+  })
+
+  pub good-exactly : (judged r n ≡ ok tt) ↔ GoodSample r n
+  good-exactly = (good-sample, sample-good)
