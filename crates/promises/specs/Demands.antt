@@ -27,14 +27,8 @@ use Rattle.words.specs.Bytes.{Bytes, big, splice}
 use Rattle.words.specs.Buffers.{Wrote}
 use Rattle.words.proofs.Buffers as buffers
 use Rattle.words.proofs.Lists.{Rising}
-<<<<<<< HEAD
-use Rattle.numbers.specs.Places.{placeSize}
 use Rattle.record_rules.specs.Read.{readRecord}
 use Rattle.record_rules.specs.declared.Fields.{Fields}
-=======
-use Rattle.record_rules.specs.Read.{readRecord}
-use Rattle.record_rules.specs.declared.Fields.{Fields}
->>>>>>> help-J
 use Rattle.record_writer.specs.Write.{writeRecord}
 use Rattle.record_writer.specs.Promise.{Holds}
 use Rattle.record_writer.proofs.Promise as records
