@@ -1,6 +1,6 @@
 -- The demands, in their order and nearly in their words, each as theorems in plain facts about the definitions that the contracts
 -- of the code cite. The numbers are those of document 01. What a word means stands in the file that its `use` line names; the
--- files specs/*Laws prove. Assumes nothing.
+-- files crates/promise_rules/proofs/*Laws prove. Assumes nothing.
 --
 -- Demand 1. Every public entry takes any bytes, ends, and either answers or refuses with a number of the table and a place.
 -- After a refusal each output buffer holds what it held before, and the count returned is zero. No caller is asked to have
@@ -50,18 +50,18 @@ use Rattle.tally.specs.declared.Tally.{Tally}
 use Rattle.audit_rules.specs.Auditing.{auditCall, tallyCall}
 use Rattle.audit_rules.specs.Rules.{AuditRefuses}
 use Rattle.audit_rules.proofs.Promises as auditing
-use Rattle.promises.specs.Records.{RecordOf, WriteRefused, ReadRefused}
-use Rattle.promises.specs.Samples.{Formed}
-use Rattle.promises.specs.Bundles.{BundleOf, Means}
-use Rattle.promises.specs.Resolving.{GoodSample, Resolved, afterLength, StandsAt}
-use Rattle.promises.specs.Audits.{SampleSays, TallyOf}
-use Rattle.promises.specs.Refused.{BundleRefused, ResolveRefused, UnitRefused}
-use Rattle.promises.specs.RecordLaws as recordLaws
-use Rattle.promises.specs.SampleLaws as sampleLaws
-use Rattle.promises.specs.BundleLaws as bundleLaws
-use Rattle.promises.specs.CallLaws as callLaws
-use Rattle.promises.specs.AuditLaws as auditLaws
-use Rattle.promises.specs.RefusedLaws as refusedLaws
+use Rattle.promise_rules.specs.Records.{RecordOf, WriteRefused, ReadRefused}
+use Rattle.promise_rules.specs.Samples.{Formed}
+use Rattle.promise_rules.specs.Bundles.{BundleOf, Means}
+use Rattle.promise_rules.specs.Resolving.{GoodSample, Resolved, afterLength, StandsAt}
+use Rattle.promise_rules.specs.Audits.{SampleSays, TallyOf}
+use Rattle.promise_rules.specs.Refused.{BundleRefused, ResolveRefused, UnitRefused}
+use Rattle.promise_rules.proofs.RecordLaws as recordLaws
+use Rattle.promise_rules.proofs.SampleLaws as sampleLaws
+use Rattle.promise_rules.proofs.BundleLaws as bundleLaws
+use Rattle.promise_rules.proofs.CallLaws as callLaws
+use Rattle.promise_rules.proofs.AuditLaws as auditLaws
+use Rattle.promise_rules.proofs.RefusedLaws as refusedLaws
 
 -- Demand 1.
 -- That every entry takes any bytes and ends is what `rt check` proves of the code: no public function requires anything. Its

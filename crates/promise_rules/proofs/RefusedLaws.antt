@@ -16,11 +16,11 @@ use Rattle.resolution_rules.specs.Rules.{UnitRefuses, ResolveRefuses, CallRefus
 use Rattle.resolution_rules.proofs.Calls.{call-refused-because, unit-call-because}
 use Rattle.resolution_rules.proofs.Good.{judged-refused}
 use Rattle.resolution_rules.proofs.Readers.{firstLayout-sound}
-use Rattle.promises.specs.Bundles.{BundleOf}
-use Rattle.promises.specs.BundleLaws.{one-meaning}
-use Rattle.promises.specs.Resolving.{GoodSample, Resolved, afterLength}
-use Rattle.promises.specs.CallLaws.{good-exactly, delivers}
-use Rattle.promises.specs.Refused.{BundleRefused, SampleRefused, ResolveRefused, UnitRefused}
+use Rattle.promise_rules.specs.Bundles.{BundleOf}
+use Rattle.promise_rules.proofs.BundleLaws.{one-meaning}
+use Rattle.promise_rules.specs.Resolving.{GoodSample, Resolved, afterLength}
+use Rattle.promise_rules.proofs.CallLaws.{good-exactly, delivers}
+use Rattle.promise_rules.specs.Refused.{BundleRefused, SampleRefused, ResolveRefused, UnitRefused}
 
 module _ (b : List ℕ) (g : Bytes b) where
   pub bundle-refused : {m p : ℕ} → firstLayout .means b ≡ refused m p → BundleRefused b m p

@@ -37,10 +37,10 @@ use Rattle.bundles.specs.Samples.{sampleEntries, entryOn, orderFault, entryAt, 
 use Rattle.bundles.specs.Bundles.{endFault, bytesVerdict, bundleVerdict, layoutOf, recordingOf, meaning}
 use Rattle.bundles.proofs.Promises.{means, samples-tile}
 use Rattle.bundles.proofs.Sections as sections
-use Rattle.promises.specs.Records.{RecordOf}
-use Rattle.promises.specs.RecordLaws.{accepted-exactly}
-use Rattle.promises.specs.Bundles.{two, three, four, entry, trackPlaces, referencePlaces, CountAt, TrackAt, ReferenceAt, EntryAt, BundleOf, TrackMeans, Means}
-use Rattle.promises.specs.CallLaws.{part-bytes}
+use Rattle.promise_rules.specs.Records.{RecordOf}
+use Rattle.promise_rules.proofs.RecordLaws.{accepted-exactly}
+use Rattle.promise_rules.specs.Bundles.{two, three, four, entry, trackPlaces, referencePlaces, CountAt, TrackAt, ReferenceAt, EntryAt, BundleOf, TrackMeans, Means}
+use Rattle.promise_rules.proofs.CallLaws.{part-bytes}
 
 -- a record in a bundle
 record Read (kind : ℕ) (s : List ℕ) : Type 0 where

@@ -15,7 +15,7 @@ use Rattle.words.specs.Bytes.{big}
 use Rattle.bundles.specs.Recordings.{Recording, sampleCount, contentOf}
 use Rattle.resolution_rules.specs.Resolving.{Span, judged}
 use Rattle.tally.specs.declared.Tally.{Tally}
-use Rattle.promises.specs.Resolving.{GoodSample, Resolved}
+use Rattle.promise_rules.specs.Resolving.{GoodSample, Resolved}
 
 pub record LineIn (out : List ℕ) (n m p delivered : ℕ) : Type 0 where
   pub refusal : big out (13 * (n - 1)) 1 ≡ m

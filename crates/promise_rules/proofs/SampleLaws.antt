@@ -21,7 +21,7 @@ use Rattle.units.specs.Rules.{Whole, Included}
 use Rattle.samples.specs.Check.{check}
 use Rattle.samples.specs.Rules.{Rules}
 use Rattle.samples.proofs.Laws.{rules, rules-check}
-use Rattle.promises.specs.Samples.{UnitAt, BorderAt, IncludedAt, Formed}
+use Rattle.promise_rules.specs.Samples.{UnitAt, BorderAt, IncludedAt, Formed}
 
 not-true-false : (b : Bool) → (b ≡ true → ⊥) → b ≡ false
 not-true-false true h = absurd (h refl)

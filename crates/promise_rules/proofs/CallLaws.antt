@@ -32,9 +32,9 @@ use Rattle.resolution_rules.proofs.Exactly.{delivered-plain, delivered-there}
 use Rattle.resolution_rules.proofs.Readers.{firstLayout-sound}
 use Rattle.resolution_rules.proofs.Calls as calls
 use Rattle.resolution_rules.proofs.Promises as resolving
-use Rattle.promises.specs.Samples.{Formed}
-use Rattle.promises.specs.Resolving.{Extraction, GoodSample, unitIn, Delivery, afterLength, Resolved, StandsAt}
-use Rattle.promises.specs.ResolveLaws.{extraction-is, good-sample, sample-good}
+use Rattle.promise_rules.specs.Samples.{Formed}
+use Rattle.promise_rules.specs.Resolving.{Extraction, GoodSample, unitIn, Delivery, afterLength, Resolved, StandsAt}
+use Rattle.promise_rules.proofs.ResolveLaws.{extraction-is, good-sample, sample-good}
 
 pub part-bytes : (b : List ℕ) (a n : ℕ) → Bytes b → (i : ℕ) → byteAt (part b a n) i < 256
 part-bytes b a n g i = by-bool (i <? n)

@@ -34,9 +34,9 @@ use Rattle.audit_rules.specs.Auditing.{outcomeOf, lineOf, lineBytes, unitsOf, l
 use Rattle.audit_rules.specs.Rules.{Reads, lineAt, outcomeByLine, SampleLine, LinePerSample, Counts}
 use Rattle.audit_rules.proofs.Lines.{lines-length}
 use Rattle.audit_rules.proofs.Promises as auditing
-use Rattle.promises.specs.Resolving.{GoodSample, Resolved}
-use Rattle.promises.specs.CallLaws.{good-exactly, delivers}
-use Rattle.promises.specs.Audits.{LineIn, SampleSays, TallyOf}
+use Rattle.promise_rules.specs.Resolving.{GoodSample, Resolved}
+use Rattle.promise_rules.proofs.CallLaws.{good-exactly, delivers}
+use Rattle.promise_rules.specs.Audits.{LineIn, SampleSays, TallyOf}
 
 big-part : (s : List ℕ) (a n i k : ℕ) → i + k ≤ n → big (part s a n) i k ≡ big s (a + i) k
 unfolding big

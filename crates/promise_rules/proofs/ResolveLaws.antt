@@ -31,9 +31,9 @@ use Rattle.resolution_rules.proofs.Good.{good-rules, rules-good}
 use Rattle.resolution_rules.proofs.Exactly.{extractor-mem}
 use Rattle.copies.proofs.Borders.{top-border}
 use Rattle.words.proofs.Kept.{keep-keep}
-use Rattle.promises.specs.Samples.{BorderAt, Formed}
-use Rattle.promises.specs.SampleLaws.{formed-rules, rules-formed, border-at, at-border}
-use Rattle.promises.specs.Resolving.{Sampled, BaseOf, On, NamedBy, CopyEnds, CopyOf, Extraction, GoodSample}
+use Rattle.promise_rules.specs.Samples.{BorderAt, Formed}
+use Rattle.promise_rules.proofs.SampleLaws.{formed-rules, rules-formed, border-at, at-border}
+use Rattle.promise_rules.specs.Resolving.{Sampled, BaseOf, On, NamedBy, CopyEnds, CopyOf, Extraction, GoodSample}
 
 -- the sample named
 module _ (y : Layout) (rise : TimesRise y) where

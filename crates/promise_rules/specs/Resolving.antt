@@ -23,7 +23,7 @@ use Rattle.units.specs.Extractors.{trackRefIndex, sampleOffset, dataOffset, dat
 use Rattle.units.specs.Aggregators.{additionalBytes, units}
 use Rattle.bundles.specs.Recordings.{Layout, Recording, noReference, sampleCount, trackOf, timeOf, contentOf}
 use Rattle.resolution_rules.specs.Resolving.{sampleOf, Span}
-use Rattle.promises.specs.Samples.{BorderAt, Formed}
+use Rattle.promise_rules.specs.Samples.{BorderAt, Formed}
 
 module _ (y : Layout) where
   pub record Sampled (m k : ℕ) : Type 0 where

@@ -50,7 +50,7 @@ use Rattle.record_writer.specs.Write.{writeAs, writeRecord}
 use Rattle.record_writer.specs.Promise.{Holds}
 use Rattle.record_writer.proofs.Laws.{write-misfit, write-fits}
 use Rattle.record_writer.proofs.Promise.{writes-back, reads-back, read-refusals, write-refusals}
-use Rattle.promises.specs.Records.{SetAt, Sets, trailerProfiles, Shared, Trailed, RecordOf, WriteRefused, ReadRefused}
+use Rattle.promise_rules.specs.Records.{SetAt, Sets, trailerProfiles, Shared, Trailed, RecordOf, WriteRefused, ReadRefused}
 
 -- sets
 module _ (types : SetTypes) (ts : List ℕ) (to : (t : ℕ) → oneOf types t ≡ true → t ∈ ts) (from : (t : ℕ) → t ∈ ts → oneOf types t ≡ true) (s : List ℕ) where

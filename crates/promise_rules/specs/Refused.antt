@@ -15,8 +15,8 @@ use Rattle.words.specs.Lists.{_∈_, each}
 use Rattle.bundles.specs.Recordings.{Recording, sampleCount, contentOf}
 use Rattle.bundles.specs.Readers.{firstLayout}
 use Rattle.resolution_rules.specs.Resolving.{Span, judged}
-use Rattle.promises.specs.Bundles.{BundleOf}
-use Rattle.promises.specs.Resolving.{GoodSample, Resolved, afterLength}
+use Rattle.promise_rules.specs.Bundles.{BundleOf}
+use Rattle.promise_rules.specs.Resolving.{GoodSample, Resolved, afterLength}
 
 pub record BundleRefused (b : List ℕ) (m p : ℕ) : Type 0 where
   pub refuses : firstLayout .means b ≡ refused m p

@@ -19,7 +19,7 @@ use Rattle.numbers.specs.Sizes.{inBytes}
 use Rattle.numbers.specs.declared.Kind.the-variants.{Avc, Svc}
 use Rattle.bundles.specs.Recordings.{Track, Recording, noTrack}
 use Rattle.bundles.specs.References.{lengthSizeOn}
-use Rattle.promises.specs.Records.{RecordOf}
+use Rattle.promise_rules.specs.Records.{RecordOf}
 
 module _ (b : List ℕ) where
   -- section one: a count of 1 byte; each track has its kind in 1 byte, its record's length in 2, its record

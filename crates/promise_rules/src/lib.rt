@@ -1,0 +1,1 @@
+// No code: what the product promises, and the marked cases of document 01.
