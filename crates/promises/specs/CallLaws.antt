@@ -114,6 +114,9 @@ module _ (b : List ℕ) (g : Bytes b) (r : Recording) (accepted : firstLayout .m
           }),
     )
 
+    pub delivered-one : (us vs : List Span) → Resolved r n us → Resolved r n vs → us ≡ vs
+    delivered-one us vs w v = delivers-only us (w .delivery) ∙ sym (delivers-only vs (v .delivery))
+
     -- where a delivered unit comes from
     comes : {ps : List ℕ} {us : List Span} → Delivery r n ps us → ((p : ℕ) → p ∈ ps → p ∈ units (sampleOf r n)) → (u : Span) → u ∈ us →
         (u .sample ≡ n) ⊎ ((p : ℕ) × (qs : List ℕ) × (p ∈ units (sampleOf r n)) × Extraction r n p (u .sample) qs)

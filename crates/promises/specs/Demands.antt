@@ -184,6 +184,10 @@ module _ (b : List ℕ) (bytes : Bytes b) (r : Recording) (accepted : firstLayou
         ↔ ((us : List Span) × Resolved r n us × (out ≡ each (afterLength r) us) × (length out ≤ room))
     resolved-exactly = callLaws.resolved-exactly b bytes r accepted n some there
 
+    -- these and nothing else
+    pub delivered-one : (us vs : List Span) → Resolved r n us → Resolved r n vs → us ≡ vs
+    delivered-one = callLaws.delivered-one b bytes r accepted n some there
+
     module _ (us : List Span) (delivers : Resolved r n us) where
       -- the call for a unit gives the kth of them, from 1
       pub unit-gives : (k : ℕ) → 0 < k → k ≤ length us → unitCall firstLayout b n k ≡ ok (nth us k noSpan)
@@ -217,6 +221,10 @@ module _ (b : List ℕ) (bytes : Bytes b) (r : Recording) (accepted : firstLayou
       -- every sample, after a blank or bad one too, has its line in its place: it is passed, empty or bad, and the line says so
       pub line-each : (n : ℕ) → 0 < n → n ≤ sampleCount (r .layout) → SampleSays r n out₁
       line-each = auditLaws.line-each b r accepted audited fits bytes
+
+      -- no refusal in its line exactly if the sample is good; so by its length it is empty or passed
+      pub passed-exactly : (n : ℕ) → 0 < n → n ≤ sampleCount (r .layout) → (big out₁ (13 * (n - 1)) 1 ≡ 0) ↔ GoodSample r n
+      passed-exactly = auditLaws.zero-exactly b r accepted audited fits bytes
 
       -- the tally of the same call counts what the lines say, and adds to the sample count
       pub tally-counts : (t : Tally) × (tallyCall firstLayout b (length out) ≡ ok t) × TallyOf r out₁ t
