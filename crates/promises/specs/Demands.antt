@@ -43,8 +43,8 @@ use Rattle.bundles.specs.Readers.{firstLayout}
 use Rattle.resolution_rules.specs.Resolving.{sampleOf, Span, judged}
 use Rattle.resolution_rules.specs.Calls.{noSpan, resolveCall, unitCall, placeCall}
 use Rattle.resolution_rules.proofs.Readers.{firstLayout-sound}
-use Rattle.naming_list_rules.specs.Naming.{Namer, namer, namingList, listBytes, namesCall}
-use Rattle.naming_list_rules.specs.Rules.{Names, Before, timesListed, Unlisted, NamesRefuses, SameAnswer}
+use Rattle.naming_list_rules.specs.Naming.{namer, namingList, listBytes, namesCall}
+use Rattle.naming_list_rules.specs.Rules.{Before, timesListed, Unlisted, NamesRefuses, SameAnswer}
 use Rattle.naming_list_rules.proofs.Promises as naming
 use Rattle.tally.specs.declared.Tally.{Tally}
 use Rattle.audit_rules.specs.Auditing.{auditCall, tallyCall}
@@ -53,7 +53,7 @@ use Rattle.audit_rules.proofs.Promises as auditing
 use Rattle.promises.specs.Records.{RecordOf, WriteRefused, ReadRefused}
 use Rattle.promises.specs.Samples.{Formed}
 use Rattle.promises.specs.Bundles.{BundleOf, Means}
-use Rattle.promises.specs.Resolving.{GoodSample, Resolved, afterLength, StandsAt}
+use Rattle.promises.specs.Resolving.{NamesIt, GoodSample, Resolved, afterLength, StandsAt}
 use Rattle.promises.specs.Audits.{SampleSays, TallyOf}
 use Rattle.promises.specs.Refused.{BundleRefused, ResolveRefused, UnitRefused}
 use Rattle.promises.specs.RecordLaws as recordLaws
@@ -231,28 +231,24 @@ module _ (b : List ℕ) (bytes : Bytes b) (r : Recording) (accepted : firstLayou
       tally-counts = auditLaws.tally-done b r accepted audited fits
 
 -- Demand 3, of sample s of a bundle b that is accepted and means r.
-module _ (b : List ℕ) (r : Recording) (accepted : firstLayout .means b ≡ ok r) where
+module _ (b : List ℕ) (bytes : Bytes b) (r : Recording) (accepted : firstLayout .means b ≡ ok r) where
   module _ (s : ℕ) (some : 0 < s) (there : s ≤ sampleCount (r .layout)) where
     -- with room the naming call answers with the list, 6 bytes an extractor
     pub list-answered :
         (room : ℕ) → length (namingList r s) * 6 ≤ room → namesCall firstLayout b s room ≡ ok (listBytes (namingList r s))
     list-answered = naming.names-answers firstLayout firstLayout-sound b r accepted s some there
 
-    -- exactly the extractors, in well-formed samples, that name s
-    pub listed-exactly : (n p : ℕ) → (namer n p ∈ namingList r s) ↔ Names r s n p
-    listed-exactly = naming.listed-exactly r s
+    -- exactly the extractors, in well-formed samples, that name s: every one, and nothing else
+    pub listed-exactly : (n p : ℕ) → (namer n p ∈ namingList r s) ↔ NamesIt r s n p
+    listed-exactly = callLaws.listed-exactly b bytes r accepted s
 
     -- each once
-    pub listed-once : (n p : ℕ) → Names r s n p → timesListed r s n p ≡ 1
-    listed-once = naming.listed-once r s
+    pub listed-once : (n p : ℕ) → NamesIt r s n p → timesListed r s n p ≡ 1
+    listed-once = callLaws.listed-once b bytes r accepted s
 
     -- in order: by sample, then place
     pub listed-in-order : Rising Before (namingList r s)
     listed-in-order = naming.listed-in-order r s
-
-    -- nothing else
-    pub nothing-else : (e : Namer) → e ∈ namingList r s → Names r s (e .sample) (e .place)
-    nothing-else = naming.listed-only r s
 
     -- nothing is cut: the number and the place of entry i, from 0 on, are read from 2 and 4 bytes at 6 i
     pub list-read-back :
