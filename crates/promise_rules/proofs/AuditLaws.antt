@@ -33,6 +33,7 @@ use Rattle.tally.specs.declared.Tally.{Tally}
 use Rattle.audit_rules.specs.Auditing.{outcomeOf, lineOf, lineBytes, unitsOf, lines, tally, auditCall, tallyCall}
 use Rattle.audit_rules.specs.Rules.{Reads, lineAt, outcomeByLine, SampleLine, LinePerSample, Counts}
 use Rattle.audit_rules.proofs.Lines.{lines-length}
+use Rattle.audit_rules.proofs.Refusals.{number-some}
 use Rattle.audit_rules.proofs.Promises as auditing
 use Rattle.promise_rules.specs.Resolving.{GoodSample, Resolved}
 use Rattle.promise_rules.proofs.CallLaws.{good-exactly, delivers}
@@ -101,6 +102,19 @@ module _ (b : List ℕ) (r : Recording) (accepted : firstLayout .means b ≡ ok 
 
     pub line-each : Bytes b → (n : ℕ) → 0 < n → n ≤ count → SampleSays r n out₁
     line-each g n h l = says g n h l (all-lines .1 .line n h l)
+
+    zero-good : Bytes b → (n : ℕ) → 0 < n → n ≤ count → SampleSays r n out₁ → big out₁ (13 * (n - 1)) 1 ≡ 0 → GoodSample r n
+    zero-good g n h l (SampleSays.passed z us w v) e = w .good
+    zero-good g n h l (SampleSays.empty z v) e = good-exactly b g r accepted n h l .0 (auditing.empty-is-good r n z .0)
+    zero-good g n h l (SampleSays.bad m p broken j k q v) e = let s = number-some r n (k, q) in let f = v .refusal in absurd (omega arith)
+
+    good-zero : (n : ℕ) → SampleSays r n out₁ → GoodSample r n → big out₁ (13 * (n - 1)) 1 ≡ 0
+    good-zero n (SampleSays.passed z us w v) good = v .refusal
+    good-zero n (SampleSays.empty z v) good = v .refusal
+    good-zero n (SampleSays.bad m p broken j k q v) good = absurd (broken good)
+
+    pub zero-exactly : Bytes b → (n : ℕ) → 0 < n → n ≤ count → (big out₁ (13 * (n - 1)) 1 ≡ 0) ↔ GoodSample r n
+    zero-exactly g n h l = (zero-good g n h l (line-each g n h l), good-zero n (line-each g n h l))
 
     outcome-is : (n : ℕ) → n ∈ upto count → outcomeOf r n ≡ pick (big out₁ (13 * (n - 1)) 1 ≡? 0) (pick (length (contentOf r n) ≡? 0) Empty Passed) Refused
     outcome-is n m =

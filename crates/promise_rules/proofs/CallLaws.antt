@@ -14,7 +14,7 @@ use Rattle.words.specs.Lists.{_∈_, each, keep, nth}
 use Rattle.words.specs.Bytes.{Bytes, byteAt, bytes, part}
 use Rattle.words.proofs.Tests.{by-bool, by-number, true-false}
 use Rattle.words.proofs.Refusals.{ok-same, ok-refused}
-use Rattle.words.proofs.Lists.{each-cong, nth-mem, keep-mem}
+use Rattle.words.proofs.Lists.{each-cong, nth-mem, keep-mem, keep-from}
 use Rattle.words.proofs.Joined.{part-byte, part-part}
 use Rattle.units.specs.Units.{Sample, L, size, type, next, isAggregator, isExtractor, topUnits, topBetween}
 use Rattle.units.specs.Extractors.{trackRefIndex, sampleOffset, dataOffset, dataLength}
@@ -23,7 +23,7 @@ use Rattle.bundles.specs.Recordings.{Layout, Recording, sampleCount, contentOf}
 use Rattle.bundles.specs.Readers.{firstLayout}
 use Rattle.links.specs.Order.{TimesRise}
 use Rattle.copies.specs.Copies.{copied}
-use Rattle.resolution_rules.specs.Resolving.{sampleOf, Span, spanOf, own, named, linked, copiedAt, deliveredAt, delivered, judged}
+use Rattle.resolution_rules.specs.Resolving.{sampleOf, Span, spanOf, own, named, linked, nameFaultAt, copiedAt, deliveredAt, delivered, judged}
 use Rattle.resolution_rules.specs.Calls.{BundlePart, spanBytes, written, output, noSpan, resolve, resolveCall, unitCall, placedBy, placeCall}
 use Rattle.resolution_rules.specs.Rules.{Extracts, Good, Plain, Resolves, CallResolves}
 use Rattle.resolution_rules.proofs.Good.{good-rules}
@@ -32,9 +32,13 @@ use Rattle.resolution_rules.proofs.Exactly.{delivered-plain, delivered-there}
 use Rattle.resolution_rules.proofs.Readers.{firstLayout-sound}
 use Rattle.resolution_rules.proofs.Calls as calls
 use Rattle.resolution_rules.proofs.Promises as resolving
+use Rattle.naming_list_rules.specs.Naming.{namer, namingList}
+use Rattle.naming_list_rules.specs.Rules.{Names, timesListed}
+use Rattle.naming_list_rules.proofs.Promises as naming
 use Rattle.promise_rules.specs.Samples.{Formed}
-use Rattle.promise_rules.specs.Resolving.{Extraction, GoodSample, unitIn, Delivery, afterLength, Resolved, StandsAt}
-use Rattle.promise_rules.proofs.ResolveLaws.{extraction-is, good-sample, sample-good}
+use Rattle.promise_rules.proofs.SampleLaws.{formed-rules, rules-formed}
+use Rattle.promise_rules.specs.Resolving.{NamedBy, NamesIt, Extraction, GoodSample, unitIn, Delivery, afterLength, Resolved, StandsAt}
+use Rattle.promise_rules.proofs.ResolveLaws.{names-by, by-names, extraction-is, good-sample, sample-good}
 
 pub part-bytes : (b : List ℕ) (a n : ℕ) → Bytes b → (i : ℕ) → byteAt (part b a n) i < 256
 part-bytes b a n g i = by-bool (i <? n)
@@ -114,6 +118,9 @@ module _ (b : List ℕ) (g : Bytes b) (r : Recording) (accepted : firstLayout .m
           }),
     )
 
+    pub delivered-one : (us vs : List Span) → Resolved r n us → Resolved r n vs → us ≡ vs
+    delivered-one us vs w v = delivers-only us (w .delivery) ∙ sym (delivers-only vs (v .delivery))
+
     -- where a delivered unit comes from
     comes : {ps : List ℕ} {us : List Span} → Delivery r n ps us → ((p : ℕ) → p ∈ ps → p ∈ units (sampleOf r n)) → (u : Span) → u ∈ us →
         (u .sample ≡ n) ⊎ ((p : ℕ) × (qs : List ℕ) × (p ∈ units (sampleOf r n)) × Extraction r n p (u .sample) qs)
@@ -174,3 +181,40 @@ module _ (b : List ℕ) (g : Bytes b) (r : Recording) (accepted : firstLayout .m
           (resolving.covered-once r n good (resolving.never-itself firstLayout firstLayout-sound b r accepted n good) p m (eq-eqb _ _ t) q
           (keep-mem _ (topUnits (sampleOf r n)) k (rw (le-leb (next (sampleOf r n) p) q a, lt-ltb q (next (sampleOf r n) p + additionalBytes (sampleOf r n) p) z)))
           (ne-eqb _ _ e))
+
+-- the naming list
+module _ (b : List ℕ) (g : Bytes b) (r : Recording) (accepted : firstLayout .means b ≡ ok r) (s n p : ℕ) where
+  names-it : Names r s n p → NamesIt r s n p
+  unfolding named nameFaultAt extractors
+  names-it w =
+      let k = keep-from (isExtractor (sampleOf r n)) (units (sampleOf r n)) (w .extractor) in
+      record {
+        some = w .some;
+        there = w .there;
+        formed = formed-rules (sampleOf r n) (w .formed);
+        unit = k .0;
+        extractor = eqb-true _ _ (k .1);
+        names = subst (NamedBy (r .layout) n (trackRefIndex (sampleOf r n) p) (sampleOffset (sampleOf r n) p)) (w .names)
+            (names-by (r .layout) (rise b g r accepted) n (trackRefIndex (sampleOf r n) p) (sampleOffset (sampleOf r n) p)
+            (offset-byte b g r accepted n (w .some) (w .there) p) (w .names-some));
+      }
+
+  it-names : NamesIt r s n p → Names r s n p
+  unfolding named nameFaultAt extractors
+  it-names w =
+      let k = by-names (r .layout) (rise b g r accepted) n (trackRefIndex (sampleOf r n) p) (sampleOffset (sampleOf r n) p)
+      (offset-byte b g r accepted n (w .some) (w .there) p) s (w .names) in
+      record {
+        some = w .some;
+        there = w .there;
+        formed = rules-formed (sampleOf r n) (w .formed);
+        extractor = keep-mem (isExtractor (sampleOf r n)) (units (sampleOf r n)) (w .unit) (eq-eqb _ _ (w .extractor));
+        names-some = k .0;
+        names = k .1;
+      }
+
+  pub listed-exactly : (namer n p ∈ namingList r s) ↔ NamesIt r s n p
+  listed-exactly = let e = naming.listed-exactly r s n p in (λ m. names-it (e .0 m), λ w. e .1 (it-names w))
+
+  pub listed-once : NamesIt r s n p → timesListed r s n p ≡ 1
+  listed-once w = naming.listed-once r s n p (it-names w)

@@ -9,6 +9,7 @@
 --   CopyOf z o n qs          none of 25 to 28, and the copy is the units qs
 --   Extraction r n p m qs    none of 23 to 28: the extractor names sample m, and stands for its units qs
 --   GoodSample r n           none of 14 to 28
+--   NamesIt r s n p          the extractor at p of sample n, which is well formed, names sample s
 use Prim.Native.Nat.{ℕ, _+_, _≤_, _<_}
 use mathlib.Core.Path.{_≡_}
 use mathlib.Core.Bool.{not, _&&_}
@@ -119,3 +120,12 @@ pub record StandsAt (b : List ℕ) (r : Recording) (n : ℕ) (u : Span) (start s
   pub bytes : part b start size ≡ part (contentOf r (u .sample)) (u .start) (u .size)
   pub from :
       (u .sample ≡ n) ⊎ ((p : ℕ) × (qs : List ℕ) × (p ∈ units (sampleOf r n)) × Extraction r n p (u .sample) qs)
+
+-- the extractor at p of sample n, top-level or included, names sample s: whatever 25 to 28 say of it
+pub record NamesIt (r : Recording) (s n p : ℕ) : Type 0 where
+  pub some : 0 < n
+  pub there : n ≤ sampleCount (r .layout)
+  pub formed : Formed (sampleOf r n)
+  pub unit : p ∈ units (sampleOf r n)
+  pub extractor : type (sampleOf r n) p ≡ 31
+  pub names : NamedBy (r .layout) n (trackRefIndex (sampleOf r n) p) (sampleOffset (sampleOf r n) p) s

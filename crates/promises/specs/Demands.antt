@@ -43,8 +43,8 @@ use Rattle.bundles.specs.Readers.{firstLayout}
 use Rattle.resolution_rules.specs.Resolving.{sampleOf, Span, judged}
 use Rattle.resolution_rules.specs.Calls.{noSpan, resolveCall, unitCall, placeCall}
 use Rattle.resolution_rules.proofs.Readers.{firstLayout-sound}
-use Rattle.naming_list_rules.specs.Naming.{Namer, namer, namingList, listBytes, namesCall}
-use Rattle.naming_list_rules.specs.Rules.{Names, Before, timesListed, Unlisted, NamesRefuses, SameAnswer}
+use Rattle.naming_list_rules.specs.Naming.{namer, namingList, listBytes, namesCall}
+use Rattle.naming_list_rules.specs.Rules.{Before, timesListed, Unlisted, NamesRefuses, SameAnswer}
 use Rattle.naming_list_rules.proofs.Promises as naming
 use Rattle.tally.specs.declared.Tally.{Tally}
 use Rattle.audit_rules.specs.Auditing.{auditCall, tallyCall}
@@ -53,7 +53,7 @@ use Rattle.audit_rules.proofs.Promises as auditing
 use Rattle.promise_rules.specs.Records.{RecordOf, WriteRefused, ReadRefused}
 use Rattle.promise_rules.specs.Samples.{Formed}
 use Rattle.promise_rules.specs.Bundles.{BundleOf, Means}
-use Rattle.promise_rules.specs.Resolving.{GoodSample, Resolved, afterLength, StandsAt}
+use Rattle.promise_rules.specs.Resolving.{NamesIt, GoodSample, Resolved, afterLength, StandsAt}
 use Rattle.promise_rules.specs.Audits.{SampleSays, TallyOf}
 use Rattle.promise_rules.specs.Refused.{BundleRefused, ResolveRefused, UnitRefused}
 use Rattle.promise_rules.proofs.RecordLaws as recordLaws
@@ -184,6 +184,10 @@ module _ (b : List ℕ) (bytes : Bytes b) (r : Recording) (accepted : firstLayou
         ↔ ((us : List Span) × Resolved r n us × (out ≡ each (afterLength r) us) × (length out ≤ room))
     resolved-exactly = callLaws.resolved-exactly b bytes r accepted n some there
 
+    -- these and nothing else
+    pub delivered-one : (us vs : List Span) → Resolved r n us → Resolved r n vs → us ≡ vs
+    delivered-one = callLaws.delivered-one b bytes r accepted n some there
+
     module _ (us : List Span) (delivers : Resolved r n us) where
       -- the call for a unit gives the kth of them, from 1
       pub unit-gives : (k : ℕ) → 0 < k → k ≤ length us → unitCall firstLayout b n k ≡ ok (nth us k noSpan)
@@ -218,33 +222,33 @@ module _ (b : List ℕ) (bytes : Bytes b) (r : Recording) (accepted : firstLayou
       pub line-each : (n : ℕ) → 0 < n → n ≤ sampleCount (r .layout) → SampleSays r n out₁
       line-each = auditLaws.line-each b r accepted audited fits bytes
 
+      -- no refusal in its line exactly if the sample is good; so by its length it is empty or passed
+      pub passed-exactly : (n : ℕ) → 0 < n → n ≤ sampleCount (r .layout) → (big out₁ (13 * (n - 1)) 1 ≡ 0) ↔ GoodSample r n
+      passed-exactly = auditLaws.zero-exactly b r accepted audited fits bytes
+
       -- the tally of the same call counts what the lines say, and adds to the sample count
       pub tally-counts : (t : Tally) × (tallyCall firstLayout b (length out) ≡ ok t) × TallyOf r out₁ t
       tally-counts = auditLaws.tally-done b r accepted audited fits
 
 -- Demand 3, of sample s of a bundle b that is accepted and means r.
-module _ (b : List ℕ) (r : Recording) (accepted : firstLayout .means b ≡ ok r) where
+module _ (b : List ℕ) (bytes : Bytes b) (r : Recording) (accepted : firstLayout .means b ≡ ok r) where
   module _ (s : ℕ) (some : 0 < s) (there : s ≤ sampleCount (r .layout)) where
     -- with room the naming call answers with the list, 6 bytes an extractor
     pub list-answered :
         (room : ℕ) → length (namingList r s) * 6 ≤ room → namesCall firstLayout b s room ≡ ok (listBytes (namingList r s))
     list-answered = naming.names-answers firstLayout firstLayout-sound b r accepted s some there
 
-    -- exactly the extractors, in well-formed samples, that name s
-    pub listed-exactly : (n p : ℕ) → (namer n p ∈ namingList r s) ↔ Names r s n p
-    listed-exactly = naming.listed-exactly r s
+    -- exactly the extractors, in well-formed samples, that name s: every one, and nothing else
+    pub listed-exactly : (n p : ℕ) → (namer n p ∈ namingList r s) ↔ NamesIt r s n p
+    listed-exactly = callLaws.listed-exactly b bytes r accepted s
 
     -- each once
-    pub listed-once : (n p : ℕ) → Names r s n p → timesListed r s n p ≡ 1
-    listed-once = naming.listed-once r s
+    pub listed-once : (n p : ℕ) → NamesIt r s n p → timesListed r s n p ≡ 1
+    listed-once = callLaws.listed-once b bytes r accepted s
 
     -- in order: by sample, then place
     pub listed-in-order : Rising Before (namingList r s)
     listed-in-order = naming.listed-in-order r s
-
-    -- nothing else
-    pub nothing-else : (e : Namer) → e ∈ namingList r s → Names r s (e .sample) (e .place)
-    nothing-else = naming.listed-only r s
 
     -- nothing is cut: the number and the place of entry i, from 0 on, are read from 2 and 4 bytes at 6 i
     pub list-read-back :
