@@ -6,3 +6,4 @@ pub mod ResolveLaws
 pub mod CallLaws
 pub mod AuditLaws
 pub mod RefusedLaws
+pub mod OtherLaws

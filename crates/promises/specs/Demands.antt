@@ -26,7 +26,6 @@ use Rattle.words.specs.Lists.{_∈_, keep, nth, each}
 use Rattle.words.specs.Bytes.{Bytes, big, splice}
 use Rattle.words.specs.Buffers.{Wrote}
 use Rattle.words.proofs.Buffers as buffers
-use Rattle.words.proofs.Lists.{Rising}
 use Rattle.record_rules.specs.Read.{readRecord}
 use Rattle.record_rules.specs.declared.Fields.{Fields}
 use Rattle.record_writer.specs.Write.{writeRecord}
@@ -44,7 +43,7 @@ use Rattle.resolution_rules.specs.Resolving.{sampleOf, Span, judged}
 use Rattle.resolution_rules.specs.Calls.{noSpan, resolveCall, unitCall, placeCall}
 use Rattle.resolution_rules.proofs.Readers.{firstLayout-sound}
 use Rattle.naming_list_rules.specs.Naming.{namer, namingList, listBytes, namesCall}
-use Rattle.naming_list_rules.specs.Rules.{Before, timesListed, Unlisted, NamesRefuses, SameAnswer}
+use Rattle.naming_list_rules.specs.Rules.{timesListed, Unlisted, NamesRefuses, SameAnswer}
 use Rattle.naming_list_rules.proofs.Promises as naming
 use Rattle.tally.specs.declared.Tally.{Tally}
 use Rattle.audit_rules.specs.Auditing.{auditCall, tallyCall}
@@ -62,6 +61,7 @@ use Rattle.promise_rules.proofs.BundleLaws as bundleLaws
 use Rattle.promise_rules.proofs.CallLaws as callLaws
 use Rattle.promise_rules.proofs.AuditLaws as auditLaws
 use Rattle.promise_rules.proofs.RefusedLaws as refusedLaws
+use Rattle.promise_rules.proofs.OtherLaws as otherLaws
 
 -- Demand 1.
 -- That every entry takes any bytes and ends is what `rt check` proves of the code: no public function requires anything. Its
@@ -246,9 +246,13 @@ module _ (b : List ℕ) (bytes : Bytes b) (r : Recording) (accepted : firstLayou
     pub listed-once : (n p : ℕ) → NamesIt r s n p → timesListed r s n p ≡ 1
     listed-once = callLaws.listed-once b bytes r accepted s
 
-    -- in order: by sample, then place
-    pub listed-in-order : Rising Before (namingList r s)
-    listed-in-order = naming.listed-in-order r s
+    -- in order: entry i, from 0 on, stands before every later one, j, by sample, then place
+    pub listed-in-order :
+        (i j : ℕ) → i < j → j < length (namingList r s) →
+        (getD (namingList r s) i (namer 0 0) .sample < getD (namingList r s) j (namer 0 0) .sample)
+        ⊎ ((getD (namingList r s) i (namer 0 0) .sample ≡ getD (namingList r s) j (namer 0 0) .sample)
+        × (getD (namingList r s) i (namer 0 0) .place < getD (namingList r s) j (namer 0 0) .place))
+    listed-in-order = callLaws.listed-in-order r s
 
     -- nothing is cut: the number and the place of entry i, from 0 on, are read from 2 and 4 bytes at 6 i
     pub list-read-back :
@@ -288,6 +292,10 @@ module _ (b : List ℕ) (bytes : Bytes b) (r : Recording) (accepted : firstLayou
         -- the call for one of its units
         pub others-unit : (k : ℕ) → unitCall firstLayout after n k ≡ unitCall firstLayout b n k
         others-unit = auditLaws.others-unit b r accepted s some there new equal-length n other unlisted-before
+
+        -- the call for where one of them stands: at the same place
+        pub others-place : (k : ℕ) → placeCall firstLayout after n k ≡ placeCall firstLayout b n k
+        others-place = otherLaws.others-place b r accepted s some there new equal-length n other unlisted-before
 
         -- its line in two audits with room: every number in it
         pub others-line :
