@@ -47,11 +47,11 @@ part-bytes b a n g i = by-bool (i <? n)
     (λ t. let l : n ≤ i = ltb-false _ _ t in let h : length (part b a n) ≤ i = simp (length-take) (omega arith) in rw (List·getD-eq-default (part b a n) 0 {n = i} h) (omega arith))
 
 module _ (b : List ℕ) (g : Bytes b) (r : Recording) (accepted : firstLayout .means b ≡ ok r) where
-  rise : TimesRise (r .layout)
+  pub rise : TimesRise (r .layout)
   rise = firstLayout-sound .rise b r accepted
 
   module _ (n : ℕ) (some : 0 < n) (there : n ≤ sampleCount (r .layout)) where
-    offset-byte : (p : ℕ) → sampleOffset (sampleOf r n) p < 256
+    pub offset-byte : (p : ℕ) → sampleOffset (sampleOf r n) p < 256
     unfolding sampleOf
     offset-byte p = rw (firstLayout-sound .placed b r n accepted some there) (part-bytes b (firstLayout .contentAt b n) (length (contentOf r n)) g (p + L (sampleOf r n) + 4 + 1))
 
