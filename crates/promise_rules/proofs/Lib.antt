@@ -6,4 +6,5 @@ pub mod ResolveLaws
 pub mod CallLaws
 pub mod AuditLaws
 pub mod RefusedLaws
+pub mod CheckLaws
 pub mod OtherLaws

@@ -2,6 +2,7 @@
 --
 --   BundleRefused b m p           the bundle: 1 to 13, at a place in it or at its end
 --   FormRefused x m p             a sample that is not well formed: 14 to 22, at the length field of a unit
+--   CheckRefused kind l s m p     a sample checked outside a bundle: the kind, L, the sample
 --   ExtractorRefused r n m p      sample n, well formed: 23 to 28, at its first extractor that is refused
 --   SampleRefused r n m p         sample n: one or the other
 --   ResolveRefused b n room m p   resolving: the bundle, the sample's number, the sample, the room
@@ -23,7 +24,7 @@ use Rattle.bundles.specs.Recordings.{Recording, sampleCount, contentOf}
 use Rattle.bundles.specs.Readers.{firstLayout}
 use Rattle.resolution_rules.specs.Resolving.{sampleOf, Span, judged}
 use Rattle.naming_list_rules.specs.Naming.{namingList}
-use Rattle.promise_rules.specs.Samples.{Formed}
+use Rattle.promise_rules.specs.Samples.{Formed, Given}
 use Rattle.promise_rules.specs.Bundles.{BundleOf}
 use Rattle.promise_rules.specs.Resolving.{Extraction, GoodSample, Resolved, afterLength}
 
@@ -40,6 +41,11 @@ pub record FormRefused (x : Sample) (m p : ℕ) : Type 0 where
   pub number : m ∈ (14 ∷ 15 ∷ 16 ∷ 17 ∷ 18 ∷ 19 ∷ 20 ∷ 21 ∷ 22 ∷ [])
   pub unit : p ∈ units x
   pub place : p < length (x .content)
+
+pub data CheckRefused (kind l : ℕ) (s : List ℕ) : ℕ → ℕ → Type 0 where
+  kind : (kind ≡ 0 → ⊥) → (kind ≡ 1 → ⊥) → CheckRefused kind l s 4 0
+  size : (kind ≡ 0) ⊎ (kind ≡ 1) → (l ∈ (1 ∷ 2 ∷ 4 ∷ []) → ⊥) → CheckRefused kind l s 11 0
+  form : {m p : ℕ} (x : Sample) → Given kind l s x → FormRefused x m p → CheckRefused kind l s m p
 
 -- every extractor before it names a sample and copies units of it, by the rules
 pub record ExtractorRefused (r : Recording) (n m p : ℕ) : Type 0 where

@@ -34,8 +34,6 @@ use Rattle.record_writer.proofs.Promise as records
 use Rattle.units.specs.Units.{Sample, L, type, next, topUnits}
 use Rattle.units.specs.Aggregators.{additionalBytes}
 use Rattle.samples.specs.Check.{check, checkAlone}
-use Rattle.samples.specs.Rules.{AloneRefusal}
-use Rattle.samples.proofs.Laws as samples
 use Rattle.bundles.specs.Recordings.{Recording, sampleCount, contentOf, replaced}
 use Rattle.bundles.specs.Bundles.{bundleVerdict}
 use Rattle.bundles.specs.Readers.{firstLayout}
@@ -43,24 +41,23 @@ use Rattle.resolution_rules.specs.Resolving.{sampleOf, Span, judged}
 use Rattle.resolution_rules.specs.Calls.{noSpan, resolveCall, unitCall, placeCall}
 use Rattle.resolution_rules.proofs.Readers.{firstLayout-sound}
 use Rattle.naming_list_rules.specs.Naming.{namer, namingList, listBytes, namesCall}
-use Rattle.naming_list_rules.specs.Rules.{timesListed, Unlisted, NamesRefuses, SameAnswer}
+use Rattle.naming_list_rules.specs.Rules.{timesListed, Unlisted, SameAnswer}
 use Rattle.naming_list_rules.proofs.Promises as naming
 use Rattle.tally.specs.declared.Tally.{Tally}
 use Rattle.audit_rules.specs.Auditing.{auditCall, tallyCall}
-use Rattle.audit_rules.specs.Rules.{AuditRefuses}
-use Rattle.audit_rules.proofs.Promises as auditing
 use Rattle.promise_rules.specs.Records.{RecordOf, WriteRefused, ReadRefused}
-use Rattle.promise_rules.specs.Samples.{Formed}
+use Rattle.promise_rules.specs.Samples.{Formed, Given}
 use Rattle.promise_rules.specs.Bundles.{BundleOf, Means}
 use Rattle.promise_rules.specs.Resolving.{NamesIt, GoodSample, Resolved, afterLength, StandsAt}
 use Rattle.promise_rules.specs.Audits.{SampleSays, TallyOf}
-use Rattle.promise_rules.specs.Refused.{BundleRefused, ResolveRefused, UnitRefused}
+use Rattle.promise_rules.specs.Refused.{BundleRefused, CheckRefused, ResolveRefused, UnitRefused, NamesRefused, AuditRefused}
 use Rattle.promise_rules.proofs.RecordLaws as recordLaws
 use Rattle.promise_rules.proofs.SampleLaws as sampleLaws
 use Rattle.promise_rules.proofs.BundleLaws as bundleLaws
 use Rattle.promise_rules.proofs.CallLaws as callLaws
 use Rattle.promise_rules.proofs.AuditLaws as auditLaws
 use Rattle.promise_rules.proofs.RefusedLaws as refusedLaws
+use Rattle.promise_rules.proofs.CheckLaws as checkLaws
 use Rattle.promise_rules.proofs.OtherLaws as otherLaws
 
 -- Demand 1.
@@ -86,39 +83,43 @@ pub write-refused :
     ↔ WriteRefused kind f sequences pictures extensions room n p
 write-refused = recordLaws.write-refused-exactly
 
--- samples checked: 4 or 11 at 0, or 14 to 22 at a place in the sample
-pub check-refused : (kind l : ℕ) (s : List ℕ) (n p : ℕ) → checkAlone kind l s ≡ refused n p → AloneRefusal s n p
-check-refused = samples.alone-refusals
+-- samples checked: 4 or 11 at 0, or 14 to 22 at the length field of a unit, exactly if ..
+pub check-refused :
+    (kind l : ℕ) (s : List ℕ) (n p : ℕ) → (checkAlone kind l s ≡ refused n p) ↔ CheckRefused kind l s n p
+check-refused = checkLaws.check-refused
 
 -- bundles checked: 1 to 13 at a place in the bundle or at its end
 pub bundle-refused : (b : List ℕ) → Bytes b → {m p : ℕ} → firstLayout .means b ≡ refused m p → BundleRefused b m p
 bundle-refused = refusedLaws.bundle-refused
 
--- samples resolved: 1 to 13 of the bundle, 30 at 0, 14 to 28 at a place in the sample, 29 at 0
+-- samples resolved: 1 to 13 of the bundle; 30 at 0; 14 to 22 at a unit of the sample, 23 to 28 at an extractor; 29 at 0
 pub resolve-refused :
-    (b : List ℕ) → Bytes b → (n room m p : ℕ) → resolveCall firstLayout b n room ≡ refused m p → ResolveRefused b n room m p
+    (b : List ℕ) → Bytes b → (n room m p : ℕ) →
+    (resolveCall firstLayout b n room ≡ refused m p) ↔ ResolveRefused b n room m p
 resolve-refused = refusedLaws.resolve-refused
 
 -- one delivered unit, and where in the bundle it stands: the same, but 30 for the unit's number and no 29
-pub unit-refused : (b : List ℕ) → Bytes b → (n k m p : ℕ) → unitCall firstLayout b n k ≡ refused m p → UnitRefused b n k m p
+pub unit-refused :
+    (b : List ℕ) → Bytes b → (n k m p : ℕ) → (unitCall firstLayout b n k ≡ refused m p) ↔ UnitRefused b n k m p
 unit-refused = refusedLaws.unit-refused
 
-pub place-refused : (b : List ℕ) → Bytes b → (n k m p : ℕ) → placeCall firstLayout b n k ≡ refused m p → UnitRefused b n k m p
+pub place-refused :
+    (b : List ℕ) → Bytes b → (n k m p : ℕ) → (placeCall firstLayout b n k ≡ refused m p) ↔ UnitRefused b n k m p
 place-refused = refusedLaws.place-refused
 
--- the naming list: 1 to 13 of the bundle, 30 at 0, 29 at 0, exactly if ..
+-- the naming list: 1 to 13 of the bundle, 30 at 0, 29 at 0
 pub names-refused :
-    (b : List ℕ) (s room m p : ℕ) → (namesCall firstLayout b s room ≡ refused m p) ↔ NamesRefuses firstLayout b s room m p
-names-refused = naming.names-refused-exactly firstLayout
+    (b : List ℕ) → Bytes b → (s room m p : ℕ) → (namesCall firstLayout b s room ≡ refused m p) ↔ NamesRefused b s room m p
+names-refused = refusedLaws.names-refused
 
--- the audit: 1 to 13 of the bundle, or 29 at 0, exactly if ..; for the lines and the tally alike
+-- the audit: 1 to 13 of the bundle, or 29 at 0; for the lines and the tally alike
 pub audit-refused :
-    (b : List ℕ) (room m p : ℕ) → (auditCall firstLayout b room ≡ refused m p) ↔ AuditRefuses firstLayout b room m p
-audit-refused = auditing.audit-refused-exactly firstLayout
+    (b : List ℕ) → Bytes b → (room m p : ℕ) → (auditCall firstLayout b room ≡ refused m p) ↔ AuditRefused b room m p
+audit-refused = refusedLaws.audit-refused
 
 pub tally-refused :
-    (b : List ℕ) (room m p : ℕ) → (auditCall firstLayout b room ≡ refused m p) ↔ (tallyCall firstLayout b room ≡ refused m p)
-tally-refused = auditing.refused-alike firstLayout
+    (b : List ℕ) → Bytes b → (room m p : ℕ) → (tallyCall firstLayout b room ≡ refused m p) ↔ AuditRefused b room m p
+tally-refused = refusedLaws.tally-refused
 
 -- after a refusal: `write`, `resolve`, `names` and `audit` promise `Wrote`
 pub refusal-leaves :
@@ -157,6 +158,10 @@ reads-back = records.reads-back
 -- Samples: well formed exactly if every unit's rules hold
 pub formed-exactly : (x : Sample) → (check x ≡ ok tt) ↔ Formed x
 formed-exactly = sampleLaws.formed-exactly
+
+pub check-exactly :
+    (kind l : ℕ) (s : List ℕ) → (checkAlone kind l s ≡ ok tt) ↔ ((x : Sample) × Given kind l s x × Formed x)
+check-exactly = checkLaws.check-exactly
 
 -- Bundles: accepted exactly if the rules of the four sections hold; and then the recording is what the sections say
 pub bundle-exactly : (b : List ℕ) → Bytes b → (bundleVerdict b ≡ ok tt) ↔ BundleOf b
