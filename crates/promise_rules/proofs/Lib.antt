@@ -1,6 +1,7 @@
 -- The proofs that crates/promises/specs/Demands cites, by what they are about.
 pub mod RecordLaws
 pub mod SampleLaws
+pub mod UnitLaws
 pub mod BundleLaws
 pub mod ResolveLaws
 pub mod CallLaws

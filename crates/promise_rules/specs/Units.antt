@@ -1,0 +1,67 @@
+-- What the words for units mean, in bytes and numbers (01, 'Units in a sample', 'The bundle'). A byte past the end reads as 0.
+--
+--   FieldsAt x p     the fields of the unit at p of sample x
+--   Laid x a e ps    the units ps lie without gap or overlap from a to e
+--   UnitsOf x        the units of a well-formed sample: all of it, in order
+--   SampleMeans r n  sample n: the kind and L of its track, and its bytes
+use Prim.Native.Nat.{ℕ, _+_, _*_, _%_, _<_, _≤_}
+use mathlib.Core.Path.{_≡_}
+use mathlib.Core.List.{List, [], _∷_}
+use mathlib.Core.Logic.{_⊎_, _↔_}
+use lib.ListN.{length, getD}
+use Rattle.words.specs.Lists.{_∈_, nth}
+use Rattle.words.specs.Bytes.{byteAt, big}
+use Rattle.numbers.specs.Sizes.{inBytes}
+use Rattle.numbers.specs.declared.LengthSize.the-variants.{One, Two, Four}
+use Rattle.units.specs.Units.{Sample, L, size, firstByte, type, next, topUnits}
+use Rattle.units.specs.Extractors.{trackRefIndex, sampleOffset, dataOffset, dataLength}
+use Rattle.units.specs.Aggregators.{includedStart, included, additionalBytes, units}
+use Rattle.bundles.specs.Recordings.{Recording, noTrack, noEntry, trackOf, timeOf, contentOf}
+use Rattle.resolution_rules.specs.Resolving.{sampleOf}
+
+module _ (x : Sample) where
+  pub record FieldsAt (p : ℕ) : Type 0 where
+    -- L is 1, 2 or 4; a unit is its length in L bytes, then so many bytes; its type is the low five bits of the first
+    pub one : x .lengthSize ≡ One → L x ≡ 1
+    pub two : x .lengthSize ≡ Two → L x ≡ 2
+    pub four : x .lengthSize ≡ Four → L x ≡ 4
+    pub its-size : size x p ≡ big (x .content) p (L x)
+    pub first : firstByte x p ≡ byteAt (x .content) (p + L x)
+    pub its-type : type x p ≡ byteAt (x .content) (p + L x) % 32
+    pub after : next x p ≡ p + L x + size x p
+    -- an aggregator: after a header of 4 bytes additional_bytes in L bytes, then the included units
+    pub additional : additionalBytes x p ≡ big (x .content) (p + L x + 4) (L x)
+    pub inner : includedStart x p ≡ p + L x + 4 + L x
+    -- an extractor: after the header track_ref_index and sample_offset in a byte each, data_offset and data_length in L
+    pub index : trackRefIndex x p ≡ byteAt (x .content) (p + L x + 4)
+    pub samples : sampleOffset x p ≡ byteAt (x .content) (p + L x + 5)
+    pub offset : dataOffset x p ≡ big (x .content) (p + L x + 6) (L x)
+    pub amount : dataLength x p ≡ big (x .content) (p + L x + 6 + L x) (L x)
+
+  -- each starts where the one before ends, the first at a, and the last ends at e
+  pub data Laid : ℕ → ℕ → List ℕ → Type 0 where
+    none : {e : ℕ} → Laid e e []
+    unit :
+        {p e : ℕ} {ps : List ℕ} → p + L x + big (x .content) p (L x) ≤ e → Laid (p + L x + big (x .content) p (L x)) e ps →
+        Laid p e (p ∷ ps)
+
+  pub record UnitsOf : Type 0 where
+    -- the top-level units are the whole sample; the included ones are all of their aggregator, after its additional_bytes
+    pub whole : Laid 0 (length (x .content)) (topUnits x)
+    pub filled :
+        (p : ℕ) → p ∈ topUnits x → type x p ≡ 30 → Laid (p + 2 * L x + 4) (p + L x + big (x .content) p (L x)) (included x p)
+    -- all units: these and those, and no others, by place
+    pub all :
+        (q : ℕ) →
+        (q ∈ units x) ↔ ((q ∈ topUnits x) ⊎ ((p : ℕ) × (p ∈ topUnits x) × (type x p ≡ 30) × (q ∈ included x p)))
+    pub rise : (i j : ℕ) → i < j → j < length (units x) → getD (units x) i 0 < getD (units x) j 0
+
+-- the track that its entry names, that track's kind and L, and its decode time; tracks and samples are numbered from 1
+pub record SampleMeans (r : Recording) (n : ℕ) : Type 0 where
+  pub track : trackOf (r .layout) n ≡ nth (r .layout .entries) n noEntry .track
+  pub time : timeOf (r .layout) n ≡ nth (r .layout .entries) n noEntry .time
+  pub its-kind : sampleOf r n .kind ≡ nth (r .layout .tracks) (nth (r .layout .entries) n noEntry .track) noTrack .kind
+  pub its-size :
+      L (sampleOf r n) ≡ inBytes (nth (r .layout .tracks) (nth (r .layout .entries) n noEntry .track) noTrack .lengthSize)
+  pub its-bytes : sampleOf r n .content ≡ nth (r .contents) n []
+  pub bytes : contentOf r n ≡ nth (r .contents) n []
