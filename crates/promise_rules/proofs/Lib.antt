@@ -1,10 +1,10 @@
 -- The proofs that crates/promises/specs/Demands cites, by what they are about.
 pub mod RecordLaws
 pub mod SampleLaws
-pub mod UnitLaws
 pub mod BundleLaws
 pub mod ResolveLaws
 pub mod CallLaws
+pub mod UnitLaws
 pub mod AuditLaws
 pub mod RefusedLaws
 pub mod CheckLaws

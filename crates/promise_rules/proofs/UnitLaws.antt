@@ -1,25 +1,36 @@
 -- The proofs of what Demands says of units: their fields, where they lie, where they stand in a bundle. Assumes nothing.
 use Prim.Native.Nat.{ℕ, zero, suc, _+_, _-_, _*_, _≤_, _<_}
 use mathlib.Core.Path.{_≡_, refl, ap, sym, _∙_, subst}
-use mathlib.Core.List.{List, [], _∷_}
+use mathlib.Core.List.{List, [], _∷_, _++_, map}
 use mathlib.Core.Logic.{_⊎_, inl, inr, ⊎-elim, _↔_}
 use native.Mathlib.Omega.{arith}
 use borrow.Author.Tests.{eqb-true, eq-eqb}
-use lib.ListN.{length, getD}
-use Rattle.words.specs.Lists.{_∈_}
-use Rattle.words.specs.Bytes.{byteAt, big}
+use lib.ListN.{length, getD, take, length-map}
+use lib.Seq.{take-append-seam}
+use Rattle.words.specs.Refusals.{Answer, refused, ok}
+use Rattle.words.specs.Lists.{_∈_, nth, upto, sum}
+use Rattle.words.specs.Bytes.{Bytes, byteAt, big, part}
 use Rattle.words.proofs.Lists.{Rising}
-use Rattle.words.proofs.Rows.{getD-mem}
+use Rattle.words.proofs.Rows.{getD-mem, upto-length, upto-split, nth-upto}
+use Rattle.words.proofs.Entries.{map-append}
 use Rattle.units.specs.Units.{Sample, L, size, type, next, end, topUnits}
 use Rattle.units.specs.Aggregators.{included, units}
 use Rattle.units.specs.Rules.{Tiles}
 use Rattle.units.proofs.Walks.{units-top, units-included, units-from, units-rise}
 use Rattle.samples.proofs.Laws.{top-tile, check-top, included-tile}
-use Rattle.bundles.specs.Recordings.{Recording}
+use Rattle.bundles.specs.Recordings.{Recording, Entry, noTrack, noEntry, sampleCount, trackOf, contentOf}
+use Rattle.bundles.specs.Readers.{firstLayout}
+use Rattle.bundles.specs.Tracks.{referencesAt}
+use Rattle.bundles.specs.References.{samplesAt}
+use Rattle.bundles.specs.Samples.{lengths, byteCountAt}
+use Rattle.bundles.specs.Bundles.{contentAt}
+use Rattle.bundles.proofs.Promises.{samples-tile, samples-all}
 use Rattle.resolution_rules.specs.Resolving.{sampleOf}
 use Rattle.promise_rules.specs.Samples.{Formed}
-use Rattle.promise_rules.specs.Units.{FieldsAt, Laid, UnitsOf, SampleMeans}
+use Rattle.promise_rules.specs.Bundles.{three, four, entry, trackPlaces, BundleOf, TrackMeans, Means}
+use Rattle.promise_rules.specs.Units.{FieldsAt, Laid, UnitsOf, sampleStart, SampleMeans}
 use Rattle.promise_rules.proofs.SampleLaws.{rules-formed}
+use Rattle.promise_rules.proofs.BundleLaws.{means-exactly}
 
 module _ (x : Sample) where
   pub fields-at : (p : ℕ) → FieldsAt x p
@@ -73,6 +84,71 @@ module _ (x : Sample) where
         rise = rising-at (units x) (units-rise x);
       }
 
-pub sample-means : (r : Recording) (n : ℕ) → SampleMeans r n
-unfolding sampleOf
-sample-means r n = record { track = refl; time = refl; its-kind = refl; its-size = refl; its-bytes = refl; bytes = refl }
+-- the first numbers of 1, 2, .. n
+first-of : (f : ℕ → ℕ) (i n : ℕ) → i < n → take i (map f (upto n)) ≡ map f (upto i)
+first-of f i n h =
+    let s = upto-split i n h in
+    let l : length (map f (upto i)) ≡ i = length-map (upto i) f ∙ upto-length i in
+    ap (λ ns. take i (map f ns)) (s .is)
+    ∙ ap (take i) (map-append f (upto i) ((i + 1) ∷ s .rest))
+    ∙ ap (λ (k : ℕ). take k (map f (upto i) ++ map f ((i + 1) ∷ s .rest))) (sym l)
+    ∙ take-append-seam (map f (upto i)) (map f ((i + 1) ∷ s .rest))
+
+module _ (b : List ℕ) (g : Bytes b) (r : Recording) (accepted : firstLayout .means b ≡ ok r) where
+  abbrev all : ℕ
+  all = big b (three b) 2
+
+  abbrev lengthOf : ℕ → ℕ
+  lengthOf m = big b (entry b m + 9) 4
+
+  abbrev entryOf : ℕ → Entry
+  entryOf m = record { track = big b (entry b m) 1; time = big b (entry b m + 1) 8 }
+
+  says : BundleOf b × Means b r
+  says = means-exactly b g r accepted
+
+  count-is : sampleCount (r .layout) ≡ all
+  count-is = ap length (says .1 .entries) ∙ length-map (upto all) entryOf ∙ upto-length all
+
+  content-part : (n : ℕ) → 0 < n → n ≤ sampleCount (r .layout) → contentOf r n ≡ part b (contentAt b n) (nth (lengths b) n 0)
+  content-part zero h l = absurd (omega arith)
+  content-part (suc n) h l = let c = samples-all b r accepted in unfold nth in samples-tile b r accepted .placed n (omega arith)
+
+  lengths-are : lengths b ≡ map lengthOf (upto all)
+  unfolding lengths samplesAt referencesAt
+  lengths-are = refl
+
+  start-is : (n : ℕ) → 0 < n → n ≤ sampleCount (r .layout) → contentAt b n ≡ sampleStart b n
+  unfolding contentAt byteCountAt samplesAt referencesAt
+  start-is n h l =
+      let c = count-is in
+      ap (λ ns. four b + 4 + sum (take (n - 1) ns)) lengths-are
+      ∙ ap (λ ns. four b + 4 + sum ns) (first-of lengthOf (n - 1) all (omega arith))
+
+  entry-is : (n : ℕ) → 0 < n → n ≤ sampleCount (r .layout) → nth (r .layout .entries) n noEntry ≡ entryOf n
+  entry-is n h l =
+      let c = count-is in
+      ap (λ es. nth es n noEntry) (says .1 .entries) ∙ nth-upto entryOf all n noEntry h (omega arith)
+
+  bytes-are : (n : ℕ) → 0 < n → n ≤ sampleCount (r .layout) → contentOf r n ≡ part b (sampleStart b n) (lengthOf n)
+  bytes-are n h l =
+      let c = count-is in
+      let k : nth (lengths b) n 0 ≡ lengthOf n = ap (λ ns. nth ns n 0) lengths-are ∙ nth-upto lengthOf all n 0 h (omega arith) in
+      content-part n h l ∙ ap (λ (a : ℕ). part b a (nth (lengths b) n 0)) (start-is n h l) ∙ ap (λ (m : ℕ). part b (sampleStart b n) m) k
+
+  pub sample-means : (n : ℕ) → 0 < n → n ≤ sampleCount (r .layout) → SampleMeans b r n
+  unfolding sampleOf
+  sample-means n h l =
+      let c = count-is in
+      let e = entry-is n h l in
+      let t : trackOf (r .layout) n ≡ big b (entry b n) 1 = ap (λ (w : Entry). w .track) e in
+      let there = says .0 .sample n h (omega arith) .track in
+      record {
+        track = t;
+        time = ap (λ (w : Entry). w .time) e;
+        start = start-is n h l;
+        bytes = bytes-are n h l;
+        of-track = subst (λ (k : ℕ). TrackMeans b (nth (trackPlaces b) (big b (entry b n) 1) 0) (nth (r .layout .tracks) k noTrack)) (sym t)
+            (says .1 .track (big b (entry b n) 1) (there .0) (there .1));
+        content = refl;
+      }

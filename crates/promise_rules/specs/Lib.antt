@@ -5,8 +5,8 @@
 --   Refused     with which number, and where, a call is refused
 pub mod Records
 pub mod Samples
-pub mod Units
 pub mod Bundles
+pub mod Units
 pub mod Resolving
 pub mod Audits
 pub mod Refused

@@ -3,21 +3,26 @@
 --   FieldsAt x p     the fields of the unit at p of sample x
 --   Laid x a e ps    the units ps lie without gap or overlap from a to e
 --   UnitsOf x        the units of a well-formed sample: all of it, in order
---   SampleMeans r n  sample n: the kind and L of its track, and its bytes
-use Prim.Native.Nat.{ℕ, _+_, _*_, _%_, _<_, _≤_}
+--   SampleMeans b r n    what sample n of the bundle b is: its track, its time, its bytes
+use Prim.Native.Nat.{ℕ, _+_, _-_, _*_, _%_, _≤_, _<_}
 use mathlib.Core.Path.{_≡_}
-use mathlib.Core.List.{List, [], _∷_}
+use mathlib.Core.List.{List, [], _∷_, map}
 use mathlib.Core.Logic.{_⊎_, _↔_}
 use lib.ListN.{length, getD}
-use Rattle.words.specs.Lists.{_∈_, nth}
-use Rattle.words.specs.Bytes.{byteAt, big}
-use Rattle.numbers.specs.Sizes.{inBytes}
+use Rattle.words.specs.Lists.{_∈_, nth, upto, sum}
+use Rattle.words.specs.Bytes.{byteAt, big, part}
 use Rattle.numbers.specs.declared.LengthSize.the-variants.{One, Two, Four}
 use Rattle.units.specs.Units.{Sample, L, size, firstByte, type, next, topUnits}
 use Rattle.units.specs.Extractors.{trackRefIndex, sampleOffset, dataOffset, dataLength}
 use Rattle.units.specs.Aggregators.{includedStart, included, additionalBytes, units}
-use Rattle.bundles.specs.Recordings.{Recording, noTrack, noEntry, trackOf, timeOf, contentOf}
+use Rattle.bundles.specs.Recordings.{Track, Recording, trackOf, timeOf, contentOf}
+use Rattle.bundles.specs.Readers.{firstLayout}
 use Rattle.resolution_rules.specs.Resolving.{sampleOf}
+use Rattle.promise_rules.specs.Bundles.{four, entry, trackPlaces, TrackMeans}
+
+-- the kind and L that a sample is read with
+abbrev pub trackAs : Sample → Track
+trackAs x = record { kind = x .kind; lengthSize = x .lengthSize }
 
 module _ (x : Sample) where
   pub record FieldsAt (p : ℕ) : Type 0 where
@@ -56,12 +61,16 @@ module _ (x : Sample) where
         (q ∈ units x) ↔ ((q ∈ topUnits x) ⊎ ((p : ℕ) × (p ∈ topUnits x) × (type x p ≡ 30) × (q ∈ included x p)))
     pub rise : (i j : ℕ) → i < j → j < length (units x) → getD (units x) i 0 < getD (units x) j 0
 
--- the track that its entry names, that track's kind and L, and its decode time; tracks and samples are numbered from 1
-pub record SampleMeans (r : Recording) (n : ℕ) : Type 0 where
-  pub track : trackOf (r .layout) n ≡ nth (r .layout .entries) n noEntry .track
-  pub time : timeOf (r .layout) n ≡ nth (r .layout .entries) n noEntry .time
-  pub its-kind : sampleOf r n .kind ≡ nth (r .layout .tracks) (nth (r .layout .entries) n noEntry .track) noTrack .kind
-  pub its-size :
-      L (sampleOf r n) ≡ inBytes (nth (r .layout .tracks) (nth (r .layout .entries) n noEntry .track) noTrack .lengthSize)
-  pub its-bytes : sampleOf r n .content ≡ nth (r .contents) n []
-  pub bytes : contentOf r n ≡ nth (r .contents) n []
+-- where in the bundle b the bytes of sample n start: after section four's count and the samples before
+abbrev pub sampleStart : List ℕ → ℕ → ℕ
+sampleStart b n = four b + 4 + sum (map (λ m. big b (entry b m + 9) 4) (upto (n - 1)))
+
+pub record SampleMeans (b : List ℕ) (r : Recording) (n : ℕ) : Type 0 where
+  -- its entry has its track in 1 byte, its decode time in 8, its length in 4
+  pub track : trackOf (r .layout) n ≡ big b (entry b n) 1
+  pub time : timeOf (r .layout) n ≡ big b (entry b n + 1) 8
+  pub start : firstLayout .contentAt b n ≡ sampleStart b n
+  pub bytes : contentOf r n ≡ part b (sampleStart b n) (big b (entry b n + 9) 4)
+  -- it is read with the kind and L of that track, and these bytes
+  pub of-track : TrackMeans b (nth (trackPlaces b) (big b (entry b n) 1) 0) (trackAs (sampleOf r n))
+  pub content : sampleOf r n .content ≡ contentOf r n
