@@ -4,8 +4,8 @@ pub mod SampleLaws
 pub mod BundleLaws
 pub mod ResolveLaws
 pub mod CallLaws
-pub mod UnitLaws
 pub mod AuditLaws
 pub mod RefusedLaws
+pub mod UnitLaws
 pub mod CheckLaws
 pub mod OtherLaws

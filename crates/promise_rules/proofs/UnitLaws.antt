@@ -10,9 +10,11 @@ use lib.Seq.{take-append-seam}
 use Rattle.words.specs.Refusals.{Answer, refused, ok}
 use Rattle.words.specs.Lists.{_∈_, nth, upto, sum}
 use Rattle.words.specs.Bytes.{Bytes, byteAt, big, part}
-use Rattle.words.proofs.Lists.{Rising}
+use Rattle.words.proofs.Lists.{nth-mem, Rising}
 use Rattle.words.proofs.Rows.{getD-mem, upto-length, upto-split, nth-upto}
-use Rattle.words.proofs.Entries.{map-append}
+use Rattle.words.proofs.Entries.{map-append, entries-length}
+use Rattle.words.proofs.Joined.{nth-map}
+use Rattle.words.proofs.Refusals.{by-verdict, ok-refused, refused-along}
 use Rattle.units.specs.Units.{Sample, L, size, type, next, end, topUnits}
 use Rattle.units.specs.Aggregators.{included, units}
 use Rattle.units.specs.Rules.{Tiles}
@@ -20,17 +22,26 @@ use Rattle.units.proofs.Walks.{units-top, units-included, units-from, units-ris
 use Rattle.samples.proofs.Laws.{top-tile, check-top, included-tile}
 use Rattle.bundles.specs.Recordings.{Recording, Entry, noTrack, noEntry, sampleCount, trackOf, contentOf}
 use Rattle.bundles.specs.Readers.{firstLayout}
-use Rattle.bundles.specs.Tracks.{referencesAt}
-use Rattle.bundles.specs.References.{samplesAt}
+use Rattle.bundles.specs.Tracks.{trackOn, tracks, referencesAt}
+use Rattle.bundles.specs.References.{lengthSizeOn, samplesAt}
 use Rattle.bundles.specs.Samples.{lengths, byteCountAt}
-use Rattle.bundles.specs.Bundles.{contentAt}
+use Rattle.bundles.specs.Bundles.{bundleVerdict, meaning, contentAt}
 use Rattle.bundles.proofs.Promises.{samples-tile, samples-all}
-use Rattle.resolution_rules.specs.Resolving.{sampleOf}
+use Rattle.resolution_rules.specs.Resolving.{sampleOf, Span}
+use Rattle.resolution_rules.specs.Calls.{BundlePart, noSpan, placedBy, placeCall}
+use Rattle.resolution_rules.proofs.Good.{good-rules}
+use Rattle.resolution_rules.proofs.Exactly.{delivered-plain, delivered-there}
+use Rattle.resolution_rules.proofs.Readers.{firstLayout-sound}
+use Rattle.resolution_rules.proofs.Calls as calls
 use Rattle.promise_rules.specs.Samples.{Formed}
-use Rattle.promise_rules.specs.Bundles.{three, four, entry, trackPlaces, BundleOf, TrackMeans, Means}
-use Rattle.promise_rules.specs.Units.{FieldsAt, Laid, UnitsOf, sampleStart, SampleMeans}
+use Rattle.promise_rules.specs.Bundles.{three, four, entry, trackPlaces, TrackAt, BundleOf, TrackMeans, Means}
+use Rattle.promise_rules.specs.Units.{FieldsAt, Laid, UnitsOf, sampleStart, SampleMeans, PlacedAt}
+use Rattle.promise_rules.specs.Resolving.{Resolved}
+use Rattle.promise_rules.specs.Refused.{BundleRefused}
 use Rattle.promise_rules.proofs.SampleLaws.{rules-formed}
-use Rattle.promise_rules.proofs.BundleLaws.{means-exactly}
+use Rattle.promise_rules.proofs.BundleLaws.{track-means, means-exactly}
+use Rattle.promise_rules.proofs.CallLaws.{good-exactly, delivers-only, unit-gives}
+use Rattle.promise_rules.proofs.RefusedLaws.{bundle-refused}
 
 module _ (x : Sample) where
   pub fields-at : (p : ℕ) → FieldsAt x p
@@ -152,3 +163,39 @@ module _ (b : List ℕ) (g : Bytes b) (r : Recording) (accepted : firstLayout .m
             (says .1 .track (big b (entry b n) 1) (there .0) (there .1));
         content = refl;
       }
+
+  pub unit-placed : (n k : ℕ) (us : List Span) → Resolved r n us → 0 < k → k ≤ length us → PlacedAt b r n k (nth us k noSpan)
+  unfolding placeCall
+  unit-placed n k us w h l =
+      let some = w .some in
+      let there = w .there in
+      let good = good-exactly b g r accepted n some there .1 (w .good) in
+      let e = delivers-only b g r accepted n some there us (w .delivery) in
+      let u = nth us k noSpan in
+      let m : u ∈ us = nth-mem us k noSpan h l in
+      let f = delivered-plain r n (good-rules r n good) u (rw (← e) m) in
+      let t = delivered-there r n (good-rules r n good) some there u (rw (← e) m) in
+      record {
+        there = ap (placedBy (contentAt b)) (unit-gives b g r accepted n some there us w k h l)
+            ∙ ap (λ (a : ℕ). ok (record { start = a + u .start; size = u .size })) (start-is (u .sample) (t .0) (t .1));
+        inside = f .inside;
+        lent = rw (← e) at (calls.unit-part firstLayout firstLayout-sound b r accepted n some there good k h (rw (← e) l));
+      }
+
+-- L of a track is that of its record
+pub track-size :
+    (b : List ℕ) → Bytes b → (k : ℕ) → 0 < k → k ≤ big b 0 1 → (t : TrackAt b (nth (trackPlaces b) k 0)) →
+    lengthSizeOn b k ≡ t .fields .«length_size»
+unfolding tracks
+track-size b g k h l t =
+    let c : k ≤ length (trackPlaces b) = rw (entries-length (λ p. p + 3 + big b (p + 1) 2) (big b 0 1) 1) l in
+    rw (nth-map (trackOn b) (trackPlaces b) k 0 noTrack h c)
+    (track-means b g (nth (trackPlaces b) k 0) t .size (t .fields) (t .sequences) (t .pictures) (t .extensions) (t .valid))
+
+-- the check of a bundle refuses as its reading does
+pub verdict-refused : (b : List ℕ) → Bytes b → (m p : ℕ) → (bundleVerdict b ≡ refused m p) ↔ BundleRefused b m p
+unfolding meaning
+verdict-refused b g m p = (
+  λ e. bundle-refused b g (rw e),
+  λ w. by-verdict (bundleVerdict b) (λ n q v. refused-along (λ i j. bundleVerdict b ≡ refused i j) (rw v at (w .refuses)) v) (λ v. ok-refused (sym (rw v at (w .refuses)))),
+)

@@ -6,7 +6,7 @@
 pub mod Records
 pub mod Samples
 pub mod Bundles
-pub mod Units
 pub mod Resolving
+pub mod Units
 pub mod Audits
 pub mod Refused

@@ -4,11 +4,13 @@
 --   Laid x a e ps    the units ps lie without gap or overlap from a to e
 --   UnitsOf x        the units of a well-formed sample: all of it, in order
 --   SampleMeans b r n    what sample n of the bundle b is: its track, its time, its bytes
+--   PlacedAt b r n k u   where the kth unit that sample n delivers stands
 use Prim.Native.Nat.{ℕ, _+_, _-_, _*_, _%_, _≤_, _<_}
 use mathlib.Core.Path.{_≡_}
 use mathlib.Core.List.{List, [], _∷_, map}
 use mathlib.Core.Logic.{_⊎_, _↔_}
 use lib.ListN.{length, getD}
+use Rattle.words.specs.Refusals.{ok}
 use Rattle.words.specs.Lists.{_∈_, nth, upto, sum}
 use Rattle.words.specs.Bytes.{byteAt, big, part}
 use Rattle.numbers.specs.declared.LengthSize.the-variants.{One, Two, Four}
@@ -17,7 +19,8 @@ use Rattle.units.specs.Extractors.{trackRefIndex, sampleOffset, dataOffset, dat
 use Rattle.units.specs.Aggregators.{includedStart, included, additionalBytes, units}
 use Rattle.bundles.specs.Recordings.{Track, Recording, trackOf, timeOf, contentOf}
 use Rattle.bundles.specs.Readers.{firstLayout}
-use Rattle.resolution_rules.specs.Resolving.{sampleOf}
+use Rattle.resolution_rules.specs.Resolving.{sampleOf, Span}
+use Rattle.resolution_rules.specs.Calls.{unitCall, placeCall, unitPart}
 use Rattle.promise_rules.specs.Bundles.{four, entry, trackPlaces, TrackMeans}
 
 -- the kind and L that a sample is read with
@@ -74,3 +77,9 @@ pub record SampleMeans (b : List ℕ) (r : Recording) (n : ℕ) : Type 0 where
   -- it is read with the kind and L of that track, and these bytes
   pub of-track : TrackMeans b (nth (trackPlaces b) (big b (entry b n) 1) 0) (trackAs (sampleOf r n))
   pub content : sampleOf r n .content ≡ contentOf r n
+
+-- what the calls for the kth unit that sample n delivers, u, give: where it stands, in its sample; its bytes
+pub record PlacedAt (b : List ℕ) (r : Recording) (n k : ℕ) (u : Span) : Type 0 where
+  pub there : placeCall firstLayout b n k ≡ ok (record { start = sampleStart b (u .sample) + u .start; size = u .size })
+  pub inside : u .start + u .size ≤ length (contentOf r (u .sample))
+  pub lent : unitPart firstLayout b (unitCall firstLayout b n k) ≡ part (contentOf r (u .sample)) (u .start) (u .size)

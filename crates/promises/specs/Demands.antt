@@ -59,6 +59,11 @@ use Rattle.promise_rules.proofs.AuditLaws as auditLaws
 use Rattle.promise_rules.proofs.RefusedLaws as refusedLaws
 use Rattle.promise_rules.proofs.CheckLaws as checkLaws
 use Rattle.promise_rules.proofs.OtherLaws as otherLaws
+use Rattle.bundles.specs.References.{lengthSizeOn}
+use Rattle.resolution_rules.specs.Calls.{unitPart}
+use Rattle.promise_rules.specs.Bundles.{TrackAt, trackPlaces}
+use Rattle.promise_rules.specs.Units.{FieldsAt, UnitsOf, SampleMeans, PlacedAt}
+use Rattle.promise_rules.proofs.UnitLaws as unitLaws
 
 -- Demand 1.
 -- That every entry takes any bytes and ends is what `rt check` proves of the code: no public function requires anything. Its
@@ -172,6 +177,37 @@ bundle-means = bundleLaws.means-exactly
 
 pub bundle-read : (b : List ℕ) → Bytes b → BundleOf b → (r : Recording) × (firstLayout .means b ≡ ok r)
 bundle-read = bundleLaws.one-meaning
+
+-- Units and samples, in bytes and numbers: the fields of the unit at p; the units of a well-formed sample are all of it, in order
+pub fields-at : (x : Sample) (p : ℕ) → FieldsAt x p
+fields-at = unitLaws.fields-at
+
+pub units-of : (x : Sample) → Formed x → UnitsOf x
+units-of = unitLaws.units-of
+
+-- the check of a bundle refuses as above; L of a track, which references compare, is that of its record
+pub verdict-refused : (b : List ℕ) → Bytes b → (m p : ℕ) → (bundleVerdict b ≡ refused m p) ↔ BundleRefused b m p
+verdict-refused = unitLaws.verdict-refused
+
+pub track-size :
+    (b : List ℕ) → Bytes b → (k : ℕ) → 0 < k → k ≤ big b 0 1 → (t : TrackAt b (nth (trackPlaces b) k 0)) →
+    lengthSizeOn b k ≡ t .fields .«length_size»
+track-size = unitLaws.track-size
+
+-- nothing is lent for a unit where the call for it is refused
+pub unit-none : (b : List ℕ) (m p : ℕ) → unitPart firstLayout b (refused m p) ≡ []
+unit-none b m p = refl
+
+-- of a bundle b that is accepted and means r: what sample n is; where a unit stands, and its bytes; 6 bytes an entry of a list
+module _ (b : List ℕ) (bytes : Bytes b) (r : Recording) (accepted : firstLayout .means b ≡ ok r) where
+  pub sample-means : (n : ℕ) → 0 < n → n ≤ sampleCount (r .layout) → SampleMeans b r n
+  sample-means = unitLaws.sample-means b bytes r accepted
+
+  pub unit-placed : (n k : ℕ) (us : List Span) → Resolved r n us → 0 < k → k ≤ length us → PlacedAt b r n k (nth us k noSpan)
+  unit-placed = unitLaws.unit-placed b bytes r accepted
+
+pub six-each : (r : Recording) (s : ℕ) → length (listBytes (namingList r s)) ≡ length (namingList r s) * 6
+six-each = naming.six-bytes
 
 -- Resolving and the audit, of a bundle b that is accepted and means r
 module _ (b : List ℕ) (bytes : Bytes b) (r : Recording) (accepted : firstLayout .means b ≡ ok r) where
