@@ -2,12 +2,12 @@
 use Prim.Native.Nat.{ℕ, zero, suc, _+_, _-_, _*_, _≤_, _<_}
 use mathlib.Core.Path.{_≡_, refl, ap, sym, _∙_, subst}
 use mathlib.Core.List.{List, [], _∷_, _++_, map}
-use mathlib.Core.Logic.{_⊎_, inl, inr, ⊎-elim, _↔_}
+use mathlib.Core.Logic.{inl, inr, ⊎-elim, _↔_}
 use native.Mathlib.Omega.{arith}
 use borrow.Author.Tests.{eqb-true, eq-eqb}
 use lib.ListN.{length, getD, take, length-map}
 use lib.Seq.{take-append-seam}
-use Rattle.words.specs.Refusals.{Answer, refused, ok}
+use Rattle.words.specs.Refusals.{refused, ok}
 use Rattle.words.specs.Lists.{_∈_, nth, upto, sum}
 use Rattle.words.specs.Bytes.{Bytes, byteAt, big, part}
 use Rattle.words.proofs.Lists.{nth-mem, Rising}
@@ -28,7 +28,7 @@ use Rattle.bundles.specs.Samples.{lengths, byteCountAt}
 use Rattle.bundles.specs.Bundles.{bundleVerdict, meaning, contentAt}
 use Rattle.bundles.proofs.Promises.{samples-tile, samples-all}
 use Rattle.resolution_rules.specs.Resolving.{sampleOf, Span}
-use Rattle.resolution_rules.specs.Calls.{BundlePart, noSpan, placedBy, placeCall}
+use Rattle.resolution_rules.specs.Calls.{noSpan, placedBy, placeCall}
 use Rattle.resolution_rules.proofs.Good.{good-rules}
 use Rattle.resolution_rules.proofs.Exactly.{delivered-plain, delivered-there}
 use Rattle.resolution_rules.proofs.Readers.{firstLayout-sound}
