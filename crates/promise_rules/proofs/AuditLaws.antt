@@ -22,6 +22,7 @@ use Rattle.bundles.specs.Readers.{firstLayout}
 use Rattle.resolution_rules.specs.Resolving.{Span, judged, delivered}
 use Rattle.resolution_rules.specs.Calls.{resolveUnit, unitCall}
 use Rattle.resolution_rules.proofs.Calls.{number-good, number-bad, by-count, unit-means}
+use Rattle.resolution_rules.proofs.Good.{judged-refused}
 use Rattle.resolution_rules.proofs.Readers.{firstLayout-sound}
 use Rattle.naming_list_rules.specs.Rules.{Unlisted}
 use Rattle.naming_list_rules.proofs.Calls.{wrote-list}
@@ -37,6 +38,7 @@ use Rattle.audit_rules.proofs.Refusals.{number-some}
 use Rattle.audit_rules.proofs.Promises as auditing
 use Rattle.promise_rules.specs.Resolving.{GoodSample, Resolved}
 use Rattle.promise_rules.proofs.CallLaws.{good-exactly, delivers}
+use Rattle.promise_rules.proofs.RefusedLaws.{sample-refused, refused-sample}
 use Rattle.promise_rules.specs.Audits.{LineIn, SampleSays, TallyOf}
 
 big-part : (s : List ℕ) (a n i k : ℕ) → i + k ≤ n → big (part s a n) i k ≡ big s (a + i) k
@@ -98,7 +100,7 @@ module _ (b : List ℕ) (r : Recording) (accepted : firstLayout .means b ≡ ok 
         SampleSays.passed z (delivered r n) (record { some = h; there = l; good = good; delivery = delivers b g r accepted n h l good }) (line-in n 0 0 (length (delivered r n)) h l v)
     says g n h l (SampleLine.empty z v) = SampleSays.empty z (line-in n 0 0 0 h l v)
     says g n h l (SampleLine.bad {m} {p} j k v) =
-        SampleSays.bad m p (λ good. ok-refused (sym j ∙ good-exactly b g r accepted n h l .1 good)) j (k .0) (k .1) (line-in n m p 0 h l v)
+        SampleSays.bad m p (λ good. ok-refused (sym j ∙ good-exactly b g r accepted n h l .1 good)) (sample-refused b g r accepted n h l j) (line-in n m p 0 h l v)
 
     pub line-each : Bytes b → (n : ℕ) → 0 < n → n ≤ count → SampleSays r n out₁
     line-each g n h l = says g n h l (all-lines .1 .line n h l)
@@ -106,12 +108,12 @@ module _ (b : List ℕ) (r : Recording) (accepted : firstLayout .means b ≡ ok 
     zero-good : Bytes b → (n : ℕ) → 0 < n → n ≤ count → SampleSays r n out₁ → big out₁ (13 * (n - 1)) 1 ≡ 0 → GoodSample r n
     zero-good g n h l (SampleSays.passed z us w v) e = w .good
     zero-good g n h l (SampleSays.empty z v) e = good-exactly b g r accepted n h l .0 (auditing.empty-is-good r n z .0)
-    zero-good g n h l (SampleSays.bad m p broken j k q v) e = let s = number-some r n (k, q) in let f = v .refusal in absurd (omega arith)
+    zero-good g n h l (SampleSays.bad m p broken w v) e = let s = number-some r n (judged-refused r n m p (refused-sample b g r n w .2)) in let f = v .refusal in absurd (omega arith)
 
     good-zero : (n : ℕ) → SampleSays r n out₁ → GoodSample r n → big out₁ (13 * (n - 1)) 1 ≡ 0
     good-zero n (SampleSays.passed z us w v) good = v .refusal
     good-zero n (SampleSays.empty z v) good = v .refusal
-    good-zero n (SampleSays.bad m p broken j k q v) good = absurd (broken good)
+    good-zero n (SampleSays.bad m p broken w v) good = absurd (broken good)
 
     pub zero-exactly : Bytes b → (n : ℕ) → 0 < n → n ≤ count → (big out₁ (13 * (n - 1)) 1 ≡ 0) ↔ GoodSample r n
     zero-exactly g n h l = (zero-good g n h l (line-each g n h l), good-zero n (line-each g n h l))

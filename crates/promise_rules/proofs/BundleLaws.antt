@@ -227,7 +227,7 @@ module _ (b : List ℕ) where
       go (RecordOf.trailed t h x l q g e n y) = inl (refl, refl)
       go (RecordOf.svc bit h x l q e n) = inr (refl, refl)
 
-  track-means : Bytes b → (p : ℕ) → TrackAt b p → TrackMeans b p (trackOn b p)
+  pub track-means : Bytes b → (p : ℕ) → TrackAt b p → TrackMeans b p (trackOn b p)
   unfolding sizeAt
   track-means g p w =
       record {

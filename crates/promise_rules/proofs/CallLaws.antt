@@ -7,14 +7,15 @@ use mathlib.Core.Logic.{_⊎_, inl, inr, ⊎-elim, _↔_}
 use native.Mathlib.Omega.{arith}
 use native.Mathlib.Nat.{pos-of-ne-zero}
 use borrow.Author.Tests.{ltb-true, ltb-false, lt-ltb, le-leb, eqb-true, eqb-false, ne-eqb, eq-eqb}
-use lib.ListN.{length, length-take, List·getD-eq-default}
+use lib.ListN.{length, getD, length-take, List·getD-eq-default}
 use Rattle.words.specs.Tests.{_≤?_, _<?_, _≡?_, pick}
 use Rattle.words.specs.Refusals.{Answer, refused, ok}
 use Rattle.words.specs.Lists.{_∈_, each, keep, nth}
 use Rattle.words.specs.Bytes.{Bytes, byteAt, bytes, part}
 use Rattle.words.proofs.Tests.{by-bool, by-number, true-false}
 use Rattle.words.proofs.Refusals.{ok-same, ok-refused}
-use Rattle.words.proofs.Lists.{each-cong, nth-mem, keep-mem, keep-from}
+use Rattle.words.proofs.Lists.{each-cong, nth-mem, keep-mem, keep-from, Rising}
+use Rattle.words.proofs.Rows.{getD-mem}
 use Rattle.words.proofs.Joined.{part-byte, part-part}
 use Rattle.units.specs.Units.{Sample, L, size, type, next, isAggregator, isExtractor, topUnits, topBetween}
 use Rattle.units.specs.Extractors.{trackRefIndex, sampleOffset, dataOffset, dataLength}
@@ -33,7 +34,7 @@ use Rattle.resolution_rules.proofs.Readers.{firstLayout-sound}
 use Rattle.resolution_rules.proofs.Calls as calls
 use Rattle.resolution_rules.proofs.Promises as resolving
 use Rattle.naming_list_rules.specs.Naming.{namer, namingList}
-use Rattle.naming_list_rules.specs.Rules.{Names, timesListed}
+use Rattle.naming_list_rules.specs.Rules.{Names, Before, timesListed}
 use Rattle.naming_list_rules.proofs.Promises as naming
 use Rattle.promise_rules.specs.Samples.{Formed}
 use Rattle.promise_rules.proofs.SampleLaws.{formed-rules, rules-formed}
@@ -46,11 +47,11 @@ part-bytes b a n g i = by-bool (i <? n)
     (λ t. let l : n ≤ i = ltb-false _ _ t in let h : length (part b a n) ≤ i = simp (length-take) (omega arith) in rw (List·getD-eq-default (part b a n) 0 {n = i} h) (omega arith))
 
 module _ (b : List ℕ) (g : Bytes b) (r : Recording) (accepted : firstLayout .means b ≡ ok r) where
-  rise : TimesRise (r .layout)
+  pub rise : TimesRise (r .layout)
   rise = firstLayout-sound .rise b r accepted
 
   module _ (n : ℕ) (some : 0 < n) (there : n ≤ sampleCount (r .layout)) where
-    offset-byte : (p : ℕ) → sampleOffset (sampleOf r n) p < 256
+    pub offset-byte : (p : ℕ) → sampleOffset (sampleOf r n) p < 256
     unfolding sampleOf
     offset-byte p = rw (firstLayout-sound .placed b r n accepted some there) (part-bytes b (firstLayout .contentAt b n) (length (contentOf r n)) g (p + L (sampleOf r n) + 4 + 1))
 
@@ -218,3 +219,13 @@ module _ (b : List ℕ) (g : Bytes b) (r : Recording) (accepted : firstLayout .m
 
   pub listed-once : NamesIt r s n p → timesListed r s n p ≡ 1
   listed-once w = naming.listed-once r s n p (it-names w)
+
+-- in order: each entry before every later one
+rising-at : {A : Type 0} (R : A → A → Type 0) (xs : List A) (d : A) → Rising R xs → (i j : ℕ) → i < j → j < length xs → R (getD xs i d) (getD xs j d)
+rising-at R [] d h i j l u = absurd (omega arith)
+rising-at R (x ∷ xs) d h i zero l u = absurd (omega arith)
+rising-at R (x ∷ xs) d h zero (suc j) l u = h .0 (getD xs j d) (getD-mem xs j d (omega arith))
+rising-at R (x ∷ xs) d h (suc i) (suc j) l u = rising-at R xs d (h .1) i j (omega arith) (omega arith)
+
+pub listed-in-order : (r : Recording) (s i j : ℕ) → i < j → j < length (namingList r s) → Before (getD (namingList r s) i (namer 0 0)) (getD (namingList r s) j (namer 0 0))
+listed-in-order r s = rising-at Before (namingList r s) (namer 0 0) (naming.listed-in-order r s)

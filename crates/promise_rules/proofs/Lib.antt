@@ -6,3 +6,6 @@ pub mod ResolveLaws
 pub mod CallLaws
 pub mod AuditLaws
 pub mod RefusedLaws
+pub mod UnitLaws
+pub mod CheckLaws
+pub mod OtherLaws

@@ -1,26 +1,76 @@
 -- The proofs of what Demands says of refusals. Assumes nothing.
 use Prim.Native.Nat.{ℕ, _≤_, _<_}
-use mathlib.Core.Path.{_≡_, refl, ap, sym, _∙_}
+use mathlib.Core.Path.{_≡_, refl, ap, sym, _∙_, subst}
 use mathlib.Core.List.{List}
 use mathlib.Core.Logic.{_⊎_, inl, inr, ⊎-elim, _↔_}
+use native.Mathlib.Omega.{arith}
+use borrow.Author.Tests.{eqb-true, eq-eqb}
 use lib.ListN.{length}
-use Rattle.words.specs.Refusals.{Answer, refused, ok}
+use Rattle.words.specs.Refusals.{Answer, refused, ok, first, _atPlace_}
+use Rattle.words.specs.RefusalNumbers.{extractorRefusals}
 use Rattle.words.specs.Lists.{_∈_, each}
 use Rattle.words.specs.Bytes.{Bytes}
-use Rattle.words.proofs.Refusals.{ok-refused, refused-same}
-use Rattle.bundles.specs.Recordings.{Recording, sampleCount}
+use Rattle.words.proofs.Tests.{by-bool}
+use Rattle.words.proofs.Refusals.{ok-refused, refused-same, by-verdict, first-from, at-from, none-or-some}
+use Rattle.words.proofs.Lists.{keep-from}
+use Rattle.units.specs.Units.{Sample, end, next, isAggregator, isExtractor, unitFault, topUnits}
+use Rattle.units.specs.Extractors.{extractorFault}
+use Rattle.units.specs.Aggregators.{included, includedFault, coverFault, units, extractors}
+use Rattle.units.proofs.Walks.{units-top, units-included}
+use Rattle.samples.specs.Check.{check, topVerdict, contentVerdict}
+use Rattle.samples.proofs.Laws.{check-refusals}
+use Rattle.samples.proofs.Walks.{topJudge, includedJudge, content-included, content-cover, content-other}
+use Rattle.bundles.specs.Recordings.{Recording, sampleCount, contentOf}
 use Rattle.bundles.specs.Readers.{firstLayout}
-use Rattle.resolution_rules.specs.Resolving.{Span, judged, delivered}
+use Rattle.resolution_rules.specs.Resolving.{sampleOf, Span, own, extractFault, judged, delivered}
 use Rattle.resolution_rules.specs.Calls.{placedBy, output, written, resolveCall, unitCall, placeCall}
-use Rattle.resolution_rules.specs.Rules.{UnitRefuses, ResolveRefuses, CallRefuses, UnitCallRefuses}
-use Rattle.resolution_rules.proofs.Calls.{call-refused-because, unit-call-because}
-use Rattle.resolution_rules.proofs.Good.{judged-refused}
+use Rattle.resolution_rules.specs.Rules.{FirstRefused, UnitRefuses, ResolveRefuses, CallRefuses, UnitCallRefuses}
+use Rattle.resolution_rules.proofs.Calls.{call-refused-because, call-refuses, unit-call-because, unit-call-refuses}
+use Rattle.resolution_rules.proofs.Good.{extract-rules, rules-extract, extract-range, extractor-inside, judged-first}
+use Rattle.resolution_rules.proofs.Exactly.{extractor-mem}
+use Rattle.resolution_rules.proofs.Promises.{first-refused}
 use Rattle.resolution_rules.proofs.Readers.{firstLayout-sound}
+use Rattle.naming_list_rules.specs.Naming.{namesCall}
+use Rattle.naming_list_rules.specs.Rules.{NamesRefuses}
+use Rattle.naming_list_rules.proofs.Promises.{names-refused-exactly}
+use Rattle.audit_rules.specs.Auditing.{auditCall, tallyCall}
+use Rattle.audit_rules.specs.Rules.{AuditRefuses}
+use Rattle.audit_rules.proofs.Promises.{audit-refused-exactly, tally-refused-exactly}
+use Rattle.promise_rules.specs.Samples.{Formed}
+use Rattle.promise_rules.proofs.SampleLaws.{formed-rules, rules-formed}
 use Rattle.promise_rules.specs.Bundles.{BundleOf}
 use Rattle.promise_rules.proofs.BundleLaws.{one-meaning}
-use Rattle.promise_rules.specs.Resolving.{GoodSample, Resolved, afterLength}
-use Rattle.promise_rules.proofs.CallLaws.{good-exactly, delivers}
-use Rattle.promise_rules.specs.Refused.{BundleRefused, SampleRefused, ResolveRefused, UnitRefused}
+use Rattle.promise_rules.specs.Resolving.{Extraction, GoodSample, Resolved, afterLength}
+use Rattle.promise_rules.proofs.ResolveLaws.{extraction, extraction-is}
+use Rattle.promise_rules.proofs.CallLaws.{rise, offset-byte, good-exactly, delivers, delivers-only}
+use Rattle.promise_rules.specs.Refused.{BundleRefused, FormRefused, ExtractorRefused, SampleRefused, ResolveRefused, UnitRefused, NamesRefused, AuditRefused}
+
+-- a sample that is not well formed is refused at a unit
+module _ (x : Sample) where
+  at-unit : (f q : ℕ) {m p : ℕ} → q ∈ units x → f atPlace q ≡ refused m p → p ∈ units x
+  at-unit f q k e = subst (λ (j : ℕ). j ∈ units x) (at-from f q e .1) k
+
+  content-place : (q m p : ℕ) → q ∈ topUnits x → contentVerdict x q ≡ refused m p → p ∈ units x
+  content-place q m p k v = by-bool (isAggregator x q)
+      (λ t. by-verdict (first (includedJudge x (next x q)) (included x q))
+      (λ a b c.
+      let w = first-from (includedJudge x (next x q)) (included x q) (c ∙ (sym (content-included x q t c) ∙ v)) in
+      at-unit (includedFault x (next x q) (w .0)) (w .0) (units-included x q (w .0) k t (w .1)) (w .2))
+      (λ c. at-unit (coverFault x q) q (units-top x q k) (sym (content-cover x q t c) ∙ v)))
+      (λ t. at-unit (extractorFault x q) q (units-top x q k) (sym (content-other x q t) ∙ v))
+
+  check-place : (m p : ℕ) → check x ≡ refused m p → p ∈ units x
+  unfolding check
+  check-place m p e = by-verdict (topVerdict x)
+      (λ a b v.
+      let w = first-from (topJudge x) (topUnits x) (v ∙ (rw v at e)) in
+      at-unit (unitFault x (end x) (w .0)) (w .0) (units-top x (w .0) (w .1)) (w .2))
+      (λ v. let w = first-from (contentVerdict x) (topUnits x) (rw v at e) in content-place (w .0) m p (w .1) (w .2))
+
+  pub form-refused : {m p : ℕ} → check x ≡ refused m p → FormRefused x m p
+  form-refused {m} {p} e =
+      let w = check-refusals x m p e in
+      record { refuses = e; broken = λ f. ok-refused (sym e ∙ rules-formed x f); number = w .0; unit = check-place m p e; place = w .1 }
 
 module _ (b : List ℕ) (g : Bytes b) where
   pub bundle-refused : {m p : ℕ} → firstLayout .means b ≡ refused m p → BundleRefused b m p
@@ -29,21 +79,46 @@ module _ (b : List ℕ) (g : Bytes b) where
       record { refuses = e; broken = λ rules. ok-refused (sym e ∙ one-meaning b g rules .1); number = w .0; place = w .1 }
 
   module _ (r : Recording) (accepted : firstLayout .means b ≡ ok r) (n : ℕ) (some : 0 < n) (there : n ≤ sampleCount (r .layout)) where
-    sample-refused : {m p : ℕ} → judged r n ≡ refused m p → SampleRefused r n m p
-    sample-refused {m} {p} j =
-        let w = judged-refused r n m p j in
+    -- an extractor without 23 to 28, both ways
+    extracts : (q : ℕ) → extractFault r n q ≡ 0 → (k : ℕ) × (qs : List ℕ) × Extraction r n q k qs
+    extracts q e = extraction r (rise b g r accepted) n (offset-byte b g r accepted n some there) q (extract-rules r n q e)
+
+    first-extractor : {m p : ℕ} → judged r n ≡ refused m p → FirstRefused r n m p → ExtractorRefused r n m p
+    unfolding extractors
+    first-extractor {m} {p} j w =
+        let k = keep-from (isExtractor (own r n)) (units (own r n)) (w .extractor) in
         record {
-          there = (some, there);
           refuses = j;
-          broken = λ good. ok-refused (sym j ∙ good-exactly b g r accepted n some there .1 good);
-          number = w .0;
-          place = w .1;
+          formed = formed-rules (sampleOf r n) (w .formed);
+          number = subst (λ (i : ℕ). i ∈ extractorRefusals) (w .refuses) (none-or-some extractorRefusals (extract-range r n p) (let z = w .refuses in let h = w .some in omega arith));
+          unit = k .0;
+          extractor = eqb-true _ _ (k .1);
+          place = extractor-inside r n (w .formed) p (w .extractor);
+          broken = λ i qs x.
+              let z = rules-extract r n p (extraction-is r (rise b g r accepted) n (offset-byte b g r accepted n some there) p i qs x .2) in
+              let q = w .refuses in let h = w .some in absurd (omega arith);
+          earlier = λ q m t l. extracts q (w .earlier q (extractor-mem r n q m (eq-eqb _ _ t)) l);
         }
+
+    pub sample-refused : {m p : ℕ} → judged r n ≡ refused m p → SampleRefused r n m p
+    sample-refused {m} {p} j = ⊎-elim
+        (λ e. SampleRefused.form some there (form-refused (sampleOf r n) e))
+        (λ w. SampleRefused.extractor some there (first-extractor j w))
+        (judged-first r n m p j)
 
     resolved : judged r n ≡ ok tt → Resolved r n (delivered r n)
     resolved j =
         let good = good-exactly b g r accepted n some there .0 j in
         record { some = some; there = there; good = good; delivery = delivers b g r accepted n some there good }
+
+  -- back
+  pub refused-sample : (r : Recording) (n : ℕ) {m p : ℕ} → SampleRefused r n m p → (0 < n) × (n ≤ sampleCount (r .layout)) × (judged r n ≡ refused m p)
+  refused-sample r n {m} {p} (SampleRefused.form h l w) = (h, l, first-refused r n m p .1 (inl (w .refuses)))
+  refused-sample r n (SampleRefused.extractor h l w) = (h, l, w .refuses)
+
+  unresolved : (r : Recording) (n : ℕ) (us : List Span) → firstLayout .means b ≡ ok r → Resolved r n us → (judged r n ≡ ok tt) × (us ≡ delivered r n)
+  unresolved r n us e w =
+      (good-exactly b g r e n (w .some) (w .there) .1 (w .good), delivers-only b g r e n (w .some) (w .there) us (w .delivery))
 
   output-length : (r : Recording) (us : List Span) → length (output r us) ≡ length (each (afterLength r) us)
   unfolding output written
@@ -56,8 +131,18 @@ module _ (b : List ℕ) (g : Bytes b) where
   resolving n room (CallRefuses.recording r e (ResolveRefuses.tooLong h l j w)) =
       ResolveRefused.room r (delivered r n) e (resolved r e n h l j) (rw (← output-length r (delivered r n)) w)
 
-  pub resolve-refused : (n room m p : ℕ) → resolveCall firstLayout b n room ≡ refused m p → ResolveRefused b n room m p
-  resolve-refused n room m p e = resolving n room (call-refused-because firstLayout b n room m p e)
+  by-resolving : (n room : ℕ) {m p : ℕ} → ResolveRefused b n room m p → CallRefuses firstLayout b n room m p
+  by-resolving n room (ResolveRefused.bundle w) = CallRefuses.bundle (w .refuses)
+  by-resolving n room (ResolveRefused.number r e h) = CallRefuses.recording r e (ResolveRefuses.number h)
+  by-resolving n room (ResolveRefused.sample r e w) =
+      let k = refused-sample r n w in CallRefuses.recording r e (ResolveRefuses.sample (k .0) (k .1) (k .2))
+  by-resolving n room (ResolveRefused.room r us e w h) =
+      let k = unresolved r n us e w in
+      CallRefuses.recording r e (ResolveRefuses.tooLong (w .some) (w .there) (k .0) (rw (output-length r (delivered r n), ← k .1) h))
+
+  pub resolve-refused : (n room m p : ℕ) → (resolveCall firstLayout b n room ≡ refused m p) ↔ ResolveRefused b n room m p
+  resolve-refused n room m p =
+      (λ e. resolving n room (call-refused-because firstLayout b n room m p e), λ w. call-refuses firstLayout b n room (by-resolving n room w))
 
   unit : (n k : ℕ) {m p : ℕ} → UnitCallRefuses firstLayout b n k m p → UnitRefused b n k m p
   unit n k (UnitCallRefuses.bundle e) = UnitRefused.bundle (bundle-refused e)
@@ -65,13 +150,56 @@ module _ (b : List ℕ) (g : Bytes b) where
   unit n k (UnitCallRefuses.recording r e (UnitRefuses.sample h l j)) = UnitRefused.sample r e (sample-refused r e n h l j)
   unit n k (UnitCallRefuses.recording r e (UnitRefuses.unit h l j w)) = UnitRefused.unit r (delivered r n) e (resolved r e n h l j) w
 
-  pub unit-refused : (n k m p : ℕ) → unitCall firstLayout b n k ≡ refused m p → UnitRefused b n k m p
-  unit-refused n k m p e = unit n k (unit-call-because firstLayout b n k m p e)
+  by-unit : (n k : ℕ) {m p : ℕ} → UnitRefused b n k m p → UnitCallRefuses firstLayout b n k m p
+  by-unit n k (UnitRefused.bundle w) = UnitCallRefuses.bundle (w .refuses)
+  by-unit n k (UnitRefused.number r e h) = UnitCallRefuses.recording r e (UnitRefuses.number h)
+  by-unit n k (UnitRefused.sample r e w) =
+      let j = refused-sample r n w in UnitCallRefuses.recording r e (UnitRefuses.sample (j .0) (j .1) (j .2))
+  by-unit n k (UnitRefused.unit r us e w h) =
+      let j = unresolved r n us e w in
+      UnitCallRefuses.recording r e (UnitRefuses.unit (w .some) (w .there) (j .0) (subst (λ vs. (k ≡ 0) ⊎ (length vs < k)) (j .1) h))
+
+  pub unit-refused : (n k m p : ℕ) → (unitCall firstLayout b n k ≡ refused m p) ↔ UnitRefused b n k m p
+  unit-refused n k m p =
+      (λ e. unit n k (unit-call-because firstLayout b n k m p e), λ w. unit-call-refuses firstLayout b n k (by-unit n k w))
 
   placed : (a : Answer Span) {m p : ℕ} → placedBy (firstLayout .contentAt b) a ≡ refused m p → a ≡ refused m p
   placed (refused n q) e = let s = refused-same e in rw (s .0, s .1)
   placed (ok u) e = ok-refused (sym e)
 
-  pub place-refused : (n k m p : ℕ) → placeCall firstLayout b n k ≡ refused m p → UnitRefused b n k m p
+  pub place-refused : (n k m p : ℕ) → (placeCall firstLayout b n k ≡ refused m p) ↔ UnitRefused b n k m p
   unfolding placeCall
-  place-refused n k m p e = unit-refused n k m p (placed (unitCall firstLayout b n k) e)
+  place-refused n k m p = (
+    λ e. unit-refused n k m p .0 (placed (unitCall firstLayout b n k) e),
+    λ w. ap (placedBy (firstLayout .contentAt b)) (unit-refused n k m p .1 w),
+  )
+
+  naming : (s room : ℕ) {m p : ℕ} → NamesRefuses firstLayout b s room m p → NamesRefused b s room m p
+  naming s room (NamesRefuses.bundle e) = NamesRefused.bundle (bundle-refused e)
+  naming s room (NamesRefuses.number r e h) = NamesRefused.number r e h
+  naming s room (NamesRefuses.tooLong r e h l w) = NamesRefused.room r e h l w
+
+  by-naming : (s room : ℕ) {m p : ℕ} → NamesRefused b s room m p → NamesRefuses firstLayout b s room m p
+  by-naming s room (NamesRefused.bundle w) = NamesRefuses.bundle (w .refuses)
+  by-naming s room (NamesRefused.number r e h) = NamesRefuses.number r e h
+  by-naming s room (NamesRefused.room r e h l w) = NamesRefuses.tooLong r e h l w
+
+  pub names-refused : (s room m p : ℕ) → (namesCall firstLayout b s room ≡ refused m p) ↔ NamesRefused b s room m p
+  names-refused s room m p =
+      let w = names-refused-exactly firstLayout b s room m p in (λ e. naming s room (w .0 e), λ v. w .1 (by-naming s room v))
+
+  auditing : (room : ℕ) {m p : ℕ} → AuditRefuses firstLayout b room m p → AuditRefused b room m p
+  auditing room (AuditRefuses.bundle e) = AuditRefused.bundle (bundle-refused e)
+  auditing room (AuditRefuses.tooLong r e h) = AuditRefused.room r e h
+
+  by-auditing : (room : ℕ) {m p : ℕ} → AuditRefused b room m p → AuditRefuses firstLayout b room m p
+  by-auditing room (AuditRefused.bundle w) = AuditRefuses.bundle (w .refuses)
+  by-auditing room (AuditRefused.room r e h) = AuditRefuses.tooLong r e h
+
+  pub audit-refused : (room m p : ℕ) → (auditCall firstLayout b room ≡ refused m p) ↔ AuditRefused b room m p
+  audit-refused room m p =
+      let w = audit-refused-exactly firstLayout b room m p in (λ e. auditing room (w .0 e), λ v. w .1 (by-auditing room v))
+
+  pub tally-refused : (room m p : ℕ) → (tallyCall firstLayout b room ≡ refused m p) ↔ AuditRefused b room m p
+  tally-refused room m p =
+      let w = tally-refused-exactly firstLayout b room m p in (λ e. auditing room (w .0 e), λ v. w .1 (by-auditing room v))

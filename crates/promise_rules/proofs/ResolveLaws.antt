@@ -188,7 +188,7 @@ module _ (z : Sample) (o n : ℕ) where
 
 -- a good sample
 module _ (r : Recording) (rise : TimesRise (r .layout)) (n : ℕ) (byte : (p : ℕ) → sampleOffset (sampleOf r n) p < 256) where
-  extraction : (p : ℕ) → Extracts r n p → (m : ℕ) × (qs : List ℕ) × Extraction r n p m qs
+  pub extraction : (p : ℕ) → Extracts r n p → (m : ℕ) × (qs : List ℕ) × Extraction r n p m qs
   unfolding named
   extraction p x =
       let t = in-track (r .layout) n _ _ (x .there) in

@@ -6,16 +6,16 @@
 use Prim.Native.Nat.{ℕ, _+_, _-_, _*_, _<_}
 use mathlib.Core.Path.{_≡_}
 use mathlib.Core.Bool.{_&&_, not}
-use mathlib.Core.List.{List, [], _∷_}
+use mathlib.Core.List.{List}
 use lib.ListN.{length}
 use Rattle.words.specs.Tests.{_≡?_}
-use Rattle.words.specs.Refusals.{refused}
-use Rattle.words.specs.Lists.{_∈_, keep, upto}
+use Rattle.words.specs.Lists.{keep, upto}
 use Rattle.words.specs.Bytes.{big}
 use Rattle.bundles.specs.Recordings.{Recording, sampleCount, contentOf}
-use Rattle.resolution_rules.specs.Resolving.{Span, judged}
+use Rattle.resolution_rules.specs.Resolving.{Span}
 use Rattle.tally.specs.declared.Tally.{Tally}
 use Rattle.promise_rules.specs.Resolving.{GoodSample, Resolved}
+use Rattle.promise_rules.specs.Refused.{SampleRefused}
 
 pub record LineIn (out : List ℕ) (n m p delivered : ℕ) : Type 0 where
   pub refusal : big out (13 * (n - 1)) 1 ≡ m
@@ -27,11 +27,8 @@ pub data SampleSays (r : Recording) (n : ℕ) (out : List ℕ) : Type 0 where
   passed : 0 < length (contentOf r n) → (us : List Span) → Resolved r n us → LineIn out n 0 0 (length us) → SampleSays r n out
   -- it has no bytes, which is good
   empty : length (contentOf r n) ≡ 0 → LineIn out n 0 0 0 → SampleSays r n out
-  -- it is not good: its first refusal, at a place in the sample
-  bad :
-      (m p : ℕ) → (GoodSample r n → ⊥) → judged r n ≡ refused m p →
-      m ∈ (14 ∷ 15 ∷ 16 ∷ 17 ∷ 18 ∷ 19 ∷ 20 ∷ 21 ∷ 22 ∷ 23 ∷ 24 ∷ 25 ∷ 26 ∷ 27 ∷ 28 ∷ []) → p < length (contentOf r n) →
-      LineIn out n m p 0 → SampleSays r n out
+  -- it is not good: its first refusal, 14 to 28, and where it is
+  bad : (m p : ℕ) → (GoodSample r n → ⊥) → SampleRefused r n m p → LineIn out n m p 0 → SampleSays r n out
 
 pub record TallyOf (r : Recording) (out : List ℕ) (t : Tally) : Type 0 where
   pub passed :

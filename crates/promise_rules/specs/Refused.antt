@@ -1,22 +1,32 @@
--- With which number, and where, a call that resolves is refused. One case a kind of refusal.
+-- With which number, and where, a call is refused. One case a kind of refusal.
 --
 --   BundleRefused b m p           the bundle: 1 to 13, at a place in it or at its end
---   SampleRefused r n m p         sample n: 14 to 28, at a place in the sample
+--   FormRefused x m p             a sample that is not well formed: 14 to 22, at the length field of a unit
+--   CheckRefused kind l s m p     a sample checked outside a bundle: the kind, L, the sample
+--   ExtractorRefused r n m p      sample n, well formed: 23 to 28, at its first extractor that is refused
+--   SampleRefused r n m p         sample n: one or the other
 --   ResolveRefused b n room m p   resolving: the bundle, the sample's number, the sample, the room
 --   UnitRefused b n k m p         one delivered unit, and where it stands: the bundle, the sample's number, the sample, the
 --                                 unit's number
-use Prim.Native.Nat.{ℕ, _≤_, _<_}
+--   NamesRefused b s room m p     the naming list: the bundle, the sample's number, the room
+--   AuditRefused b room m p       the audit: the bundle, the room
+use Prim.Native.Nat.{ℕ, _*_, _≤_, _<_}
 use mathlib.Core.Path.{_≡_}
 use mathlib.Core.List.{List, [], _∷_}
 use mathlib.Core.Logic.{_⊎_}
 use lib.ListN.{length}
 use Rattle.words.specs.Refusals.{refused, ok}
 use Rattle.words.specs.Lists.{_∈_, each}
+use Rattle.units.specs.Units.{Sample, type}
+use Rattle.units.specs.Aggregators.{units}
+use Rattle.samples.specs.Check.{check}
 use Rattle.bundles.specs.Recordings.{Recording, sampleCount, contentOf}
 use Rattle.bundles.specs.Readers.{firstLayout}
-use Rattle.resolution_rules.specs.Resolving.{Span, judged}
+use Rattle.resolution_rules.specs.Resolving.{sampleOf, Span, judged}
+use Rattle.naming_list_rules.specs.Naming.{namingList}
+use Rattle.promise_rules.specs.Samples.{Formed, Given}
 use Rattle.promise_rules.specs.Bundles.{BundleOf}
-use Rattle.promise_rules.specs.Resolving.{GoodSample, Resolved, afterLength}
+use Rattle.promise_rules.specs.Resolving.{Extraction, GoodSample, Resolved, afterLength}
 
 pub record BundleRefused (b : List ℕ) (m p : ℕ) : Type 0 where
   pub refuses : firstLayout .means b ≡ refused m p
@@ -24,12 +34,34 @@ pub record BundleRefused (b : List ℕ) (m p : ℕ) : Type 0 where
   pub number : m ∈ (1 ∷ 2 ∷ 3 ∷ 4 ∷ 5 ∷ 6 ∷ 7 ∷ 8 ∷ 9 ∷ 10 ∷ 11 ∷ 12 ∷ 13 ∷ [])
   pub place : p ≤ length b
 
-pub record SampleRefused (r : Recording) (n m p : ℕ) : Type 0 where
-  pub there : (0 < n) × (n ≤ sampleCount (r .layout))
+-- the unit is one of the sample, top-level or included
+pub record FormRefused (x : Sample) (m p : ℕ) : Type 0 where
+  pub refuses : check x ≡ refused m p
+  pub broken : Formed x → ⊥
+  pub number : m ∈ (14 ∷ 15 ∷ 16 ∷ 17 ∷ 18 ∷ 19 ∷ 20 ∷ 21 ∷ 22 ∷ [])
+  pub unit : p ∈ units x
+  pub place : p < length (x .content)
+
+pub data CheckRefused (kind l : ℕ) (s : List ℕ) : ℕ → ℕ → Type 0 where
+  kind : (kind ≡ 0 → ⊥) → (kind ≡ 1 → ⊥) → CheckRefused kind l s 4 0
+  size : (kind ≡ 0) ⊎ (kind ≡ 1) → (l ∈ (1 ∷ 2 ∷ 4 ∷ []) → ⊥) → CheckRefused kind l s 11 0
+  form : {m p : ℕ} (x : Sample) → Given kind l s x → FormRefused x m p → CheckRefused kind l s m p
+
+-- every extractor before it names a sample and copies units of it, by the rules
+pub record ExtractorRefused (r : Recording) (n m p : ℕ) : Type 0 where
   pub refuses : judged r n ≡ refused m p
-  pub broken : GoodSample r n → ⊥
-  pub number : m ∈ (14 ∷ 15 ∷ 16 ∷ 17 ∷ 18 ∷ 19 ∷ 20 ∷ 21 ∷ 22 ∷ 23 ∷ 24 ∷ 25 ∷ 26 ∷ 27 ∷ 28 ∷ [])
+  pub formed : Formed (sampleOf r n)
+  pub number : m ∈ (23 ∷ 24 ∷ 25 ∷ 26 ∷ 27 ∷ 28 ∷ [])
+  pub unit : p ∈ units (sampleOf r n)
+  pub extractor : type (sampleOf r n) p ≡ 31
   pub place : p < length (contentOf r n)
+  pub broken : (k : ℕ) (qs : List ℕ) → Extraction r n p k qs → ⊥
+  pub earlier :
+      (q : ℕ) → q ∈ units (sampleOf r n) → type (sampleOf r n) q ≡ 31 → q < p → (k : ℕ) × (qs : List ℕ) × Extraction r n q k qs
+
+pub data SampleRefused (r : Recording) (n m p : ℕ) : Type 0 where
+  form : 0 < n → n ≤ sampleCount (r .layout) → FormRefused (sampleOf r n) m p → SampleRefused r n m p
+  extractor : 0 < n → n ≤ sampleCount (r .layout) → ExtractorRefused r n m p → SampleRefused r n m p
 
 pub data ResolveRefused (b : List ℕ) (n room : ℕ) : ℕ → ℕ → Type 0 where
   bundle : {m p : ℕ} → BundleRefused b m p → ResolveRefused b n room m p
@@ -46,3 +78,16 @@ pub data UnitRefused (b : List ℕ) (n k : ℕ) : ℕ → ℕ → Type 0 where
   unit :
       (r : Recording) (us : List Span) → firstLayout .means b ≡ ok r → Resolved r n us → (k ≡ 0) ⊎ (length us < k) →
       UnitRefused b n k 30 0
+
+-- never 14 to 28: 6 bytes an extractor of the list
+pub data NamesRefused (b : List ℕ) (s room : ℕ) : ℕ → ℕ → Type 0 where
+  bundle : {m p : ℕ} → BundleRefused b m p → NamesRefused b s room m p
+  number : (r : Recording) → firstLayout .means b ≡ ok r → (s ≡ 0) ⊎ (sampleCount (r .layout) < s) → NamesRefused b s room 30 0
+  room :
+      (r : Recording) → firstLayout .means b ≡ ok r → 0 < s → s ≤ sampleCount (r .layout) → room < length (namingList r s) * 6 →
+      NamesRefused b s room 29 0
+
+-- never 14 to 28: 13 bytes a sample
+pub data AuditRefused (b : List ℕ) (room : ℕ) : ℕ → ℕ → Type 0 where
+  bundle : {m p : ℕ} → BundleRefused b m p → AuditRefused b room m p
+  room : (r : Recording) → firstLayout .means b ≡ ok r → room < 13 * sampleCount (r .layout) → AuditRefused b room 29 0

@@ -5,13 +5,15 @@
 --   BorderAt x q     q is the start of a top-level unit, or the end of the sample
 --   IncludedAt x e q the unit at q may be included in an aggregator that ends at e
 --   Formed x         the sample is well formed
+--   Given k l s x    x is what a call outside a bundle is given: a kind, 0 for AVC or 1 for SVC; L, 1, 2 or 4; the bytes
 use Prim.Native.Nat.{ℕ, _+_, _*_, _≤_, _<_}
 use mathlib.Core.Path.{_≡_}
 use mathlib.Core.List.{List, [], _∷_}
 use mathlib.Core.Logic.{_⊎_}
 use lib.ListN.{length}
 use Rattle.words.specs.Lists.{_∈_}
-use Rattle.numbers.specs.declared.Kind.the-variants.{Avc}
+use Rattle.numbers.specs.Sizes.{inBytes}
+use Rattle.numbers.specs.declared.Kind.the-variants.{Avc, Svc}
 use Rattle.units.specs.Units.{Sample, L, size, firstByte, type, next, topUnits}
 use Rattle.units.specs.Aggregators.{included, additionalBytes}
 
@@ -46,3 +48,8 @@ module _ (x : Sample) where
         type x q ≡ 30 → ⊥
     -- 22
     pub extractors : (p : ℕ) → p ∈ topUnits x → type x p ≡ 31 → size x p ≡ 6 + 2 * L x
+
+pub record Given (k l : ℕ) (s : List ℕ) (x : Sample) : Type 0 where
+  pub kind : ((k ≡ 0) × (x .kind ≡ Avc)) ⊎ ((k ≡ 1) × (x .kind ≡ Svc))
+  pub size : inBytes (x .lengthSize) ≡ l
+  pub content : x .content ≡ s

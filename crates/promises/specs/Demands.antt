@@ -26,7 +26,6 @@ use Rattle.words.specs.Lists.{_∈_, keep, nth, each}
 use Rattle.words.specs.Bytes.{Bytes, big, splice}
 use Rattle.words.specs.Buffers.{Wrote}
 use Rattle.words.proofs.Buffers as buffers
-use Rattle.words.proofs.Lists.{Rising}
 use Rattle.record_rules.specs.Read.{readRecord}
 use Rattle.record_rules.specs.declared.Fields.{Fields}
 use Rattle.record_writer.specs.Write.{writeRecord}
@@ -35,8 +34,6 @@ use Rattle.record_writer.proofs.Promise as records
 use Rattle.units.specs.Units.{Sample, L, type, next, topUnits}
 use Rattle.units.specs.Aggregators.{additionalBytes}
 use Rattle.samples.specs.Check.{check, checkAlone}
-use Rattle.samples.specs.Rules.{AloneRefusal}
-use Rattle.samples.proofs.Laws as samples
 use Rattle.bundles.specs.Recordings.{Recording, sampleCount, contentOf, replaced}
 use Rattle.bundles.specs.Bundles.{bundleVerdict}
 use Rattle.bundles.specs.Readers.{firstLayout}
@@ -44,24 +41,29 @@ use Rattle.resolution_rules.specs.Resolving.{sampleOf, Span, judged}
 use Rattle.resolution_rules.specs.Calls.{noSpan, resolveCall, unitCall, placeCall}
 use Rattle.resolution_rules.proofs.Readers.{firstLayout-sound}
 use Rattle.naming_list_rules.specs.Naming.{namer, namingList, listBytes, namesCall}
-use Rattle.naming_list_rules.specs.Rules.{Before, timesListed, Unlisted, NamesRefuses, SameAnswer}
+use Rattle.naming_list_rules.specs.Rules.{timesListed, Unlisted, SameAnswer}
 use Rattle.naming_list_rules.proofs.Promises as naming
 use Rattle.tally.specs.declared.Tally.{Tally}
 use Rattle.audit_rules.specs.Auditing.{auditCall, tallyCall}
-use Rattle.audit_rules.specs.Rules.{AuditRefuses}
-use Rattle.audit_rules.proofs.Promises as auditing
 use Rattle.promise_rules.specs.Records.{RecordOf, WriteRefused, ReadRefused}
-use Rattle.promise_rules.specs.Samples.{Formed}
+use Rattle.promise_rules.specs.Samples.{Formed, Given}
 use Rattle.promise_rules.specs.Bundles.{BundleOf, Means}
 use Rattle.promise_rules.specs.Resolving.{NamesIt, GoodSample, Resolved, afterLength, StandsAt}
 use Rattle.promise_rules.specs.Audits.{SampleSays, TallyOf}
-use Rattle.promise_rules.specs.Refused.{BundleRefused, ResolveRefused, UnitRefused}
+use Rattle.promise_rules.specs.Refused.{BundleRefused, CheckRefused, ResolveRefused, UnitRefused, NamesRefused, AuditRefused}
 use Rattle.promise_rules.proofs.RecordLaws as recordLaws
 use Rattle.promise_rules.proofs.SampleLaws as sampleLaws
 use Rattle.promise_rules.proofs.BundleLaws as bundleLaws
 use Rattle.promise_rules.proofs.CallLaws as callLaws
 use Rattle.promise_rules.proofs.AuditLaws as auditLaws
 use Rattle.promise_rules.proofs.RefusedLaws as refusedLaws
+use Rattle.promise_rules.proofs.CheckLaws as checkLaws
+use Rattle.promise_rules.proofs.OtherLaws as otherLaws
+use Rattle.bundles.specs.References.{lengthSizeOn}
+use Rattle.resolution_rules.specs.Calls.{unitPart}
+use Rattle.promise_rules.specs.Bundles.{TrackAt, trackPlaces}
+use Rattle.promise_rules.specs.Units.{FieldsAt, UnitsOf, SampleMeans, PlacedAt}
+use Rattle.promise_rules.proofs.UnitLaws as unitLaws
 
 -- Demand 1.
 -- That every entry takes any bytes and ends is what `rt check` proves of the code: no public function requires anything. Its
@@ -86,39 +88,43 @@ pub write-refused :
     ↔ WriteRefused kind f sequences pictures extensions room n p
 write-refused = recordLaws.write-refused-exactly
 
--- samples checked: 4 or 11 at 0, or 14 to 22 at a place in the sample
-pub check-refused : (kind l : ℕ) (s : List ℕ) (n p : ℕ) → checkAlone kind l s ≡ refused n p → AloneRefusal s n p
-check-refused = samples.alone-refusals
+-- samples checked: 4 or 11 at 0, or 14 to 22 at the length field of a unit, exactly if ..
+pub check-refused :
+    (kind l : ℕ) (s : List ℕ) (n p : ℕ) → (checkAlone kind l s ≡ refused n p) ↔ CheckRefused kind l s n p
+check-refused = checkLaws.check-refused
 
 -- bundles checked: 1 to 13 at a place in the bundle or at its end
 pub bundle-refused : (b : List ℕ) → Bytes b → {m p : ℕ} → firstLayout .means b ≡ refused m p → BundleRefused b m p
 bundle-refused = refusedLaws.bundle-refused
 
--- samples resolved: 1 to 13 of the bundle, 30 at 0, 14 to 28 at a place in the sample, 29 at 0
+-- samples resolved: 1 to 13 of the bundle; 30 at 0; 14 to 22 at a unit of the sample, 23 to 28 at an extractor; 29 at 0
 pub resolve-refused :
-    (b : List ℕ) → Bytes b → (n room m p : ℕ) → resolveCall firstLayout b n room ≡ refused m p → ResolveRefused b n room m p
+    (b : List ℕ) → Bytes b → (n room m p : ℕ) →
+    (resolveCall firstLayout b n room ≡ refused m p) ↔ ResolveRefused b n room m p
 resolve-refused = refusedLaws.resolve-refused
 
 -- one delivered unit, and where in the bundle it stands: the same, but 30 for the unit's number and no 29
-pub unit-refused : (b : List ℕ) → Bytes b → (n k m p : ℕ) → unitCall firstLayout b n k ≡ refused m p → UnitRefused b n k m p
+pub unit-refused :
+    (b : List ℕ) → Bytes b → (n k m p : ℕ) → (unitCall firstLayout b n k ≡ refused m p) ↔ UnitRefused b n k m p
 unit-refused = refusedLaws.unit-refused
 
-pub place-refused : (b : List ℕ) → Bytes b → (n k m p : ℕ) → placeCall firstLayout b n k ≡ refused m p → UnitRefused b n k m p
+pub place-refused :
+    (b : List ℕ) → Bytes b → (n k m p : ℕ) → (placeCall firstLayout b n k ≡ refused m p) ↔ UnitRefused b n k m p
 place-refused = refusedLaws.place-refused
 
--- the naming list: 1 to 13 of the bundle, 30 at 0, 29 at 0, exactly if ..
+-- the naming list: 1 to 13 of the bundle, 30 at 0, 29 at 0
 pub names-refused :
-    (b : List ℕ) (s room m p : ℕ) → (namesCall firstLayout b s room ≡ refused m p) ↔ NamesRefuses firstLayout b s room m p
-names-refused = naming.names-refused-exactly firstLayout
+    (b : List ℕ) → Bytes b → (s room m p : ℕ) → (namesCall firstLayout b s room ≡ refused m p) ↔ NamesRefused b s room m p
+names-refused = refusedLaws.names-refused
 
--- the audit: 1 to 13 of the bundle, or 29 at 0, exactly if ..; for the lines and the tally alike
+-- the audit: 1 to 13 of the bundle, or 29 at 0; for the lines and the tally alike
 pub audit-refused :
-    (b : List ℕ) (room m p : ℕ) → (auditCall firstLayout b room ≡ refused m p) ↔ AuditRefuses firstLayout b room m p
-audit-refused = auditing.audit-refused-exactly firstLayout
+    (b : List ℕ) → Bytes b → (room m p : ℕ) → (auditCall firstLayout b room ≡ refused m p) ↔ AuditRefused b room m p
+audit-refused = refusedLaws.audit-refused
 
 pub tally-refused :
-    (b : List ℕ) (room m p : ℕ) → (auditCall firstLayout b room ≡ refused m p) ↔ (tallyCall firstLayout b room ≡ refused m p)
-tally-refused = auditing.refused-alike firstLayout
+    (b : List ℕ) → Bytes b → (room m p : ℕ) → (tallyCall firstLayout b room ≡ refused m p) ↔ AuditRefused b room m p
+tally-refused = refusedLaws.tally-refused
 
 -- after a refusal: `write`, `resolve`, `names` and `audit` promise `Wrote`
 pub refusal-leaves :
@@ -158,6 +164,10 @@ reads-back = records.reads-back
 pub formed-exactly : (x : Sample) → (check x ≡ ok tt) ↔ Formed x
 formed-exactly = sampleLaws.formed-exactly
 
+pub check-exactly :
+    (kind l : ℕ) (s : List ℕ) → (checkAlone kind l s ≡ ok tt) ↔ ((x : Sample) × Given kind l s x × Formed x)
+check-exactly = checkLaws.check-exactly
+
 -- Bundles: accepted exactly if the rules of the four sections hold; and then the recording is what the sections say
 pub bundle-exactly : (b : List ℕ) → Bytes b → (bundleVerdict b ≡ ok tt) ↔ BundleOf b
 bundle-exactly = bundleLaws.accepted-exactly-if
@@ -167,6 +177,37 @@ bundle-means = bundleLaws.means-exactly
 
 pub bundle-read : (b : List ℕ) → Bytes b → BundleOf b → (r : Recording) × (firstLayout .means b ≡ ok r)
 bundle-read = bundleLaws.one-meaning
+
+-- Units and samples, in bytes and numbers: the fields of the unit at p; the units of a well-formed sample are all of it, in order
+pub fields-at : (x : Sample) (p : ℕ) → FieldsAt x p
+fields-at = unitLaws.fields-at
+
+pub units-of : (x : Sample) → Formed x → UnitsOf x
+units-of = unitLaws.units-of
+
+-- the check of a bundle refuses as above; L of a track, which references compare, is that of its record
+pub verdict-refused : (b : List ℕ) → Bytes b → (m p : ℕ) → (bundleVerdict b ≡ refused m p) ↔ BundleRefused b m p
+verdict-refused = unitLaws.verdict-refused
+
+pub track-size :
+    (b : List ℕ) → Bytes b → (k : ℕ) → 0 < k → k ≤ big b 0 1 → (t : TrackAt b (nth (trackPlaces b) k 0)) →
+    lengthSizeOn b k ≡ t .fields .«length_size»
+track-size = unitLaws.track-size
+
+-- nothing is lent for a unit where the call for it is refused
+pub unit-none : (b : List ℕ) (m p : ℕ) → unitPart firstLayout b (refused m p) ≡ []
+unit-none b m p = refl
+
+-- of a bundle b that is accepted and means r: what sample n is; where a unit stands, and its bytes; 6 bytes an entry of a list
+module _ (b : List ℕ) (bytes : Bytes b) (r : Recording) (accepted : firstLayout .means b ≡ ok r) where
+  pub sample-means : (n : ℕ) → 0 < n → n ≤ sampleCount (r .layout) → SampleMeans b r n
+  sample-means = unitLaws.sample-means b bytes r accepted
+
+  pub unit-placed : (n k : ℕ) (us : List Span) → Resolved r n us → 0 < k → k ≤ length us → PlacedAt b r n k (nth us k noSpan)
+  unit-placed = unitLaws.unit-placed b bytes r accepted
+
+pub six-each : (r : Recording) (s : ℕ) → length (listBytes (namingList r s)) ≡ length (namingList r s) * 6
+six-each = naming.six-bytes
 
 -- Resolving and the audit, of a bundle b that is accepted and means r
 module _ (b : List ℕ) (bytes : Bytes b) (r : Recording) (accepted : firstLayout .means b ≡ ok r) where
@@ -246,9 +287,13 @@ module _ (b : List ℕ) (bytes : Bytes b) (r : Recording) (accepted : firstLayou
     pub listed-once : (n p : ℕ) → NamesIt r s n p → timesListed r s n p ≡ 1
     listed-once = callLaws.listed-once b bytes r accepted s
 
-    -- in order: by sample, then place
-    pub listed-in-order : Rising Before (namingList r s)
-    listed-in-order = naming.listed-in-order r s
+    -- in order: entry i, from 0 on, stands before every later one, j, by sample, then place
+    pub listed-in-order :
+        (i j : ℕ) → i < j → j < length (namingList r s) →
+        (getD (namingList r s) i (namer 0 0) .sample < getD (namingList r s) j (namer 0 0) .sample)
+        ⊎ ((getD (namingList r s) i (namer 0 0) .sample ≡ getD (namingList r s) j (namer 0 0) .sample)
+        × (getD (namingList r s) i (namer 0 0) .place < getD (namingList r s) j (namer 0 0) .place))
+    listed-in-order = callLaws.listed-in-order r s
 
     -- nothing is cut: the number and the place of entry i, from 0 on, are read from 2 and 4 bytes at 6 i
     pub list-read-back :
@@ -288,6 +333,10 @@ module _ (b : List ℕ) (bytes : Bytes b) (r : Recording) (accepted : firstLayou
         -- the call for one of its units
         pub others-unit : (k : ℕ) → unitCall firstLayout after n k ≡ unitCall firstLayout b n k
         others-unit = auditLaws.others-unit b r accepted s some there new equal-length n other unlisted-before
+
+        -- the call for where one of them stands: at the same place
+        pub others-place : (k : ℕ) → placeCall firstLayout after n k ≡ placeCall firstLayout b n k
+        others-place = otherLaws.others-place b r accepted s some there new equal-length n other unlisted-before
 
         -- its line in two audits with room: every number in it
         pub others-line :

@@ -1,0 +1,72 @@
+-- The proofs of what Demands says of where a unit stands after another sample's bytes are replaced. The idea: where a sample
+-- starts follows from the length of the bundle and the lengths of the samples, which are kept. Assumes nothing.
+use Prim.Native.Nat.{ℕ, zero, suc, _+_, _-_, _≤_, _<_}
+use mathlib.Core.Path.{_≡_, refl, ap, ap₂, sym, _∙_}
+use mathlib.Core.List.{List, [], _∷_, map}
+use native.Mathlib.Omega.{arith}
+use lib.ListN.{length, getD, take, set}
+use Rattle.words.specs.Refusals.{Answer, refused, ok}
+use Rattle.words.specs.Lists.{nth, sum}
+use Rattle.words.specs.Bytes.{splice}
+use Rattle.words.proofs.Splices.{splice-length}
+use Rattle.bundles.specs.Recordings.{Recording, sampleCount, contentOf, setNth, replaced}
+use Rattle.bundles.specs.Readers.{firstLayout}
+use Rattle.bundles.specs.Samples.{lengths}
+use Rattle.bundles.specs.Bundles.{contentsAt, contentAt}
+use Rattle.bundles.proofs.Promises.{means, samples-tile}
+use Rattle.bundles.proofs.Sections as sections
+use Rattle.resolution_rules.specs.Resolving.{Span}
+use Rattle.resolution_rules.specs.Calls.{placedBy, unitCall, placeCall}
+use Rattle.resolution_rules.proofs.Readers.{firstLayout-sound}
+use Rattle.naming_list_rules.specs.Rules.{Unlisted}
+use Rattle.promise_rules.proofs.AuditLaws.{others-unit}
+
+set-lengths : (cs : List (List ℕ)) (n : ℕ) (new : List ℕ) → length new ≡ length (getD cs n []) → map (λ c. length c) (set cs n new) ≡ map (λ c. length c) cs
+set-lengths [] n new e = refl
+set-lengths (c ∷ cs) zero new e = ap (λ (k : ℕ). k ∷ map (λ d. length d) cs) e
+set-lengths (c ∷ cs) (suc n) new e = ap (λ ks. length c ∷ ks) (set-lengths cs n new e)
+
+nth-lengths : (cs : List (List ℕ)) (n : ℕ) (new : List ℕ) → length new ≡ length (nth cs n []) → map (λ c. length c) (setNth cs n new) ≡ map (λ c. length c) cs
+unfolding nth
+nth-lengths cs zero new e = refl
+nth-lengths cs (suc n) new e = set-lengths cs n new e
+
+replaced-lengths : (r : Recording) (s : ℕ) (new : List ℕ) → length new ≡ length (contentOf r s) → map (λ c. length c) (replaced r s new .contents) ≡ map (λ c. length c) (r .contents)
+unfolding replaced
+replaced-lengths r s new e = nth-lengths (r .contents) s new e
+
+contents-end : (b : List ℕ) (r : Recording) → firstLayout .means b ≡ ok r → contentsAt b + sum (lengths b) ≡ length b
+contents-end b r e = sections.accepted b (means b e .0) .bytes .end
+
+-- two accepted bundles of the same length, with samples of the same lengths
+starts-same :
+    (b c : List ℕ) (r q : Recording) → firstLayout .means b ≡ ok r → firstLayout .means c ≡ ok q → length c ≡ length b →
+    map (λ d. length d) (q .contents) ≡ map (λ d. length d) (r .contents) → (m : ℕ) → contentAt c m ≡ contentAt b m
+unfolding contentAt
+starts-same b c r q e f l k m =
+    let same : lengths c ≡ lengths b = sym (samples-tile c q f .contentLengths) ∙ k ∙ samples-tile b r e .contentLengths in
+    let x = contents-end b r e in
+    let y = contents-end c q f in
+    let z : sum (lengths c) ≡ sum (lengths b) = ap sum same in
+    let start : contentsAt c ≡ contentsAt b = omega arith in
+    ap₂ _+_ start (ap (λ ns. sum (take (m - 1) ns)) same)
+
+module _ (b : List ℕ) (r : Recording) (accepted : firstLayout .means b ≡ ok r) (s : ℕ) (some : 0 < s) (there : s ≤ sampleCount (r .layout)) (new : List ℕ) (equal-length : length new ≡ length (contentOf r s)) where
+  abbrev after : List ℕ
+  after = splice b (firstLayout .contentAt b s) new
+
+  pub starts-kept : (m : ℕ) → firstLayout .contentAt after m ≡ firstLayout .contentAt b m
+  starts-kept m =
+      let i = firstLayout-sound .inside b r s accepted some there in
+      starts-same b after r (replaced r s new) accepted (firstLayout-sound .replacing b r s new accepted some there equal-length)
+      (splice-length b (firstLayout .contentAt b s) new (omega arith)) (replaced-lengths r s new equal-length) m
+
+  placed-same : (a : Answer Span) → placedBy (firstLayout .contentAt after) a ≡ placedBy (firstLayout .contentAt b) a
+  placed-same (refused m p) = refl
+  placed-same (ok u) = ap (λ (k : ℕ). ok (record { start = k + u .start; size = u .size })) (starts-kept (u .sample))
+
+  pub others-place : (n : ℕ) → (n ≡ s → ⊥) → Unlisted r s n → (k : ℕ) → placeCall firstLayout after n k ≡ placeCall firstLayout b n k
+  unfolding placeCall
+  others-place n other unlisted k =
+      placed-same (unitCall firstLayout after n k)
+      ∙ ap (placedBy (firstLayout .contentAt b)) (others-unit b r accepted s some there new equal-length n other unlisted k)
