@@ -8,3 +8,4 @@ pub mod AuditLaws
 pub mod RefusedLaws
 pub mod CheckLaws
 pub mod OtherLaws
+pub mod ReturnLaws

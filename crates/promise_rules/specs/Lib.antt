@@ -2,9 +2,11 @@
 --
 --   Records, Samples, Bundles, Resolving, Audits    a record, a sample, a bundle, a sample resolved, an audit
 --   Refused     with which number, and where, a call is refused
+--   Returns     which answers the C functions give back
 pub mod Records
 pub mod Samples
 pub mod Bundles
 pub mod Resolving
 pub mod Audits
 pub mod Refused
+pub mod Returns

@@ -20,17 +20,18 @@ use mathlib.Core.List.{List, [], _∷_, _++_}
 use mathlib.Core.Logic.{_⊎_, _↔_}
 use lib.ListN.{length, getD, drop}
 use Rattle.words.specs.RefusalNumbers.{refusalNumbers}
-use Rattle.words.specs.Refusals.{Answer, refused, ok, passed, countOf}
+use Rattle.words.specs.Refusals.{Answer, refused, ok, Verdict, passed, countOf}
 use Rattle.words.specs.Tests.{_≡?_}
 use Rattle.words.specs.Lists.{_∈_, keep, nth, each}
-use Rattle.words.specs.Bytes.{Bytes, big, splice}
-use Rattle.words.specs.Buffers.{Wrote}
+use Rattle.words.specs.Bytes.{Bytes, big, part, splice}
+use Rattle.words.specs.Buffers.{leaves, Wrote}
 use Rattle.words.proofs.Buffers as buffers
 use Rattle.record_rules.specs.Read.{readRecord}
 use Rattle.record_rules.specs.declared.Fields.{Fields}
 use Rattle.record_writer.specs.Write.{writeRecord}
 use Rattle.record_writer.specs.Promise.{Holds}
 use Rattle.record_writer.proofs.Promise as records
+use Rattle.record_numbers.specs.Numbers.{readNumbers, writeNumbers}
 use Rattle.units.specs.Units.{Sample, L, type, next, topUnits}
 use Rattle.units.specs.Aggregators.{additionalBytes}
 use Rattle.samples.specs.Check.{check, checkAlone}
@@ -45,12 +46,14 @@ use Rattle.naming_list_rules.specs.Rules.{timesListed, Unlisted, SameAnswer}
 use Rattle.naming_list_rules.proofs.Promises as naming
 use Rattle.tally.specs.declared.Tally.{Tally}
 use Rattle.audit_rules.specs.Auditing.{auditCall, tallyCall}
+use Rattle.puddockle.specs.Returns.{Returned, ReturnedOutput, ReturnedPart, ReturnedTally}
 use Rattle.promise_rules.specs.Records.{RecordOf, WriteRefused, ReadRefused}
 use Rattle.promise_rules.specs.Samples.{Formed, Given}
 use Rattle.promise_rules.specs.Bundles.{BundleOf, Means}
 use Rattle.promise_rules.specs.Resolving.{NamesIt, GoodSample, Resolved, afterLength, StandsAt}
 use Rattle.promise_rules.specs.Audits.{SampleSays, TallyOf}
 use Rattle.promise_rules.specs.Refused.{BundleRefused, CheckRefused, ResolveRefused, UnitRefused, NamesRefused, AuditRefused}
+use Rattle.promise_rules.specs.Returns.{OutputAnswer, VerdictAnswer}
 use Rattle.promise_rules.proofs.RecordLaws as recordLaws
 use Rattle.promise_rules.proofs.SampleLaws as sampleLaws
 use Rattle.promise_rules.proofs.BundleLaws as bundleLaws
@@ -58,6 +61,7 @@ use Rattle.promise_rules.proofs.CallLaws as callLaws
 use Rattle.promise_rules.proofs.AuditLaws as auditLaws
 use Rattle.promise_rules.proofs.RefusedLaws as refusedLaws
 use Rattle.promise_rules.proofs.CheckLaws as checkLaws
+use Rattle.promise_rules.proofs.ReturnLaws as returnLaws
 use Rattle.promise_rules.proofs.OtherLaws as otherLaws
 
 -- Demand 1.
@@ -127,6 +131,41 @@ pub refusal-leaves :
     (countOf a ≡ 0) × (out₁ ≡ out)
 refusal-leaves = buffers.refused-leaves
 
+-- The C functions. One with an output buffer o returned n, set place to p and count to c, and left o' in the buffer
+pub c-output :
+    {a : Answer (List ℕ)} → OutputAnswer a → {n p c : ℕ} {o o' : List ℕ} → ReturnedOutput n p c o o' a →
+    ((n ≡ 0) × (p ≡ 0) × ((out : List ℕ) × (a ≡ ok out) × (c ≡ length out) × (o' ≡ out ++ drop (length out) o)))
+    ⊎ ((n ∈ refusalNumbers) × (a ≡ refused n p) × (c ≡ 0) × (o' ≡ o))
+c-output = returnLaws.output-returned
+
+-- a record read as numbers
+pub c-read :
+    (kind : ℕ) (s : List ℕ) {n p : ℕ} {o o' : List ℕ} →
+    Returned n p (readNumbers kind s (length o)) → o' ≡ leaves o (readNumbers kind s (length o)) →
+    ((n ≡ 0) × (p ≡ 0) × ((ns : List ℕ) × (readNumbers kind s (length o) ≡ ok ns) × (o' ≡ ns ++ drop (length ns) o)))
+    ⊎ ((n ∈ refusalNumbers) × (readNumbers kind s (length o) ≡ refused n p) × (o' ≡ o))
+c-read = returnLaws.read-returned
+
+-- a bundle or a sample checked
+pub c-check :
+    {a : Verdict} → VerdictAnswer a → {n p : ℕ} → Returned n p a →
+    ((n ≡ 0) × (p ≡ 0) × (a ≡ ok tt)) ⊎ ((n ∈ refusalNumbers) × (a ≡ refused n p))
+c-check = returnLaws.verdict-returned
+
+-- where a delivered unit stands; the tally
+pub c-unit :
+    (b : List ℕ) → Bytes b → (sample unit : ℕ) {n p start size : ℕ} →
+    ReturnedPart n p start size (placeCall firstLayout b sample unit) →
+    ((n ≡ 0) × (p ≡ 0) × (placeCall firstLayout b sample unit ≡ ok (record { start = start; size = size })))
+    ⊎ ((n ∈ refusalNumbers) × (placeCall firstLayout b sample unit ≡ refused n p) × (start ≡ 0) × (size ≡ 0))
+c-unit = returnLaws.part-returned
+
+pub c-tally :
+    (b : List ℕ) (room : ℕ) {x y z : ℕ} → ReturnedTally x y z (tallyCall firstLayout b room) →
+    (tallyCall firstLayout b room ≡ ok (record { passed = x; empty = y; refused = z }))
+    ⊎ ((m : ℕ) × (q : ℕ) × (tallyCall firstLayout b room ≡ refused m q) × (x ≡ 0) × (y ≡ 0) × (z ≡ 0))
+c-tally = returnLaws.tally-returned
+
 -- Demand 2. The marked cases of document 01 are in specs/Table.
 -- Records: accepted, with these fields and these sets, exactly if the bytes are what valid fields and sets spell
 pub record-exactly :
@@ -148,6 +187,16 @@ pub writes-back :
     Wrote out out₁ a (writeRecord kind f sequences pictures extensions (length out)) → length s ≤ length out →
     (a ≡ ok (length s)) × (out₁ ≡ s ++ drop (length s) out)
 writes-back = recordLaws.written-back
+
+-- and by the C functions: ns are the numbers read, 6, 9 and 16 of them where the sets start in s, 7, 10 and 17 their lengths
+pub c-writes-back :
+    (kind : ℕ) (s ns : List ℕ) (room : ℕ) → Bytes s → readNumbers kind s room ≡ ok ns →
+    {n p c : ℕ} {o o' : List ℕ} → length s ≤ length o →
+    ReturnedOutput n p c o o'
+    (writeNumbers kind ns (part s (getD ns 6 0) (getD ns 7 0)) (part s (getD ns 9 0) (getD ns 10 0))
+    (part s (getD ns 16 0) (getD ns 17 0)) (length o)) →
+    (n ≡ 0) × (c ≡ length s) × (o' ≡ s ++ drop (length s) o)
+c-writes-back = returnLaws.written-back
 
 -- a record written from valid fields reads back as them
 pub reads-back :
