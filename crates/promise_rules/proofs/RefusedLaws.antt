@@ -174,6 +174,10 @@ module _ (b : List ℕ) (g : Bytes b) where
     λ w. ap (placedBy (firstLayout .contentAt b)) (unit-refused n k m p .1 w),
   )
 
+  pub units-refused :
+      (n k m p : ℕ) → ((unitCall firstLayout b n k ≡ refused m p) ↔ UnitRefused b n k m p) × ((placeCall firstLayout b n k ≡ refused m p) ↔ UnitRefused b n k m p)
+  units-refused n k m p = (unit-refused n k m p, place-refused n k m p)
+
   naming : (s room : ℕ) {m p : ℕ} → NamesRefuses firstLayout b s room m p → NamesRefused b s room m p
   naming s room (NamesRefuses.bundle e) = NamesRefused.bundle (bundle-refused e)
   naming s room (NamesRefuses.number r e h) = NamesRefused.number r e h
@@ -203,3 +207,7 @@ module _ (b : List ℕ) (g : Bytes b) where
   pub tally-refused : (room m p : ℕ) → (tallyCall firstLayout b room ≡ refused m p) ↔ AuditRefused b room m p
   tally-refused room m p =
       let w = tally-refused-exactly firstLayout b room m p in (λ e. auditing room (w .0 e), λ v. w .1 (by-auditing room v))
+
+  pub audits-refused :
+      (room m p : ℕ) → ((auditCall firstLayout b room ≡ refused m p) ↔ AuditRefused b room m p) × ((tallyCall firstLayout b room ≡ refused m p) ↔ AuditRefused b room m p)
+  audits-refused room m p = (audit-refused room m p, tally-refused room m p)

@@ -34,7 +34,7 @@ use Rattle.record_writer.proofs.Promise as records
 use Rattle.record_numbers.specs.Numbers.{readNumbers, writeNumbers}
 use Rattle.units.specs.Units.{Sample, L, type, next, topUnits}
 use Rattle.units.specs.Aggregators.{additionalBytes}
-use Rattle.samples.specs.Check.{check, checkAlone}
+use Rattle.samples.specs.Check.{checkAlone}
 use Rattle.bundles.specs.Recordings.{Recording, sampleCount, contentOf, replaced}
 use Rattle.bundles.specs.Bundles.{bundleVerdict}
 use Rattle.bundles.specs.Readers.{firstLayout}
@@ -55,7 +55,6 @@ use Rattle.promise_rules.specs.Audits.{SampleSays, TallyOf}
 use Rattle.promise_rules.specs.Refused.{BundleRefused, CheckRefused, ResolveRefused, UnitRefused, NamesRefused, AuditRefused}
 use Rattle.promise_rules.specs.Returns.{OutputAnswer, VerdictAnswer}
 use Rattle.promise_rules.proofs.RecordLaws as recordLaws
-use Rattle.promise_rules.proofs.SampleLaws as sampleLaws
 use Rattle.promise_rules.proofs.BundleLaws as bundleLaws
 use Rattle.promise_rules.proofs.CallLaws as callLaws
 use Rattle.promise_rules.proofs.AuditLaws as auditLaws
@@ -69,11 +68,8 @@ use Rattle.promise_rules.proofs.OtherLaws as otherLaws
 -- answer is the definition's that its contract cites. `Bytes b` says that b holds numbers below 256, as every lent slice does.
 -- The numbers of the table:
 pub table-numbers :
-    refusalNumbers
-    ≡ 1 ∷ 2 ∷ 3 ∷ 4 ∷ 5 ∷ 6 ∷ 7 ∷ 8 ∷ 9 ∷ 10 ∷ 11 ∷ 12 ∷ 13
-    ∷ 14 ∷ 15 ∷ 16 ∷ 17 ∷ 18 ∷ 19 ∷ 20 ∷ 21 ∷ 22 ∷ 23 ∷ 24 ∷ 25 ∷ 26 ∷ 27 ∷ 28
-    ∷ 29 ∷ 30 ∷ 31
-    ∷ []
+    refusalNumbers ≡ 1 ∷ 2 ∷ 3 ∷ 4 ∷ 5 ∷ 6 ∷ 7 ∷ 8 ∷ 9 ∷ 10 ∷ 11 ∷ 12 ∷ 13 ∷ 14 ∷ 15 ∷ 16
+    ∷ 17 ∷ 18 ∷ 19 ∷ 20 ∷ 21 ∷ 22 ∷ 23 ∷ 24 ∷ 25 ∷ 26 ∷ 27 ∷ 28 ∷ 29 ∷ 30 ∷ 31 ∷ []
 table-numbers = refl
 
 -- records read: 4 or 8 to 13, at 0, and only what is no record
@@ -104,12 +100,10 @@ resolve-refused = refusedLaws.resolve-refused
 
 -- one delivered unit, and where in the bundle it stands: the same, but 30 for the unit's number and no 29
 pub unit-refused :
-    (b : List ℕ) → Bytes b → (n k m p : ℕ) → (unitCall firstLayout b n k ≡ refused m p) ↔ UnitRefused b n k m p
-unit-refused = refusedLaws.unit-refused
-
-pub place-refused :
-    (b : List ℕ) → Bytes b → (n k m p : ℕ) → (placeCall firstLayout b n k ≡ refused m p) ↔ UnitRefused b n k m p
-place-refused = refusedLaws.place-refused
+    (b : List ℕ) → Bytes b → (n k m p : ℕ) →
+    ((unitCall firstLayout b n k ≡ refused m p) ↔ UnitRefused b n k m p)
+    × ((placeCall firstLayout b n k ≡ refused m p) ↔ UnitRefused b n k m p)
+unit-refused = refusedLaws.units-refused
 
 -- the naming list: 1 to 13 of the bundle, 30 at 0, 29 at 0
 pub names-refused :
@@ -118,12 +112,10 @@ names-refused = refusedLaws.names-refused
 
 -- the audit: 1 to 13 of the bundle, or 29 at 0; for the lines and the tally alike
 pub audit-refused :
-    (b : List ℕ) → Bytes b → (room m p : ℕ) → (auditCall firstLayout b room ≡ refused m p) ↔ AuditRefused b room m p
-audit-refused = refusedLaws.audit-refused
-
-pub tally-refused :
-    (b : List ℕ) → Bytes b → (room m p : ℕ) → (tallyCall firstLayout b room ≡ refused m p) ↔ AuditRefused b room m p
-tally-refused = refusedLaws.tally-refused
+    (b : List ℕ) → Bytes b → (room m p : ℕ) →
+    ((auditCall firstLayout b room ≡ refused m p) ↔ AuditRefused b room m p)
+    × ((tallyCall firstLayout b room ≡ refused m p) ↔ AuditRefused b room m p)
+audit-refused = refusedLaws.audits-refused
 
 -- after a refusal: `write`, `resolve`, `names` and `audit` promise `Wrote`
 pub refusal-leaves :
@@ -191,8 +183,7 @@ writes-back = recordLaws.written-back
 -- and by the C functions: ns are the numbers read, 6, 9 and 16 of them where the sets start in s, 7, 10 and 17 their lengths
 pub c-writes-back :
     (kind : ℕ) (s ns : List ℕ) (room : ℕ) → Bytes s → readNumbers kind s room ≡ ok ns →
-    {n p c : ℕ} {o o' : List ℕ} → length s ≤ length o →
-    ReturnedOutput n p c o o'
+    {n p c : ℕ} {o o' : List ℕ} → length s ≤ length o → ReturnedOutput n p c o o'
     (writeNumbers kind ns (part s (getD ns 6 0) (getD ns 7 0)) (part s (getD ns 9 0) (getD ns 10 0))
     (part s (getD ns 16 0) (getD ns 17 0)) (length o)) →
     (n ≡ 0) × (c ≡ length s) × (o' ≡ s ++ drop (length s) o)
@@ -204,10 +195,7 @@ pub reads-back :
     writeRecord kind f sequences pictures extensions room ≡ ok s → Holds kind s f sequences pictures extensions
 reads-back = records.reads-back
 
--- Samples: well formed exactly if every unit's rules hold
-pub formed-exactly : (x : Sample) → (check x ≡ ok tt) ↔ Formed x
-formed-exactly = sampleLaws.formed-exactly
-
+-- Samples: of the kind and L given, well formed exactly if every unit's rules hold
 pub check-exactly :
     (kind l : ℕ) (s : List ℕ) → (checkAlone kind l s ≡ ok tt) ↔ ((x : Sample) × Given kind l s x × Formed x)
 check-exactly = checkLaws.check-exactly
