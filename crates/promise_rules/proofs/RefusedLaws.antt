@@ -21,6 +21,7 @@ use Rattle.samples.specs.Check.{check, topVerdict, contentVerdict}
 use Rattle.samples.proofs.Laws.{check-refusals}
 use Rattle.samples.proofs.Walks.{topJudge, includedJudge, content-included, content-cover, content-other}
 use Rattle.bundles.specs.Recordings.{Recording, sampleCount, contentOf}
+use Rattle.bundles.specs.Bundles.{bundleVerdict, meaning}
 use Rattle.bundles.specs.Readers.{firstLayout}
 use Rattle.resolution_rules.specs.Resolving.{sampleOf, Span, own, extractFault, judged, delivered}
 use Rattle.resolution_rules.specs.Calls.{placedBy, output, written, resolveCall, unitCall, placeCall}
@@ -77,6 +78,19 @@ module _ (b : List ℕ) (g : Bytes b) where
   bundle-refused {m} {p} e =
       let w = firstLayout-sound .refusal b m p e in
       record { refuses = e; broken = λ rules. ok-refused (sym e ∙ one-meaning b g rules .1); number = w .0; place = w .1 }
+
+  verdict-means : {m p : ℕ} → bundleVerdict b ≡ refused m p → firstLayout .means b ≡ refused m p
+  unfolding meaning
+  verdict-means e = rw e
+
+  means-verdict : {m p : ℕ} → firstLayout .means b ≡ refused m p → bundleVerdict b ≡ refused m p
+  unfolding meaning
+  means-verdict {m} {p} e = by-verdict (bundleVerdict b)
+      (λ n q v. let s : n ≡ m = refused-same (rw v at e) .0 in let t : q ≡ p = refused-same (rw v at e) .1 in v ∙ rw (s, t))
+      (λ v. ok-refused (sym (rw v at e)))
+
+  pub check-refused : (m p : ℕ) → (bundleVerdict b ≡ refused m p) ↔ BundleRefused b m p
+  check-refused m p = (λ e. bundle-refused (verdict-means e), λ w. means-verdict (w .refuses))
 
   module _ (r : Recording) (accepted : firstLayout .means b ≡ ok r) (n : ℕ) (some : 0 < n) (there : n ≤ sampleCount (r .layout)) where
     -- an extractor without 23 to 28, both ways

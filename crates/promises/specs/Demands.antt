@@ -89,8 +89,8 @@ pub check-refused :
 check-refused = checkLaws.check-refused
 
 -- bundles checked: 1 to 13 at a place in the bundle or at its end
-pub bundle-refused : (b : List ℕ) → Bytes b → {m p : ℕ} → firstLayout .means b ≡ refused m p → BundleRefused b m p
-bundle-refused = refusedLaws.bundle-refused
+pub bundle-refused : (b : List ℕ) → Bytes b → (m p : ℕ) → (bundleVerdict b ≡ refused m p) ↔ BundleRefused b m p
+bundle-refused = refusedLaws.check-refused
 
 -- samples resolved: 1 to 13 of the bundle; 30 at 0; 14 to 22 at a unit of the sample, 23 to 28 at an extractor; 29 at 0
 pub resolve-refused :
