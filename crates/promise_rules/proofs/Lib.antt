@@ -5,6 +5,7 @@ pub mod BundleLaws
 pub mod ResolveLaws
 pub mod CallLaws
 pub mod AuditLaws
+pub mod FaultLaws
 pub mod RefusedLaws
 pub mod CheckLaws
 pub mod OtherLaws

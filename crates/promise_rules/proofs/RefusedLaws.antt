@@ -43,6 +43,7 @@ use Rattle.promise_rules.specs.Bundles.{BundleOf}
 use Rattle.promise_rules.proofs.BundleLaws.{one-meaning}
 use Rattle.promise_rules.specs.Resolving.{Extraction, GoodSample, Resolved, afterLength}
 use Rattle.promise_rules.proofs.ResolveLaws.{extraction, extraction-is}
+use Rattle.promise_rules.proofs.FaultLaws.{fault-of}
 use Rattle.promise_rules.proofs.CallLaws.{rise, offset-byte, good-exactly, delivers, delivers-only}
 use Rattle.promise_rules.specs.Refused.{BundleRefused, FormRefused, ExtractorRefused, SampleRefused, ResolveRefused, UnitRefused, NamesRefused, AuditRefused}
 
@@ -105,6 +106,7 @@ module _ (b : List ℕ) (g : Bytes b) where
           refuses = j;
           formed = formed-rules (sampleOf r n) (w .formed);
           number = subst (λ (i : ℕ). i ∈ extractorRefusals) (w .refuses) (none-or-some extractorRefusals (extract-range r n p) (let z = w .refuses in let h = w .some in omega arith));
+          fault = fault-of r (rise b g r accepted) n (offset-byte b g r accepted n some there) p (w .refuses) (w .some);
           unit = k .0;
           extractor = eqb-true _ _ (k .1);
           place = extractor-inside r n (w .formed) p (w .extractor);
