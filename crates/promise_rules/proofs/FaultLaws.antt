@@ -1,9 +1,9 @@
 -- The proofs of what Demands says of an extractor that is refused. Assumes nothing.
-use Prim.Native.Nat.{ℕ, zero, suc, _+_, _≤_, _<_}
-use mathlib.Core.Path.{_≡_, refl, ap, sym, _∙_, subst}
+use Prim.Native.Nat.{ℕ, suc, _≤_, _<_}
+use mathlib.Core.Path.{_≡_, refl, sym, _∙_, subst}
 use mathlib.Core.Bool.{Bool, true, false, not, _&&_}
 use mathlib.Core.List.{List, [], _∷_, List·Memᴰ·head, List·Memᴰ·tail}
-use mathlib.Core.Logic.{_⊎_, inl, inr, ⊎-elim}
+use mathlib.Core.Logic.{_⊎_, inl, inr}
 use native.Mathlib.Omega.{arith}
 use native.Mathlib.Nat.{pos-of-ne-zero}
 use borrow.Author.Tests.{ltb-true, ltb-false, leb-true, lt-ltb, eqb-true, eqb-false, eq-eqb}
@@ -14,7 +14,7 @@ use Rattle.words.specs.Lists.{_∈_, keep, some}
 use Rattle.words.proofs.Tests.{by-bool, by-number, true-false}
 use Rattle.words.proofs.Refusals.{ok-refused, by-verdict}
 use Rattle.words.proofs.Lists.{keep-from, has-from, some-mem}
-use Rattle.units.specs.Units.{Sample, type, isAggregator, isExtractor, topUnits, border}
+use Rattle.units.specs.Units.{Sample, isAggregator, isExtractor, topUnits, border}
 use Rattle.units.specs.Extractors.{trackRefIndex, sampleOffset, dataOffset, dataLength}
 use Rattle.units.specs.Aggregators.{units}
 use Rattle.samples.specs.Check.{check}
@@ -24,8 +24,7 @@ use Rattle.links.specs.Order.{TimesRise}
 use Rattle.links.proofs.Links.{link-good, name-good}
 use Rattle.copies.specs.Copies.{withoutAggregators, copyStarts, copyEnd, copied, borderFault, copyFault}
 use Rattle.resolution_rules.specs.Resolving.{sampleOf, own, named, linked, nameFaultAt, copyFaultAt, extractFault}
-use Rattle.promise_rules.specs.Samples.{BorderAt, Formed}
-use Rattle.promise_rules.specs.Resolving.{NamedBy, CopyEnds}
+use Rattle.promise_rules.specs.Resolving.{NamedBy}
 use Rattle.promise_rules.specs.Refused.{ExtractorFault}
 use Rattle.promise_rules.proofs.SampleLaws.{formed-rules, rules-formed, border-at, at-border}
 use Rattle.promise_rules.proofs.ResolveLaws.{names-by, by-names, copy-ends, copied-between}

@@ -2,7 +2,7 @@
 use Prim.Native.Nat.{ℕ, _≤_, _<_}
 use mathlib.Core.Path.{_≡_, refl, ap, sym, _∙_, subst}
 use mathlib.Core.List.{List}
-use mathlib.Core.Logic.{_⊎_, inl, inr, ⊎-elim, _↔_}
+use mathlib.Core.Logic.{_⊎_, inl, ⊎-elim, _↔_}
 use native.Mathlib.Omega.{arith}
 use borrow.Author.Tests.{eqb-true, eq-eqb}
 use lib.ListN.{length}
@@ -20,7 +20,7 @@ use Rattle.units.proofs.Walks.{units-top, units-included}
 use Rattle.samples.specs.Check.{check, topVerdict, contentVerdict}
 use Rattle.samples.proofs.Laws.{check-refusals}
 use Rattle.samples.proofs.Walks.{topJudge, includedJudge, content-included, content-cover, content-other}
-use Rattle.bundles.specs.Recordings.{Recording, sampleCount, contentOf}
+use Rattle.bundles.specs.Recordings.{Recording, sampleCount}
 use Rattle.bundles.specs.Bundles.{bundleVerdict, meaning}
 use Rattle.bundles.specs.Readers.{firstLayout}
 use Rattle.resolution_rules.specs.Resolving.{sampleOf, Span, own, extractFault, judged, delivered}
@@ -37,11 +37,9 @@ use Rattle.naming_list_rules.proofs.Promises.{names-refused-exactly}
 use Rattle.audit_rules.specs.Auditing.{auditCall, tallyCall}
 use Rattle.audit_rules.specs.Rules.{AuditRefuses}
 use Rattle.audit_rules.proofs.Promises.{audit-refused-exactly, tally-refused-exactly}
-use Rattle.promise_rules.specs.Samples.{Formed}
 use Rattle.promise_rules.proofs.SampleLaws.{formed-rules, rules-formed}
-use Rattle.promise_rules.specs.Bundles.{BundleOf}
 use Rattle.promise_rules.proofs.BundleLaws.{one-meaning}
-use Rattle.promise_rules.specs.Resolving.{Extraction, GoodSample, Resolved, afterLength}
+use Rattle.promise_rules.specs.Resolving.{Extraction, Resolved, afterLength}
 use Rattle.promise_rules.proofs.ResolveLaws.{extraction, extraction-is}
 use Rattle.promise_rules.proofs.FaultLaws.{fault-of}
 use Rattle.promise_rules.proofs.CallLaws.{rise, offset-byte, good-exactly, delivers, delivers-only}

@@ -1,17 +1,17 @@
 -- The proofs of what Demands says of the C functions. Assumes nothing.
-use Prim.Native.Nat.{ℕ, zero, suc, _≤_, _<_}
-use mathlib.Core.Path.{_≡_, refl, ap, sym, _∙_, subst}
-use mathlib.Core.Bool.{Bool, true, false, not, _||_}
+use Prim.Native.Nat.{ℕ, suc, _≤_}
+use mathlib.Core.Path.{_≡_, refl, sym, _∙_, subst}
+use mathlib.Core.Bool.{true, not, _||_}
 use mathlib.Core.List.{List, [], _∷_, _++_, Memᴰ·append-left, Memᴰ·append-right}
-use mathlib.Core.Logic.{_⊎_, inl, inr, ⊎-elim, _↔_}
+use mathlib.Core.Logic.{_⊎_, inl, inr}
 use native.Mathlib.Omega.{arith}
 use lib.ListN.{length, getD, drop}
 use Rattle.words.specs.Tests.{_<?_, _≡?_}
-use Rattle.words.specs.Refusals.{Answer, refused, ok, numberOf, placeOf, countOf, Verdict}
+use Rattle.words.specs.Refusals.{Answer, refused, ok, Verdict}
 use Rattle.words.specs.RefusalNumbers.{fieldsFitNoRecord, recordRefusals, bundleRefusals, formRefusals, extractorRefusals, sampleRefusals, refusalNumbers}
 use Rattle.words.specs.Lists.{_∈_, some}
 use Rattle.words.specs.Bytes.{Bytes, part}
-use Rattle.words.specs.Buffers.{within, counted, leaves, overwrite}
+use Rattle.words.specs.Buffers.{within, leaves, overwrite}
 use Rattle.words.proofs.Tests.{by-bool, by-number}
 use Rattle.words.proofs.Refusals.{ok-refused, refused-same, NoneOr, none-or-if, none-or-orElse, none-or-some}
 use Rattle.words.proofs.Lists.{has-from}
@@ -25,9 +25,7 @@ use Rattle.record_writer.specs.Write.{writeRecord}
 use Rattle.record_numbers.specs.Numbers.{numbersOf, asNumbers, readNumbers, _at_, flagMost, numbersFault, fieldsFrom, writeNumbersAs, writeNumbers}
 use Rattle.record_numbers.specs.Indices.{numberCount, completeRepresentation, trailer, trailerNone, trailerPresent}
 use Rattle.record_numbers.proofs.Promise as numbered
-use Rattle.samples.specs.Check.{checkAlone}
 use Rattle.bundles.specs.Recordings.{Recording}
-use Rattle.bundles.specs.Bundles.{bundleVerdict}
 use Rattle.bundles.proofs.Promises.{refusals-within}
 use Rattle.bundles.specs.Readers.{firstLayout}
 use Rattle.resolution_rules.specs.Calls.{BundlePart, placeCall}
@@ -35,7 +33,7 @@ use Rattle.tally.specs.declared.Tally.{Tally}
 use Rattle.audit_rules.specs.Auditing.{tallyCall}
 use Rattle.puddockle.specs.Returns.{Returned, ReturnedOutput, ReturnedPart, ReturnedTally}
 use Rattle.promise_rules.specs.Records.{ReadRefused, WriteRefused}
-use Rattle.promise_rules.specs.Refused.{BundleRefused, CheckRefused, SampleRefused, ResolveRefused, UnitRefused, NamesRefused, AuditRefused}
+use Rattle.promise_rules.specs.Refused.{CheckRefused, SampleRefused, ResolveRefused, UnitRefused, NamesRefused, AuditRefused}
 use Rattle.promise_rules.specs.Returns.{OutputAnswer, VerdictAnswer}
 use Rattle.promise_rules.proofs.RecordLaws as records
 use Rattle.promise_rules.proofs.RefusedLaws as refusals

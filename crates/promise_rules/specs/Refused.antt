@@ -29,7 +29,7 @@ use Rattle.resolution_rules.specs.Resolving.{sampleOf, Span, judged}
 use Rattle.naming_list_rules.specs.Naming.{namingList}
 use Rattle.promise_rules.specs.Samples.{BorderAt, Formed, Given}
 use Rattle.promise_rules.specs.Bundles.{BundleOf}
-use Rattle.promise_rules.specs.Resolving.{NamedBy, CopyEnds, Extraction, GoodSample, Resolved, afterLength}
+use Rattle.promise_rules.specs.Resolving.{NamedBy, CopyEnds, Extraction, Resolved, afterLength}
 
 pub record BundleRefused (b : List ℕ) (m p : ℕ) : Type 0 where
   pub refuses : firstLayout .means b ≡ refused m p
