@@ -2,24 +2,23 @@
 use Prim.Native.Nat.{ℕ, zero, suc, _+_, _-_, _*_, _≤_, _<_}
 use mathlib.Core.Path.{_≡_, refl, ap, ap₂, sym, _∙_, subst}
 use mathlib.Core.Bool.{Bool, true, false, _&&_, not}
-use mathlib.Core.List.{List, [], _∷_}
-use mathlib.Core.Logic.{_⊎_, inl, inr, ⊎-elim, _↔_}
+use mathlib.Core.List.{List}
+use mathlib.Core.Logic.{_↔_}
 use native.Mathlib.Omega.{arith}
 use native.Mathlib.Nat.{add-zero, add-assoc}
 use lib.ListN.{length}
 use Rattle.words.specs.Tests.{_≡?_, pick}
 use Rattle.words.specs.Refusals.{Answer, refused, ok}
-use Rattle.words.specs.Lists.{_∈_, keep, upto}
+use Rattle.words.specs.Lists.{_∈_, upto}
 use Rattle.words.specs.Bytes.{Bytes, byteAt, big, part, splice}
 use Rattle.words.specs.Buffers.{Wrote}
-use Rattle.words.proofs.Tests.{by-bool}
 use Rattle.words.proofs.Refusals.{ok-same, ok-refused, by-verdict}
 use Rattle.words.proofs.Kept.{keep-same}
 use Rattle.words.proofs.Lists.{upto-from}
 use Rattle.words.proofs.Joined.{part-byte}
 use Rattle.bundles.specs.Recordings.{Recording, sampleCount, contentOf, replaced}
 use Rattle.bundles.specs.Readers.{firstLayout}
-use Rattle.resolution_rules.specs.Resolving.{Span, judged, delivered}
+use Rattle.resolution_rules.specs.Resolving.{judged, delivered}
 use Rattle.resolution_rules.specs.Calls.{resolveUnit, unitCall}
 use Rattle.resolution_rules.proofs.Calls.{number-good, number-bad, by-count, unit-means}
 use Rattle.resolution_rules.proofs.Good.{judged-refused}
@@ -31,12 +30,12 @@ use Rattle.tally.specs.Tallies.{isPassed, isEmpty, isRefused}
 use Rattle.tally.specs.declared.Outcome.{Outcome}
 use Rattle.tally.specs.declared.Outcome.the-variants.{Passed, Empty, Refused}
 use Rattle.tally.specs.declared.Tally.{Tally}
-use Rattle.audit_rules.specs.Auditing.{outcomeOf, lineOf, lineBytes, unitsOf, lines, tally, auditCall, tallyCall}
-use Rattle.audit_rules.specs.Rules.{Reads, lineAt, outcomeByLine, SampleLine, LinePerSample, Counts}
+use Rattle.audit_rules.specs.Auditing.{outcomeOf, lineOf, lineBytes, lines, tally, auditCall, tallyCall}
+use Rattle.audit_rules.specs.Rules.{Reads, lineAt, SampleLine, LinePerSample}
 use Rattle.audit_rules.proofs.Lines.{lines-length}
 use Rattle.audit_rules.proofs.Refusals.{number-some}
 use Rattle.audit_rules.proofs.Promises as auditing
-use Rattle.promise_rules.specs.Resolving.{GoodSample, Resolved}
+use Rattle.promise_rules.specs.Resolving.{GoodSample}
 use Rattle.promise_rules.proofs.CallLaws.{good-exactly, delivers}
 use Rattle.promise_rules.proofs.RefusedLaws.{sample-refused, refused-sample}
 use Rattle.promise_rules.specs.Audits.{LineIn, SampleSays, TallyOf}

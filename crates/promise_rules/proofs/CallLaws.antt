@@ -1,32 +1,30 @@
 -- The proofs of what Demands says of the calls that resolve. Assumes nothing.
-use Prim.Native.Nat.{ℕ, zero, suc, _+_, _-_, _*_, _≤_, _<_}
-use mathlib.Core.Path.{_≡_, refl, ap, ap₂, sym, _∙_, subst}
-use mathlib.Core.Bool.{Bool, true, false, not, _&&_}
-use mathlib.Core.List.{List, [], _∷_, _++_, map, List·Memᴰ, List·Memᴰ·head, List·Memᴰ·tail, List·Memᴰ·not-nil, List·Memᴰ·cases-cons, List·Memᴰ·append-cases, Memᴰ·of-map}
+use Prim.Native.Nat.{ℕ, zero, suc, _+_, _≤_, _<_}
+use mathlib.Core.Path.{_≡_, refl, ap, sym, _∙_, subst}
+use mathlib.Core.Bool.{_&&_}
+use mathlib.Core.List.{List, [], _∷_, _++_, map, List·Memᴰ·head, List·Memᴰ·tail, List·Memᴰ·not-nil, List·Memᴰ·cases-cons, List·Memᴰ·append-cases, Memᴰ·of-map}
 use mathlib.Core.Logic.{_⊎_, inl, inr, ⊎-elim, _↔_}
 use native.Mathlib.Omega.{arith}
-use native.Mathlib.Nat.{pos-of-ne-zero}
 use borrow.Author.Tests.{ltb-true, ltb-false, lt-ltb, le-leb, eqb-true, eqb-false, ne-eqb, eq-eqb}
 use lib.ListN.{length, getD, length-take, List·getD-eq-default}
-use Rattle.words.specs.Tests.{_≤?_, _<?_, _≡?_, pick}
-use Rattle.words.specs.Refusals.{Answer, refused, ok}
+use Rattle.words.specs.Tests.{_<?_, _≡?_}
+use Rattle.words.specs.Refusals.{ok}
 use Rattle.words.specs.Lists.{_∈_, each, keep, nth}
 use Rattle.words.specs.Bytes.{Bytes, byteAt, bytes, part}
-use Rattle.words.proofs.Tests.{by-bool, by-number, true-false}
-use Rattle.words.proofs.Refusals.{ok-same, ok-refused}
-use Rattle.words.proofs.Lists.{each-cong, nth-mem, keep-mem, keep-from, Rising}
+use Rattle.words.proofs.Tests.{by-bool}
+use Rattle.words.proofs.Refusals.{ok-same}
+use Rattle.words.proofs.Lists.{nth-mem, keep-mem, keep-from, Rising}
 use Rattle.words.proofs.Rows.{getD-mem}
 use Rattle.words.proofs.Joined.{part-byte, part-part}
-use Rattle.units.specs.Units.{Sample, L, size, type, next, isAggregator, isExtractor, topUnits, topBetween}
-use Rattle.units.specs.Extractors.{trackRefIndex, sampleOffset, dataOffset, dataLength}
-use Rattle.units.specs.Aggregators.{additionalBytes, coverEnd, units, extractors}
-use Rattle.bundles.specs.Recordings.{Layout, Recording, sampleCount, contentOf}
+use Rattle.units.specs.Units.{L, size, type, next, isAggregator, isExtractor, topUnits, topBetween}
+use Rattle.units.specs.Extractors.{trackRefIndex, sampleOffset}
+use Rattle.units.specs.Aggregators.{additionalBytes, units, extractors}
+use Rattle.bundles.specs.Recordings.{Recording, sampleCount, contentOf}
 use Rattle.bundles.specs.Readers.{firstLayout}
 use Rattle.links.specs.Order.{TimesRise}
-use Rattle.copies.specs.Copies.{copied}
-use Rattle.resolution_rules.specs.Resolving.{sampleOf, Span, spanOf, own, named, linked, nameFaultAt, copiedAt, deliveredAt, delivered, judged}
-use Rattle.resolution_rules.specs.Calls.{BundlePart, spanBytes, written, output, noSpan, resolve, resolveCall, unitCall, placedBy, placeCall}
-use Rattle.resolution_rules.specs.Rules.{Extracts, Good, Plain, Resolves, CallResolves}
+use Rattle.resolution_rules.specs.Resolving.{sampleOf, Span, own, named, nameFaultAt, copiedAt, deliveredAt, delivered, judged}
+use Rattle.resolution_rules.specs.Calls.{written, output, noSpan, resolveCall, unitCall, placedBy, placeCall}
+use Rattle.resolution_rules.specs.Rules.{Resolves}
 use Rattle.resolution_rules.proofs.Good.{good-rules}
 use Rattle.resolution_rules.proofs.Delivered.{delivered-unit, delivered-aggregator, delivered-extractor}
 use Rattle.resolution_rules.proofs.Exactly.{delivered-plain, delivered-there}
@@ -36,7 +34,6 @@ use Rattle.resolution_rules.proofs.Promises as resolving
 use Rattle.naming_list_rules.specs.Naming.{namer, namingList}
 use Rattle.naming_list_rules.specs.Rules.{Names, Before, timesListed}
 use Rattle.naming_list_rules.proofs.Promises as naming
-use Rattle.promise_rules.specs.Samples.{Formed}
 use Rattle.promise_rules.proofs.SampleLaws.{formed-rules, rules-formed}
 use Rattle.promise_rules.specs.Resolving.{NamedBy, NamesIt, Extraction, GoodSample, unitIn, Delivery, afterLength, Resolved, StandsAt}
 use Rattle.promise_rules.proofs.ResolveLaws.{names-by, by-names, extraction-is, good-sample, sample-good}

@@ -1,16 +1,16 @@
 -- The proofs of what Demands says of a sample checked outside a bundle. Assumes nothing.
 use Prim.Native.Nat.{ℕ}
-use mathlib.Core.Path.{_≡_, refl, ap, sym, _∙_}
+use mathlib.Core.Path.{_≡_, refl, sym, _∙_}
 use mathlib.Core.List.{List, [], _∷_, List·Memᴰ·head, List·Memᴰ·tail, List·Memᴰ·not-nil, List·Memᴰ·cases-cons}
 use mathlib.Core.Logic.{_⊎_, inl, inr, ⊎-elim, _↔_}
-use borrow.Author.Tests.{eqb-true, eqb-false, ne-eqb, eq-eqb}
-use Rattle.words.specs.Tests.{_≡?_, pick}
+use borrow.Author.Tests.{eqb-true, eqb-false, ne-eqb}
+use Rattle.words.specs.Tests.{_≡?_}
 use Rattle.words.specs.Refusals.{refused, ok}
 use Rattle.words.specs.Lists.{_∈_}
 use Rattle.words.proofs.Tests.{by-bool}
 use Rattle.words.proofs.Refusals.{ok-refused, refused-along}
-use Rattle.numbers.specs.Kinds.{kindOf, onKind}
-use Rattle.numbers.specs.Sizes.{inBytes, lengthSizeOf, onLengthSize}
+use Rattle.numbers.specs.Kinds.{kindOf}
+use Rattle.numbers.specs.Sizes.{inBytes, lengthSizeOf}
 use Rattle.numbers.specs.declared.Kind.{Kind}
 use Rattle.numbers.specs.declared.Kind.the-variants.{Avc, Svc}
 use Rattle.numbers.specs.declared.LengthSize.{LengthSize}
@@ -18,9 +18,9 @@ use Rattle.numbers.specs.declared.LengthSize.the-variants.{One, Two, Four}
 use Rattle.numbers.specs.declared.MaybeKind.the-variants as kinds
 use Rattle.numbers.specs.declared.MaybeLengthSize.the-variants as sizes
 use Rattle.units.specs.Units.{Sample}
-use Rattle.samples.specs.Check.{check, checkOf, checkAlone}
+use Rattle.samples.specs.Check.{check, checkAlone}
 use Rattle.promise_rules.specs.Samples.{Formed, Given}
-use Rattle.promise_rules.specs.Refused.{FormRefused, CheckRefused}
+use Rattle.promise_rules.specs.Refused.{CheckRefused}
 use Rattle.promise_rules.proofs.SampleLaws.{formed-rules, rules-formed}
 use Rattle.promise_rules.proofs.RefusedLaws.{form-refused}
 

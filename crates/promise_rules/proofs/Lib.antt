@@ -5,7 +5,9 @@ pub mod BundleLaws
 pub mod ResolveLaws
 pub mod CallLaws
 pub mod AuditLaws
+pub mod FaultLaws
 pub mod RefusedLaws
 pub mod UnitLaws
 pub mod CheckLaws
 pub mod OtherLaws
+pub mod ReturnLaws

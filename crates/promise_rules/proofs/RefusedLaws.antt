@@ -2,7 +2,7 @@
 use Prim.Native.Nat.{ℕ, _≤_, _<_}
 use mathlib.Core.Path.{_≡_, refl, ap, sym, _∙_, subst}
 use mathlib.Core.List.{List}
-use mathlib.Core.Logic.{_⊎_, inl, inr, ⊎-elim, _↔_}
+use mathlib.Core.Logic.{_⊎_, inl, ⊎-elim, _↔_}
 use native.Mathlib.Omega.{arith}
 use borrow.Author.Tests.{eqb-true, eq-eqb}
 use lib.ListN.{length}
@@ -20,7 +20,8 @@ use Rattle.units.proofs.Walks.{units-top, units-included}
 use Rattle.samples.specs.Check.{check, topVerdict, contentVerdict}
 use Rattle.samples.proofs.Laws.{check-refusals}
 use Rattle.samples.proofs.Walks.{topJudge, includedJudge, content-included, content-cover, content-other}
-use Rattle.bundles.specs.Recordings.{Recording, sampleCount, contentOf}
+use Rattle.bundles.specs.Recordings.{Recording, sampleCount}
+use Rattle.bundles.specs.Bundles.{bundleVerdict, meaning}
 use Rattle.bundles.specs.Readers.{firstLayout}
 use Rattle.resolution_rules.specs.Resolving.{sampleOf, Span, own, extractFault, judged, delivered}
 use Rattle.resolution_rules.specs.Calls.{placedBy, output, written, resolveCall, unitCall, placeCall}
@@ -36,12 +37,11 @@ use Rattle.naming_list_rules.proofs.Promises.{names-refused-exactly}
 use Rattle.audit_rules.specs.Auditing.{auditCall, tallyCall}
 use Rattle.audit_rules.specs.Rules.{AuditRefuses}
 use Rattle.audit_rules.proofs.Promises.{audit-refused-exactly, tally-refused-exactly}
-use Rattle.promise_rules.specs.Samples.{Formed}
 use Rattle.promise_rules.proofs.SampleLaws.{formed-rules, rules-formed}
-use Rattle.promise_rules.specs.Bundles.{BundleOf}
 use Rattle.promise_rules.proofs.BundleLaws.{one-meaning}
-use Rattle.promise_rules.specs.Resolving.{Extraction, GoodSample, Resolved, afterLength}
+use Rattle.promise_rules.specs.Resolving.{Extraction, Resolved, afterLength}
 use Rattle.promise_rules.proofs.ResolveLaws.{extraction, extraction-is}
+use Rattle.promise_rules.proofs.FaultLaws.{fault-of}
 use Rattle.promise_rules.proofs.CallLaws.{rise, offset-byte, good-exactly, delivers, delivers-only}
 use Rattle.promise_rules.specs.Refused.{BundleRefused, FormRefused, ExtractorRefused, SampleRefused, ResolveRefused, UnitRefused, NamesRefused, AuditRefused}
 
@@ -78,6 +78,19 @@ module _ (b : List ℕ) (g : Bytes b) where
       let w = firstLayout-sound .refusal b m p e in
       record { refuses = e; broken = λ rules. ok-refused (sym e ∙ one-meaning b g rules .1); number = w .0; place = w .1 }
 
+  verdict-means : {m p : ℕ} → bundleVerdict b ≡ refused m p → firstLayout .means b ≡ refused m p
+  unfolding meaning
+  verdict-means e = rw e
+
+  means-verdict : {m p : ℕ} → firstLayout .means b ≡ refused m p → bundleVerdict b ≡ refused m p
+  unfolding meaning
+  means-verdict {m} {p} e = by-verdict (bundleVerdict b)
+      (λ n q v. let s : n ≡ m = refused-same (rw v at e) .0 in let t : q ≡ p = refused-same (rw v at e) .1 in v ∙ rw (s, t))
+      (λ v. ok-refused (sym (rw v at e)))
+
+  pub check-refused : (m p : ℕ) → (bundleVerdict b ≡ refused m p) ↔ BundleRefused b m p
+  check-refused m p = (λ e. bundle-refused (verdict-means e), λ w. means-verdict (w .refuses))
+
   module _ (r : Recording) (accepted : firstLayout .means b ≡ ok r) (n : ℕ) (some : 0 < n) (there : n ≤ sampleCount (r .layout)) where
     -- an extractor without 23 to 28, both ways
     extracts : (q : ℕ) → extractFault r n q ≡ 0 → (k : ℕ) × (qs : List ℕ) × Extraction r n q k qs
@@ -91,6 +104,7 @@ module _ (b : List ℕ) (g : Bytes b) where
           refuses = j;
           formed = formed-rules (sampleOf r n) (w .formed);
           number = subst (λ (i : ℕ). i ∈ extractorRefusals) (w .refuses) (none-or-some extractorRefusals (extract-range r n p) (let z = w .refuses in let h = w .some in omega arith));
+          fault = fault-of r (rise b g r accepted) n (offset-byte b g r accepted n some there) p (w .refuses) (w .some);
           unit = k .0;
           extractor = eqb-true _ _ (k .1);
           place = extractor-inside r n (w .formed) p (w .extractor);
@@ -174,6 +188,10 @@ module _ (b : List ℕ) (g : Bytes b) where
     λ w. ap (placedBy (firstLayout .contentAt b)) (unit-refused n k m p .1 w),
   )
 
+  pub units-refused :
+      (n k m p : ℕ) → ((unitCall firstLayout b n k ≡ refused m p) ↔ UnitRefused b n k m p) × ((placeCall firstLayout b n k ≡ refused m p) ↔ UnitRefused b n k m p)
+  units-refused n k m p = (unit-refused n k m p, place-refused n k m p)
+
   naming : (s room : ℕ) {m p : ℕ} → NamesRefuses firstLayout b s room m p → NamesRefused b s room m p
   naming s room (NamesRefuses.bundle e) = NamesRefused.bundle (bundle-refused e)
   naming s room (NamesRefuses.number r e h) = NamesRefused.number r e h
@@ -203,3 +221,7 @@ module _ (b : List ℕ) (g : Bytes b) where
   pub tally-refused : (room m p : ℕ) → (tallyCall firstLayout b room ≡ refused m p) ↔ AuditRefused b room m p
   tally-refused room m p =
       let w = tally-refused-exactly firstLayout b room m p in (λ e. auditing room (w .0 e), λ v. w .1 (by-auditing room v))
+
+  pub audits-refused :
+      (room m p : ℕ) → ((auditCall firstLayout b room ≡ refused m p) ↔ AuditRefused b room m p) × ((tallyCall firstLayout b room ≡ refused m p) ↔ AuditRefused b room m p)
+  audits-refused room m p = (audit-refused room m p, tally-refused room m p)

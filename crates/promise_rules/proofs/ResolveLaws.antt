@@ -138,7 +138,7 @@ module _ (y : Layout) (rise : TimesRise y) where
 
 -- a copy
 module _ (z : Sample) (o n : ℕ) where
-  copy-ends : CopyEnds z o n (copyEnd z o n)
+  pub copy-ends : CopyEnds z o n (copyEnd z o n)
   unfolding copyEnd
   copy-ends = by-bool (n ≡? 0)
       (λ t. by-bool (isAggregator z o)
@@ -165,7 +165,7 @@ module _ (z : Sample) (o n : ℕ) where
         noExtractor = λ q m. eqb-false _ _ (c .noExtractor q m);
       }
 
-  copied-between : check z ≡ ok tt → o ∈ topUnits z → border z (copyEnd z o n) ≡ true → copied z o n ≡ keep (λ q. (o ≤? q) && (q <? copyEnd z o n)) (withoutAggregators z (units z))
+  pub copied-between : check z ≡ ok tt → o ∈ topUnits z → border z (copyEnd z o n) ≡ true → copied z o n ≡ keep (λ q. (o ≤? q) && (q <? copyEnd z o n)) (withoutAggregators z (units z))
   unfolding copied
   copied-between f m e =
       ap (withoutAggregators z) (between-units z f o (copyEnd z o n) (top-border z o m) e)

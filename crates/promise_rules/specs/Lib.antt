@@ -3,6 +3,7 @@
 --   Records, Samples, Bundles, Resolving, Audits    a record, a sample, a bundle, a sample resolved, an audit
 --   Units       the fields of units, and where they lie
 --   Refused     with which number, and where, a call is refused
+--   Returns     which answers the C functions give back
 pub mod Records
 pub mod Samples
 pub mod Bundles
@@ -10,3 +11,4 @@ pub mod Resolving
 pub mod Units
 pub mod Audits
 pub mod Refused
+pub mod Returns

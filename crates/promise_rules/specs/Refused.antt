@@ -3,6 +3,7 @@
 --   BundleRefused b m p           the bundle: 1 to 13, at a place in it or at its end
 --   FormRefused x m p             a sample that is not well formed: 14 to 22, at the length field of a unit
 --   CheckRefused kind l s m p     a sample checked outside a bundle: the kind, L, the sample
+--   ExtractorFault r n p m        the extractor at p of sample n breaks a rule: 23 to 28
 --   ExtractorRefused r n m p      sample n, well formed: 23 to 28, at its first extractor that is refused
 --   SampleRefused r n m p         sample n: one or the other
 --   ResolveRefused b n room m p   resolving: the bundle, the sample's number, the sample, the room
@@ -16,17 +17,19 @@ use mathlib.Core.List.{List, [], _∷_}
 use mathlib.Core.Logic.{_⊎_}
 use lib.ListN.{length}
 use Rattle.words.specs.Refusals.{refused, ok}
-use Rattle.words.specs.Lists.{_∈_, each}
-use Rattle.units.specs.Units.{Sample, type}
+use Rattle.words.specs.Tests.{_≡?_}
+use Rattle.words.specs.Lists.{_∈_, each, keep}
+use Rattle.units.specs.Units.{Sample, type, topUnits}
+use Rattle.units.specs.Extractors.{trackRefIndex, sampleOffset, dataOffset, dataLength}
 use Rattle.units.specs.Aggregators.{units}
 use Rattle.samples.specs.Check.{check}
-use Rattle.bundles.specs.Recordings.{Recording, sampleCount, contentOf}
+use Rattle.bundles.specs.Recordings.{Recording, sampleCount, trackOf, contentOf}
 use Rattle.bundles.specs.Readers.{firstLayout}
 use Rattle.resolution_rules.specs.Resolving.{sampleOf, Span, judged}
 use Rattle.naming_list_rules.specs.Naming.{namingList}
-use Rattle.promise_rules.specs.Samples.{Formed, Given}
+use Rattle.promise_rules.specs.Samples.{BorderAt, Formed, Given}
 use Rattle.promise_rules.specs.Bundles.{BundleOf}
-use Rattle.promise_rules.specs.Resolving.{Extraction, GoodSample, Resolved, afterLength}
+use Rattle.promise_rules.specs.Resolving.{NamedBy, CopyEnds, Extraction, Resolved, afterLength}
 
 pub record BundleRefused (b : List ℕ) (m p : ℕ) : Type 0 where
   pub refuses : firstLayout .means b ≡ refused m p
@@ -47,11 +50,42 @@ pub data CheckRefused (kind l : ℕ) (s : List ℕ) : ℕ → ℕ → Type 0 whe
   size : (kind ≡ 0) ⊎ (kind ≡ 1) → (l ∈ (1 ∷ 2 ∷ 4 ∷ []) → ⊥) → CheckRefused kind l s 11 0
   form : {m p : ℕ} (x : Sample) → Given kind l s x → FormRefused x m p → CheckRefused kind l s m p
 
+-- an extractor: its track_ref_index, how many references its track has, what it names, where its copy of sample k starts and ends
+module _ (r : Recording) (n p : ℕ) where
+  abbrev refIndex : ℕ
+  refIndex = trackRefIndex (sampleOf r n) p
+
+  abbrev refCount : ℕ
+  refCount = length (keep (λ f. (f .from) ≡? trackOf (r .layout) n) (r .layout .references))
+
+  abbrev Names : ℕ → Type 0
+  Names = NamedBy (r .layout) n refIndex (sampleOffset (sampleOf r n) p)
+
+  abbrev Starts : ℕ → Type 0
+  Starts k = dataOffset (sampleOf r n) p ∈ topUnits (sampleOf r k)
+
+  abbrev Ends : ℕ → ℕ → Type 0
+  Ends k e = CopyEnds (sampleOf r k) (dataOffset (sampleOf r n) p) (dataLength (sampleOf r n) p) e
+
+  -- the first rule that it breaks
+  pub data ExtractorFault : ℕ → Type 0 where
+    index : (refIndex ≡ 0) ⊎ (refCount < refIndex) → ExtractorFault 23
+    name : 0 < refIndex → refIndex ≤ refCount → ((k : ℕ) → Names k → ⊥) → ExtractorFault 24
+    form : (k : ℕ) → Names k → (Formed (sampleOf r k) → ⊥) → ExtractorFault 25
+    start : (k : ℕ) → Names k → Formed (sampleOf r k) → (Starts k → ⊥) → ExtractorFault 26
+    end :
+        (k e : ℕ) → Names k → Formed (sampleOf r k) → Starts k → Ends k e → (BorderAt (sampleOf r k) e → ⊥) → ExtractorFault 27
+    -- an extractor q among the units of the copy
+    chain :
+        (k e q : ℕ) → Names k → Formed (sampleOf r k) → Starts k → Ends k e → BorderAt (sampleOf r k) e →
+        q ∈ units (sampleOf r k) → dataOffset (sampleOf r n) p ≤ q → q < e → type (sampleOf r k) q ≡ 31 → ExtractorFault 28
+
 -- every extractor before it names a sample and copies units of it, by the rules
 pub record ExtractorRefused (r : Recording) (n m p : ℕ) : Type 0 where
   pub refuses : judged r n ≡ refused m p
   pub formed : Formed (sampleOf r n)
   pub number : m ∈ (23 ∷ 24 ∷ 25 ∷ 26 ∷ 27 ∷ 28 ∷ [])
+  pub fault : ExtractorFault r n p m
   pub unit : p ∈ units (sampleOf r n)
   pub extractor : type (sampleOf r n) p ≡ 31
   pub place : p < length (contentOf r n)

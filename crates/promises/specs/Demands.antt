@@ -20,20 +20,21 @@ use mathlib.Core.List.{List, [], _∷_, _++_}
 use mathlib.Core.Logic.{_⊎_, _↔_}
 use lib.ListN.{length, getD, drop}
 use Rattle.words.specs.RefusalNumbers.{refusalNumbers}
-use Rattle.words.specs.Refusals.{Answer, refused, ok, passed, countOf}
+use Rattle.words.specs.Refusals.{Answer, refused, ok, Verdict, passed, countOf}
 use Rattle.words.specs.Tests.{_≡?_}
 use Rattle.words.specs.Lists.{_∈_, keep, nth, each}
-use Rattle.words.specs.Bytes.{Bytes, big, splice}
-use Rattle.words.specs.Buffers.{Wrote}
+use Rattle.words.specs.Bytes.{Bytes, big, part, splice}
+use Rattle.words.specs.Buffers.{leaves, Wrote}
 use Rattle.words.proofs.Buffers as buffers
 use Rattle.record_rules.specs.Read.{readRecord}
 use Rattle.record_rules.specs.declared.Fields.{Fields}
 use Rattle.record_writer.specs.Write.{writeRecord}
 use Rattle.record_writer.specs.Promise.{Holds}
 use Rattle.record_writer.proofs.Promise as records
+use Rattle.record_numbers.specs.Numbers.{readNumbers, writeNumbers}
 use Rattle.units.specs.Units.{Sample, L, type, next, topUnits}
 use Rattle.units.specs.Aggregators.{additionalBytes}
-use Rattle.samples.specs.Check.{check, checkAlone}
+use Rattle.samples.specs.Check.{checkAlone}
 use Rattle.bundles.specs.Recordings.{Recording, sampleCount, contentOf, replaced}
 use Rattle.bundles.specs.Bundles.{bundleVerdict}
 use Rattle.bundles.specs.Readers.{firstLayout}
@@ -45,19 +46,21 @@ use Rattle.naming_list_rules.specs.Rules.{timesListed, Unlisted, SameAnswer}
 use Rattle.naming_list_rules.proofs.Promises as naming
 use Rattle.tally.specs.declared.Tally.{Tally}
 use Rattle.audit_rules.specs.Auditing.{auditCall, tallyCall}
+use Rattle.puddockle.specs.Returns.{Returned, ReturnedOutput, ReturnedPart, ReturnedTally}
 use Rattle.promise_rules.specs.Records.{RecordOf, WriteRefused, ReadRefused}
 use Rattle.promise_rules.specs.Samples.{Formed, Given}
 use Rattle.promise_rules.specs.Bundles.{BundleOf, Means}
 use Rattle.promise_rules.specs.Resolving.{NamesIt, GoodSample, Resolved, afterLength, StandsAt}
 use Rattle.promise_rules.specs.Audits.{SampleSays, TallyOf}
 use Rattle.promise_rules.specs.Refused.{BundleRefused, CheckRefused, ResolveRefused, UnitRefused, NamesRefused, AuditRefused}
+use Rattle.promise_rules.specs.Returns.{OutputAnswer, VerdictAnswer}
 use Rattle.promise_rules.proofs.RecordLaws as recordLaws
-use Rattle.promise_rules.proofs.SampleLaws as sampleLaws
 use Rattle.promise_rules.proofs.BundleLaws as bundleLaws
 use Rattle.promise_rules.proofs.CallLaws as callLaws
 use Rattle.promise_rules.proofs.AuditLaws as auditLaws
 use Rattle.promise_rules.proofs.RefusedLaws as refusedLaws
 use Rattle.promise_rules.proofs.CheckLaws as checkLaws
+use Rattle.promise_rules.proofs.ReturnLaws as returnLaws
 use Rattle.promise_rules.proofs.OtherLaws as otherLaws
 use Rattle.bundles.specs.References.{lengthSizeOn}
 use Rattle.resolution_rules.specs.Calls.{unitPart}
@@ -70,11 +73,8 @@ use Rattle.promise_rules.proofs.UnitLaws as unitLaws
 -- answer is the definition's that its contract cites. `Bytes b` says that b holds numbers below 256, as every lent slice does.
 -- The numbers of the table:
 pub table-numbers :
-    refusalNumbers
-    ≡ 1 ∷ 2 ∷ 3 ∷ 4 ∷ 5 ∷ 6 ∷ 7 ∷ 8 ∷ 9 ∷ 10 ∷ 11 ∷ 12 ∷ 13
-    ∷ 14 ∷ 15 ∷ 16 ∷ 17 ∷ 18 ∷ 19 ∷ 20 ∷ 21 ∷ 22 ∷ 23 ∷ 24 ∷ 25 ∷ 26 ∷ 27 ∷ 28
-    ∷ 29 ∷ 30 ∷ 31
-    ∷ []
+    refusalNumbers ≡ 1 ∷ 2 ∷ 3 ∷ 4 ∷ 5 ∷ 6 ∷ 7 ∷ 8 ∷ 9 ∷ 10 ∷ 11 ∷ 12 ∷ 13 ∷ 14 ∷ 15 ∷ 16
+    ∷ 17 ∷ 18 ∷ 19 ∷ 20 ∷ 21 ∷ 22 ∷ 23 ∷ 24 ∷ 25 ∷ 26 ∷ 27 ∷ 28 ∷ 29 ∷ 30 ∷ 31 ∷ []
 table-numbers = refl
 
 -- records read: 4 or 8 to 13, at 0, and only what is no record
@@ -94,8 +94,8 @@ pub check-refused :
 check-refused = checkLaws.check-refused
 
 -- bundles checked: 1 to 13 at a place in the bundle or at its end
-pub bundle-refused : (b : List ℕ) → Bytes b → {m p : ℕ} → firstLayout .means b ≡ refused m p → BundleRefused b m p
-bundle-refused = refusedLaws.bundle-refused
+pub bundle-refused : (b : List ℕ) → Bytes b → (m p : ℕ) → (bundleVerdict b ≡ refused m p) ↔ BundleRefused b m p
+bundle-refused = refusedLaws.check-refused
 
 -- samples resolved: 1 to 13 of the bundle; 30 at 0; 14 to 22 at a unit of the sample, 23 to 28 at an extractor; 29 at 0
 pub resolve-refused :
@@ -105,12 +105,10 @@ resolve-refused = refusedLaws.resolve-refused
 
 -- one delivered unit, and where in the bundle it stands: the same, but 30 for the unit's number and no 29
 pub unit-refused :
-    (b : List ℕ) → Bytes b → (n k m p : ℕ) → (unitCall firstLayout b n k ≡ refused m p) ↔ UnitRefused b n k m p
-unit-refused = refusedLaws.unit-refused
-
-pub place-refused :
-    (b : List ℕ) → Bytes b → (n k m p : ℕ) → (placeCall firstLayout b n k ≡ refused m p) ↔ UnitRefused b n k m p
-place-refused = refusedLaws.place-refused
+    (b : List ℕ) → Bytes b → (n k m p : ℕ) →
+    ((unitCall firstLayout b n k ≡ refused m p) ↔ UnitRefused b n k m p)
+    × ((placeCall firstLayout b n k ≡ refused m p) ↔ UnitRefused b n k m p)
+unit-refused = refusedLaws.units-refused
 
 -- the naming list: 1 to 13 of the bundle, 30 at 0, 29 at 0
 pub names-refused :
@@ -119,18 +117,51 @@ names-refused = refusedLaws.names-refused
 
 -- the audit: 1 to 13 of the bundle, or 29 at 0; for the lines and the tally alike
 pub audit-refused :
-    (b : List ℕ) → Bytes b → (room m p : ℕ) → (auditCall firstLayout b room ≡ refused m p) ↔ AuditRefused b room m p
-audit-refused = refusedLaws.audit-refused
-
-pub tally-refused :
-    (b : List ℕ) → Bytes b → (room m p : ℕ) → (tallyCall firstLayout b room ≡ refused m p) ↔ AuditRefused b room m p
-tally-refused = refusedLaws.tally-refused
+    (b : List ℕ) → Bytes b → (room m p : ℕ) →
+    ((auditCall firstLayout b room ≡ refused m p) ↔ AuditRefused b room m p)
+    × ((tallyCall firstLayout b room ≡ refused m p) ↔ AuditRefused b room m p)
+audit-refused = refusedLaws.audits-refused
 
 -- after a refusal: `write`, `resolve`, `names` and `audit` promise `Wrote`
 pub refusal-leaves :
     {out out₁ : List ℕ} {a : Answer ℕ} {is : Answer (List ℕ)} → Wrote out out₁ a is → passed a ≡ false →
     (countOf a ≡ 0) × (out₁ ≡ out)
 refusal-leaves = buffers.refused-leaves
+
+-- The C functions. One with an output buffer o returned n, set place to p and count to c, and left o' in the buffer
+pub c-output :
+    {a : Answer (List ℕ)} → OutputAnswer a → {n p c : ℕ} {o o' : List ℕ} → ReturnedOutput n p c o o' a →
+    ((n ≡ 0) × (p ≡ 0) × ((out : List ℕ) × (a ≡ ok out) × (c ≡ length out) × (o' ≡ out ++ drop (length out) o)))
+    ⊎ ((n ∈ refusalNumbers) × (a ≡ refused n p) × (c ≡ 0) × (o' ≡ o))
+c-output = returnLaws.output-returned
+
+-- a record read as numbers
+pub c-read :
+    (kind : ℕ) (s : List ℕ) {n p : ℕ} {o o' : List ℕ} →
+    Returned n p (readNumbers kind s (length o)) → o' ≡ leaves o (readNumbers kind s (length o)) →
+    ((n ≡ 0) × (p ≡ 0) × ((ns : List ℕ) × (readNumbers kind s (length o) ≡ ok ns) × (o' ≡ ns ++ drop (length ns) o)))
+    ⊎ ((n ∈ refusalNumbers) × (readNumbers kind s (length o) ≡ refused n p) × (o' ≡ o))
+c-read = returnLaws.read-returned
+
+-- a bundle or a sample checked
+pub c-check :
+    {a : Verdict} → VerdictAnswer a → {n p : ℕ} → Returned n p a →
+    ((n ≡ 0) × (p ≡ 0) × (a ≡ ok tt)) ⊎ ((n ∈ refusalNumbers) × (a ≡ refused n p))
+c-check = returnLaws.verdict-returned
+
+-- where a delivered unit stands; the tally
+pub c-unit :
+    (b : List ℕ) → Bytes b → (sample unit : ℕ) {n p start size : ℕ} →
+    ReturnedPart n p start size (placeCall firstLayout b sample unit) →
+    ((n ≡ 0) × (p ≡ 0) × (placeCall firstLayout b sample unit ≡ ok (record { start = start; size = size })))
+    ⊎ ((n ∈ refusalNumbers) × (placeCall firstLayout b sample unit ≡ refused n p) × (start ≡ 0) × (size ≡ 0))
+c-unit = returnLaws.part-returned
+
+pub c-tally :
+    (b : List ℕ) (room : ℕ) {x y z : ℕ} → ReturnedTally x y z (tallyCall firstLayout b room) →
+    (tallyCall firstLayout b room ≡ ok (record { passed = x; empty = y; refused = z }))
+    ⊎ ((m : ℕ) × (q : ℕ) × (tallyCall firstLayout b room ≡ refused m q) × (x ≡ 0) × (y ≡ 0) × (z ≡ 0))
+c-tally = returnLaws.tally-returned
 
 -- Demand 2. The marked cases of document 01 are in specs/Table.
 -- Records: accepted, with these fields and these sets, exactly if the bytes are what valid fields and sets spell
@@ -154,16 +185,22 @@ pub writes-back :
     (a ≡ ok (length s)) × (out₁ ≡ s ++ drop (length s) out)
 writes-back = recordLaws.written-back
 
+-- and by the C functions: ns are the numbers read, 6, 9 and 16 of them where the sets start in s, 7, 10 and 17 their lengths
+pub c-writes-back :
+    (kind : ℕ) (s ns : List ℕ) (room : ℕ) → Bytes s → readNumbers kind s room ≡ ok ns →
+    {n p c : ℕ} {o o' : List ℕ} → length s ≤ length o → ReturnedOutput n p c o o'
+    (writeNumbers kind ns (part s (getD ns 6 0) (getD ns 7 0)) (part s (getD ns 9 0) (getD ns 10 0))
+    (part s (getD ns 16 0) (getD ns 17 0)) (length o)) →
+    (n ≡ 0) × (c ≡ length s) × (o' ≡ s ++ drop (length s) o)
+c-writes-back = returnLaws.written-back
+
 -- a record written from valid fields reads back as them
 pub reads-back :
     (kind : ℕ) (s : List ℕ) (f : Fields) (sequences pictures extensions : List ℕ) (room : ℕ) →
     writeRecord kind f sequences pictures extensions room ≡ ok s → Holds kind s f sequences pictures extensions
 reads-back = records.reads-back
 
--- Samples: well formed exactly if every unit's rules hold
-pub formed-exactly : (x : Sample) → (check x ≡ ok tt) ↔ Formed x
-formed-exactly = sampleLaws.formed-exactly
-
+-- Samples: of the kind and L given, well formed exactly if every unit's rules hold
 pub check-exactly :
     (kind l : ℕ) (s : List ℕ) → (checkAlone kind l s ≡ ok tt) ↔ ((x : Sample) × Given kind l s x × Formed x)
 check-exactly = checkLaws.check-exactly

@@ -1,0 +1,150 @@
+-- The proofs of what Demands says of an extractor that is refused. Assumes nothing.
+use Prim.Native.Nat.{ℕ, suc, _≤_, _<_}
+use mathlib.Core.Path.{_≡_, refl, sym, _∙_, subst}
+use mathlib.Core.Bool.{Bool, true, false, not, _&&_}
+use mathlib.Core.List.{List, [], _∷_, List·Memᴰ·head, List·Memᴰ·tail}
+use mathlib.Core.Logic.{_⊎_, inl, inr}
+use native.Mathlib.Omega.{arith}
+use native.Mathlib.Nat.{pos-of-ne-zero}
+use borrow.Author.Tests.{ltb-true, ltb-false, leb-true, lt-ltb, eqb-true, eqb-false, eq-eqb}
+use lib.ListN.{length}
+use Rattle.words.specs.Tests.{_≤?_, _<?_, _≡?_}
+use Rattle.words.specs.Refusals.{refused, ok}
+use Rattle.words.specs.Lists.{_∈_, keep, some}
+use Rattle.words.proofs.Tests.{by-bool, by-number, true-false}
+use Rattle.words.proofs.Refusals.{ok-refused, by-verdict}
+use Rattle.words.proofs.Lists.{keep-from, has-from, some-mem}
+use Rattle.units.specs.Units.{Sample, isAggregator, isExtractor, topUnits, border}
+use Rattle.units.specs.Extractors.{trackRefIndex, sampleOffset, dataOffset, dataLength}
+use Rattle.units.specs.Aggregators.{units}
+use Rattle.samples.specs.Check.{check}
+use Rattle.bundles.specs.Recordings.{Layout, Recording, trackOf, referencesFrom}
+use Rattle.links.specs.Links.{linkFault, sampleNamed, nameFault}
+use Rattle.links.specs.Order.{TimesRise}
+use Rattle.links.proofs.Links.{link-good, name-good}
+use Rattle.copies.specs.Copies.{withoutAggregators, copyStarts, copyEnd, copied, borderFault, copyFault}
+use Rattle.resolution_rules.specs.Resolving.{sampleOf, own, named, linked, nameFaultAt, copyFaultAt, extractFault}
+use Rattle.promise_rules.specs.Resolving.{NamedBy}
+use Rattle.promise_rules.specs.Refused.{ExtractorFault}
+use Rattle.promise_rules.proofs.SampleLaws.{formed-rules, rules-formed, border-at, at-border}
+use Rattle.promise_rules.proofs.ResolveLaws.{names-by, by-names, copy-ends, copied-between}
+
+-- the numbers of a name
+module _ (y : Layout) (n index offset : ℕ) where
+  abbrev count : ℕ
+  count = length (keep (λ f. (f .from) ≡? trackOf y n) (y .references))
+
+  link-23 : (index ≡ 0) ⊎ (count < index) → nameFault y n index offset ≡ 23
+  unfolding nameFault linkFault referencesFrom
+  link-23 (inl e) = rw (eq-eqb index 0 e)
+  link-23 (inr h) = by-bool (index ≡? 0) (λ t. rw t) (λ t. rw (t, lt-ltb count index h))
+
+  link-there : 0 < index → index ≤ count → linkFault y n index ≡ 0
+  unfolding referencesFrom
+  link-there h l = link-good y n index h l
+
+  name-24 : 0 < index → index ≤ count → sampleNamed y n index offset ≡ 0 → nameFault y n index offset ≡ 24
+  unfolding nameFault
+  name-24 h l e = rw (link-there h l, e)
+
+  by-name :
+      {G : Type 0} → ((index ≡ 0) ⊎ (count < index) → G) → (0 < index → index ≤ count → sampleNamed y n index offset ≡ 0 → G) →
+      (nameFault y n index offset ≡ 0 → G) → G
+  by-name f g h = by-bool (index ≡? 0)
+      (λ t. f (inl (eqb-true _ _ t)))
+      (λ t. by-bool (count <? index)
+      (λ u. f (inr (ltb-true _ _ u)))
+      (λ u. by-number (sampleNamed y n index offset)
+      (λ z. g (pos-of-ne-zero (eqb-false _ _ t)) (ltb-false _ _ u) z)
+      (λ k z. h (name-good y n index offset (omega arith)))))
+
+-- the numbers of a copy
+module _ (z : Sample) (o n : ℕ) where
+  copy-25 : {m p : ℕ} → check z ≡ refused m p → copyFault z o n ≡ 25
+  unfolding copyFault
+  copy-25 v = rw v
+
+  copy-26 : check z ≡ ok tt → copyStarts z o ≡ false → copyFault z o n ≡ 26
+  unfolding copyFault borderFault
+  copy-26 v s = rw (v, s)
+
+  copy-27 : check z ≡ ok tt → copyStarts z o ≡ true → border z (copyEnd z o n) ≡ false → copyFault z o n ≡ 27
+  unfolding copyFault borderFault
+  copy-27 v s e = rw (v, s, e)
+
+  copy-28 : check z ≡ ok tt → copyStarts z o ≡ true → border z (copyEnd z o n) ≡ true → some (isExtractor z) (copied z o n) ≡ true → copyFault z o n ≡ 28
+  unfolding copyFault borderFault
+  copy-28 v s e x = rw (v, s, e, x)
+
+  copy-0 : check z ≡ ok tt → copyStarts z o ≡ true → border z (copyEnd z o n) ≡ true → some (isExtractor z) (copied z o n) ≡ false → copyFault z o n ≡ 0
+  unfolding copyFault borderFault
+  copy-0 v s e x = rw (v, s, e, x)
+
+some-from : (t : ℕ → Bool) (xs : List ℕ) → some t xs ≡ true → (x : ℕ) × (x ∈ xs) × (t x ≡ true)
+unfolding some
+some-from t [] e = true-false false e refl
+some-from t (x ∷ xs) e = by-bool (t x)
+    (λ q. (x, List·Memᴰ·head refl, q))
+    (λ q. let w = some-from t xs (rw q at e) in (w .0, List·Memᴰ·tail (w .1), w .2))
+
+module _ (r : Recording) (rise : TimesRise (r .layout)) (n : ℕ) (byte : (p : ℕ) → sampleOffset (sampleOf r n) p < 256) (p : ℕ) where
+  abbrev index : ℕ
+  index = trackRefIndex (own r n) p
+
+  abbrev offset : ℕ
+  offset = sampleOffset (own r n) p
+
+  abbrev o : ℕ
+  o = dataOffset (own r n) p
+
+  abbrev l : ℕ
+  l = dataLength (own r n) p
+
+  name-first : {m : ℕ} → nameFault (r .layout) n index offset ≡ suc m → extractFault r n p ≡ suc m
+  unfolding extractFault nameFaultAt
+  name-first e = rw e
+
+  copy-then : nameFault (r .layout) n index offset ≡ 0 → extractFault r n p ≡ copyFault (linked r n p) o l
+  unfolding extractFault nameFaultAt copyFaultAt
+  copy-then e = rw e
+
+  is-named : nameFault (r .layout) n index offset ≡ 0 → NamedBy (r .layout) n index offset (named r n p)
+  unfolding named
+  is-named e = names-by (r .layout) rise n index offset (byte p) e
+
+  unnamed : nameFault (r .layout) n index offset ≡ 24 → (k : ℕ) → NamedBy (r .layout) n index offset k → ⊥
+  unnamed e k w = let z = by-names (r .layout) rise n index offset (byte p) k w .0 in absurd (omega arith)
+
+  pub fault-of : {m : ℕ} → extractFault r n p ≡ m → 0 < m → ExtractorFault r n p m
+  fault-of {m} e s = by-name (r .layout) n index offset
+      (λ h. is (name-first (link-23 (r .layout) n index offset h)) (ExtractorFault.index h))
+      (λ h k z. let f = name-24 (r .layout) n index offset h k z in is (name-first f) (ExtractorFault.name h k (unnamed f)))
+      (λ f.
+      let z = linked r n p in
+      let w = is-named f in
+      by-verdict (check z)
+      (λ a c v. is (copy-then f ∙ copy-25 z o l v) (ExtractorFault.form (named r n p) w (λ g. ok-refused (sym v ∙ rules-formed z g))))
+      (λ v. let g = formed-rules z v in
+      by-bool (copyStarts z o)
+      (λ t. let u = has-from o (topUnits z) t in
+      by-bool (border z (copyEnd z o l))
+      (λ d. by-bool (some (isExtractor z) (copied z o l))
+      (λ x.
+      let q = some-from (isExtractor z) (copied z o l) x in
+      let i = keep-from (λ j. (o ≤? j) && (j <? copyEnd z o l)) (withoutAggregators z (units z)) (subst (λ js. q .0 ∈ js) (copied-between z o l v u d) (q .1)) in
+      let a = and-true (o ≤? q .0) (q .0 <? copyEnd z o l) (i .1) in
+      is (copy-then f ∙ copy-28 z o l v t d x)
+      (ExtractorFault.chain (named r n p) (copyEnd z o l) (q .0) w g u (copy-ends z o l) (border-at z (copyEnd z o l) d)
+      (keep-from (λ j. not (isAggregator z j)) (units z) (i .0) .0) (leb-true _ _ (a .0)) (ltb-true _ _ (a .1)) (eqb-true _ _ (q .2))))
+      (λ x. let y = copy-then f ∙ copy-0 z o l v t d x in absurd (omega arith)))
+      (λ d. is (copy-then f ∙ copy-27 z o l v t d)
+      (ExtractorFault.end (named r n p) (copyEnd z o l) w g u (copy-ends z o l) (λ b. true-false (border z (copyEnd z o l)) (at-border z (copyEnd z o l) b) d))))
+      (λ t. is (copy-then f ∙ copy-26 z o l v t)
+      (ExtractorFault.start (named r n p) w g (λ k. true-false (copyStarts z o) (some-mem (λ j. o ≡? j) (topUnits z) k (eq-eqb o o refl)) t)))))
+    where
+      is : {k : ℕ} → extractFault r n p ≡ k → ExtractorFault r n p k → ExtractorFault r n p m
+      is q w = subst (ExtractorFault r n p) (sym q ∙ e) w
+
+      and-true : (a c : Bool) → (a && c) ≡ true → (a ≡ true) × (c ≡ true)
+      and-true true c h = (refl, h)
+      and-true false c h = true-false false h refl
