@@ -191,11 +191,3 @@ track-size b g k h l t =
     let c : k ≤ length (trackPlaces b) = rw (entries-length (λ p. p + 3 + big b (p + 1) 2) (big b 0 1) 1) l in
     rw (nth-map (trackOn b) (trackPlaces b) k 0 noTrack h c)
     (track-means b g (nth (trackPlaces b) k 0) t .size (t .fields) (t .sequences) (t .pictures) (t .extensions) (t .valid))
-
--- the check of a bundle refuses as its reading does
-pub verdict-refused : (b : List ℕ) → Bytes b → (m p : ℕ) → (bundleVerdict b ≡ refused m p) ↔ BundleRefused b m p
-unfolding meaning
-verdict-refused b g m p = (
-  λ e. bundle-refused b g (rw e),
-  λ w. by-verdict (bundleVerdict b) (λ n q v. refused-along (λ i j. bundleVerdict b ≡ refused i j) (rw v at (w .refuses)) v) (λ v. ok-refused (sym (rw v at (w .refuses)))),
-)

@@ -222,10 +222,7 @@ fields-at = unitLaws.fields-at
 pub units-of : (x : Sample) → Formed x → UnitsOf x
 units-of = unitLaws.units-of
 
--- the check of a bundle refuses as above; L of a track, which references compare, is that of its record
-pub verdict-refused : (b : List ℕ) → Bytes b → (m p : ℕ) → (bundleVerdict b ≡ refused m p) ↔ BundleRefused b m p
-verdict-refused = unitLaws.verdict-refused
-
+-- L of a track, which references compare, is that of its record
 pub track-size :
     (b : List ℕ) → Bytes b → (k : ℕ) → 0 < k → k ≤ big b 0 1 → (t : TrackAt b (nth (trackPlaces b) k 0)) →
     lengthSizeOn b k ≡ t .fields .«length_size»

@@ -1,4 +1,4 @@
--- The rules of resolving in withoutAggregators facts, in which the promises of proofs/Promises are stated.
+-- The rules of resolving in plain facts, in which the promises of proofs/Promises are stated.
 --
 --   Extracts r n p       none of 23 to 28 holds of the extractor at p
 --   Good r n             sample n is good
