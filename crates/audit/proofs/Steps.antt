@@ -1,6 +1,7 @@
 -- The steps of the code. Assumes nothing.
 --
 --   put-three                      three writes, one after the other
+--   next-there                     the sample after the first n is there
 --   line-judged, outcome-judged    the line and the outcome of a sample that was judged
 --   Auditing, auditing-start, -length, -room, -more, -end    a loop over the samples
 use Prim.Native.Nat.{ℕ, _+_, _*_, _≤_, _<_}
@@ -20,6 +21,7 @@ use Rattle.bundles.specs.Recordings.{Recording, sampleCount, contentOf}
 use Rattle.tables.specs.Tables.{recordingIn}
 use Rattle.tables.proofs.Layouts.{samples-most}
 use Rattle.resolution_rules.specs.Calls.{numberFault}
+use Rattle.resolution_rules.proofs.Calls.{number-good}
 use Rattle.judging.specs.Steps.{judgementIn, answerOf}
 use Rattle.judging.specs.declared.Judged.{Judged}
 use Rattle.judging.specs.declared.Judged.the-variants as judged
@@ -48,6 +50,10 @@ put-three o at m p units h =
     let t = length-append (a ++ b) c in
     ap (λ (w : List ℕ). put w (at + refusalSize + placeSize) c) (put-put o a b at (at + refusalSize) (omega arith) (omega arith))
     ∙ put-put o (a ++ b) c at (at + refusalSize + placeSize) (omega arith) (omega arith)
+
+-- the sample after the first n is there
+pub next-there : (r : Recording) (n : ℕ) → n < sampleCount (r .layout) → numberFault (sampleCount (r .layout)) (n + 1) ≡ 0
+next-there r n h = number-good (sampleCount (r .layout)) (n + 1) (omega arith) (omega arith)
 
 -- a sample that was judged
 module _ (b t : List ℕ) (n : ℕ) (short : length b ≤ bundleMost) (there : numberFault (sampleCount (recordingIn b t .layout)) n ≡ 0) where

@@ -76,26 +76,21 @@ fn outcome(judged: Judged, size: usize) -> Outcome
     }
 }
 
-// Sample n judged once: its line written, and the tally raised by it.
-fn audit_sample(
-    b: &[u8],
-    t: &[u64],
-    n: SampleNumber,
-    out: &mut [u8],
-    at: usize,
-    tally: Tally,
-) -> Tally
-    requires { ⌜ (length (now b) ≤ bundleMost) × (at + lineSize ≤ length (now out)) × (0 < n .0) × (n .0 ≤ sampleCount (recordingIn (now b) (now t) .layout)) ⌝ }
-    ensures { λ r. ⌜ (r ≡ raisedBy (outcomeOf (recordingIn (now (b .entry)) (now (t .entry))) (n .0)) tally)
-        × (now (out .exit) ≡ put (now (out .entry)) at (lineOf (recordingIn (now (b .entry)) (now (t .entry))) (n .0))) ⌝ }
+// The sample after the first done samples, judged once: its line written, and what the audit finds of it.
+fn audit_sample(b: &[u8], t: &[u64], done: usize, out: &mut [u8]) -> Outcome
+    requires { ⌜ (length (now b) ≤ bundleMost) × (lineSize * done + lineSize ≤ length (now out)) × (done < sampleCount (recordingIn (now b) (now t) .layout)) ⌝ }
+    ensures { λ r. ⌜ (r ≡ outcomeOf (recordingIn (now (b .entry)) (now (t .entry))) (done + 1))
+        × (now (out .exit) ≡ put (now (out .entry)) (lineSize * done) (lineOf (recordingIn (now (b .entry)) (now (t .entry))) (done + 1))) ⌝ }
 {
+    let n = SampleNumber(done + 1);
     let judged = judging::judge(b, t, n);
-    let x = tables::sample_bytes(b, t, n);
-    put_line(out, at, judged);
-    tally::raised_lent(tally, outcome(judged, x.len()))
+    let x = sample_tables::sample_bytes(b, t, n);
+    put_line(out, LINE_SIZE * done, judged);
+    outcome(judged, x.len())
 }
 
 // All samples, of which there are count: a line each over the start of a buffer that has room, and their tally.
+// The one running tally is this function's own, and is lent once a sample.
 fn audit_samples(b: &[u8], t: &[u64], count: usize, out: &mut [u8]) -> Tally
     requires { ⌜ (length (now b) ≤ bundleMost) × (count ≡ sampleCount (recordingIn (now b) (now t) .layout)) × (lineSize * count ≤ length (now out)) ⌝ }
     ensures { λ r. ⌜ (r ≡ tally (recordingIn (now (b .entry)) (now (t .entry))))
@@ -104,7 +99,8 @@ fn audit_samples(b: &[u8], t: &[u64], count: usize, out: &mut [u8]) -> Tally
     let mut tally = tally::start();
     let mut done: usize = 0;
     while done < count {
-        tally = audit_sample(b, t, SampleNumber(done + 1), out, LINE_SIZE * done, tally);
+        let outcome = audit_sample(b, t, done, out);
+        tally::raise(&mut tally, outcome);
         done += 1;
     }
     tally
@@ -126,7 +122,7 @@ fn audit_accepted(b: &[u8], t: &[u64], out: &mut [u8]) -> Audited
     ensures { λ r. ⌜ Wrote (now (out .entry)) (now (out .exit)) (linesAnswer r) (within (length (now (out .entry))) (ok (lines (recordingIn (now (b .entry)) (now (t .entry))))))
         × (tallyAnswer r ≡ tallyWithin (recordingIn (now (b .entry)) (now (t .entry))) (length (now (out .entry)))) ⌝ }
 {
-    let count = tables::sample_count(t);
+    let count = sample_tables::sample_count(t);
     let size = LINE_SIZE * count;
     if out.len() < size {
         return refused(refusals::OUTPUT_TOO_LONG);

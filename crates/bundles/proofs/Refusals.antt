@@ -25,12 +25,12 @@ use Rattle.numbers.specs.declared.MaybeKind.the-variants.{Known, Unknown}
 use Rattle.record_rules.specs.Read.{recordFault}
 use Rattle.record_rules.proofs.Refusals.{record-refusal}
 use Rattle.bundles.specs.Limits.{countFault, cut, bundleMost, trackLeast, trackMost, referenceMost, sampleMost}
-use Rattle.bundles.specs.Fields.{trackCountSize, trackHeadSize, referenceCountSize, referenceSize, sampleCountSize, entrySize, byteCountSize}
+use Rattle.bundles.specs.Fields.{trackCountSize, trackHeadSize, referenceCountSize, referenceSize, sampleCountSize, sampleEntrySize, byteCountSize}
 use Rattle.bundles.specs.Recordings.{Entry}
 use Rattle.bundles.specs.Tracks.{recordFaultAs, tracksAt, recordLength, kindAt, recordAt, trackCount, trackEnd, trackFault, tracksVerdict, referencesAt}
 use Rattle.bundles.specs.References.{from, to, noSuchTrack, lengthSizeOn, referenceCount, referenceFault, referencesVerdict, samplesAt}
 use Rattle.bundles.specs.Samples.{track, entryCount, entriesAt, entryAt, entryOn, orderFault, entryFault, entryNumbers, samplesVerdict, byteCountAt}
-use Rattle.bundles.specs.Bundles.{byteCount, endFault, bytesVerdict, lengthVerdict, bundleVerdict, BundleRefusal}
+use Rattle.bundles.specs.Bundles.{byteCount, byteCountFault, bytesVerdict, lengthVerdict, bundleVerdict, BundleRefusal}
 use Rattle.words.proofs.Entries.{walk-keeps-here}
 use Rattle.bundles.proofs.Passing.{first-earlier}
 use Rattle.bundles.proofs.Sections.{count-good, track-good, reference-good, entries-inside, tracks-good, references-good, samples-good}
@@ -119,12 +119,12 @@ module _ (b : List ℕ) where
   entry-of : (n : ℕ) → OfBundle (entryFault b n)
   unfolding entryFault some
   entry-of n =
-      chain bundleCut (length b <? entryAt b n + entrySize) refl
+      chain bundleCut (length b <? entryAt b n + sampleEntrySize) refl
       (chain badTrackOrTime (noSuchTrack b (track b (entryAt b n))) refl
       (none-or-pick bundleRefusals (n ≡? 1) 0 _ (inl refl) (order-of (entryOn b (entryAt b (n - 1))) (entryOn b (entryAt b n)))))
 
-  end-of : (p total : ℕ) → OfBundle (endFault b p total)
-  unfolding endFault some
+  end-of : (p total : ℕ) → OfBundle (byteCountFault b p total)
+  unfolding byteCountFault some
   end-of p total =
       chain bundleCut (length b <? p + byteCountSize) refl
       (chain badByteCount (not (byteCount b p ≡? total)) refl

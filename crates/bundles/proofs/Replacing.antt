@@ -21,12 +21,12 @@ use Rattle.words.proofs.Lists.{map-cong, upto-from}
 use Rattle.words.proofs.Walks.{skip-grows, skip-stride, entries-end, entries-same}
 use Rattle.words.proofs.Splices.{part-ext, splice-length, splice-before, cuts-splice, cuts-lengths, take-sum}
 use Rattle.bundles.specs.Limits.{bundleMost, trackLeast, trackMost, referenceMost, sampleMost, countFault}
-use Rattle.bundles.specs.Fields.{trackCountSize, recordLengthSize, recordLengthOffset, trackHeadSize, referenceCountSize, trackNumberSize, toOffset, referenceSize, sampleCountSize, timeSize, sampleLengthSize, timeOffset, lengthOffset, entrySize, byteCountSize}
+use Rattle.bundles.specs.Fields.{trackCountSize, recordLengthSize, recordLengthOffset, trackHeadSize, referenceCountSize, trackNumberSize, toOffset, referenceSize, sampleCountSize, timeSize, sampleLengthSize, timeOffset, lengthOffset, sampleEntrySize, byteCountSize}
 use Rattle.bundles.specs.Recordings.{Layout, Recording, replaced, sampleCount, contentOf}
 use Rattle.bundles.specs.Tracks.{trackCount, tracksAt, recordLength, trackEnd, recordAt, sizeAt, trackFault, trackPlaces, tracksVerdict, trackOn, tracks, referencesAt}
 use Rattle.bundles.specs.References.{referenceCount, noSuchTrack, referenceFault, referencePlaces, referencesVerdict, referenceOn, references, samplesAt}
 use Rattle.bundles.specs.Samples.{entryCount, entriesAt, entryAt, entryFault, entryNumbers, samplesVerdict, entryOn, sampleEntries, lengthAt, lengths, byteCountAt}
-use Rattle.bundles.specs.Bundles.{endFault, bytesVerdict, bundleVerdict, layoutOf, contentsAt, recordingOf, meaning, contentAt}
+use Rattle.bundles.specs.Bundles.{byteCountFault, bytesVerdict, bundleVerdict, layoutOf, contentsAt, recordingOf, meaning, contentAt}
 use Rattle.bundles.proofs.Sections.{trackEnd-grows, Accepted, accepted, sample-count, lengths-count}
 
 module _ (b c : List ℕ) (same : length c ≡ length b) (agree : (q : ℕ) → q < contentsAt b → getD c q 0 ≡ getD b q 0) where
@@ -46,7 +46,7 @@ module _ (b c : List ℕ) (same : length c ≡ length b) (agree : (q : ℕ) → 
   unfolding samplesAt
   references-before = omega arith
 
-  samples-before : entriesAt b + entryCount b * entrySize ≤ byteCountAt b
+  samples-before : entriesAt b + entryCount b * sampleEntrySize ≤ byteCountAt b
   unfolding byteCountAt
   samples-before = omega arith
 
@@ -131,10 +131,10 @@ module _ (b c : List ℕ) (same : length c ≡ length b) (agree : (q : ℕ) → 
   unfolding byteCountAt
   byteCountAt-same = rw (entryCount-same, samplesAt-same)
 
-  entry-below : (n : ℕ) → List·Memᴰ n (entryNumbers b) → Below (entryAt b n + entrySize)
+  entry-below : (n : ℕ) → List·Memᴰ n (entryNumbers b) → Below (entryAt b n + sampleEntrySize)
   entry-below n m = let u = upto-from (entryCount b) n m in let y = samples-before in omega arith
 
-  entryOn-same : (p : ℕ) → Below (p + entrySize) → entryOn c p ≡ entryOn b p
+  entryOn-same : (p : ℕ) → Below (p + sampleEntrySize) → entryOn c p ≡ entryOn b p
   entryOn-same p h = rw (head-big p trackNumberSize (omega arith), head-big (p + timeOffset) timeSize (omega arith))
 
   entryFault-same : (n : ℕ) → List·Memᴰ n (entryNumbers b) → entryFault c n ≡ entryFault b n
@@ -156,9 +156,9 @@ module _ (b c : List ℕ) (same : length c ≡ length b) (agree : (q : ℕ) → 
   layout-same = rw (tracks-same, references-same, sampleEntries-same)
 
   -- section four, and the verdicts
-  endFault-same : endFault c (byteCountAt b) (sum (lengths b)) ≡ endFault b (byteCountAt b) (sum (lengths b))
-  unfolding endFault
-  endFault-same = rw (head-big (byteCountAt b) byteCountSize (omega arith), same)
+  byteCountFault-same : byteCountFault c (byteCountAt b) (sum (lengths b)) ≡ byteCountFault b (byteCountAt b) (sum (lengths b))
+  unfolding byteCountFault
+  byteCountFault-same = rw (head-big (byteCountAt b) byteCountSize (omega arith), same)
 
   count-same : {p : ℕ} (q n least most : ℕ) → p ≡ q → Below (q + n) → countFault c p n least most atPlace p ≡ countFault b q n least most atPlace q
   unfolding countFault
@@ -182,7 +182,7 @@ module _ (b c : List ℕ) (same : length c ≡ length b) (agree : (q : ℕ) → 
 
   bytesVerdict-same : bytesVerdict c ≡ bytesVerdict b
   unfolding bytesVerdict
-  bytesVerdict-same = rw (lengths-same, byteCountAt-same, endFault-same)
+  bytesVerdict-same = rw (lengths-same, byteCountAt-same, byteCountFault-same)
 
   pub verdict-same : bundleVerdict c ≡ bundleVerdict b
   unfolding bundleVerdict

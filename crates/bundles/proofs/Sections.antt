@@ -11,10 +11,9 @@
 --   Accepted, accepted           a bundle without a refusal, section by section
 use Prim.Native.Nat.{ℕ, zero, suc, _+_, _-_, _*_, _≤_, _<_}
 use mathlib.Core.Path.{_≡_, refl, ap, sym, _∙_}
-use mathlib.Core.Bool.{Bool, true, false, _||_, _&&_, not}
+use mathlib.Core.Bool.{Bool, true, false, _&&_, not}
 use mathlib.Core.List.{List, map, List·Memᴰ}
 use native.Mathlib.Omega.{arith}
-use native.Mathlib.Nat.{pos-of-ne-zero}
 use borrow.Author.Tests.{ltb-false, leb-false, eqb-true, eqb-false, not-false, eq-eqb, ne-eqb}
 use lib.ListN.{length, length-map}
 use Rattle.words.specs.Tests.{_<?_, _≤?_, _≡?_, pick}
@@ -23,23 +22,19 @@ use Rattle.words.specs.Refusals.{_if_, _orElse_, ok, _atPlace_, first}
 use Rattle.words.specs.Lists.{sum, upto}
 use Rattle.words.specs.Walks.{entries, skip}
 use Rattle.words.specs.Bytes.{big}
-use Rattle.words.proofs.Tests.{true-false, by-number}
+use Rattle.words.proofs.Tests.{true-false, by-number, count-within}
 use Rattle.words.proofs.Lists.{upto-mem}
 use Rattle.words.proofs.Rows.{upto-length}
 use Rattle.words.proofs.Refusals.{if-none, orElse-none, at-ok, and-ok, first-ok}
 use Rattle.words.proofs.Walks.{skip-grows, skip-stride}
 use Rattle.bundles.specs.Limits.{bundleMost, trackLeast, trackMost, referenceMost, sampleMost, cut, countFault}
-use Rattle.bundles.specs.Fields.{trackCountSize, trackHeadSize, referenceCountSize, referenceSize, sampleCountSize, entrySize, byteCountSize}
+use Rattle.bundles.specs.Fields.{trackCountSize, trackHeadSize, referenceCountSize, referenceSize, sampleCountSize, sampleEntrySize, byteCountSize}
 use Rattle.bundles.specs.Recordings.{Entry}
 use Rattle.bundles.specs.Tracks.{trackCount, tracksAt, recordLength, trackEnd, kindAt, recordAt, recordFaultAs, trackFault, trackPlaces, tracksVerdict, tracks, trackOn, referencesAt}
 use Rattle.bundles.specs.References.{referenceCount, from, to, noSuchTrack, lengthSizeOn, referenceFault, referencePlaces, referencesVerdict, references, referenceOn, samplesAt}
 use Rattle.bundles.specs.Samples.{entryCount, entriesAt, entryAt, track, lengthAt, orderFault, entryFault, entryNumbers, samplesVerdict, sampleEntries, entryOn, lengths, byteCountAt}
-use Rattle.bundles.specs.Bundles.{byteCount, endFault, bytesVerdict, lengthVerdict, bundleVerdict}
+use Rattle.bundles.specs.Bundles.{byteCount, byteCountFault, bytesVerdict, lengthVerdict, bundleVerdict}
 use Rattle.words.proofs.Entries.{walk-keeps-end, entries-length}
-
-or-neither : (a b : Bool) → (a || b) ≡ false → (a ≡ false) × (b ≡ false)
-or-neither true b e = true-false true refl e
-or-neither false b e = (refl, e)
 
 module _ (b : List ℕ) where
   pub record Count (p n least most : ℕ) : Type 0 where
@@ -97,9 +92,7 @@ module _ (b : List ℕ) where
   -- section two
   pub exists : (k : ℕ) → noSuchTrack b k ≡ false → (0 < k) × (k ≤ trackCount b)
   unfolding noSuchTrack
-  exists k e =
-      let a = or-neither (k ≡? 0) (trackCount b <? k) e in
-      (pos-of-ne-zero (eqb-false _ _ (a .0)), ltb-false _ _ (a .1))
+  exists k e = count-within (trackCount b) k e
 
   pub record ReferenceGood (p : ℕ) : Type 0 where
     pub inside : p + referenceSize ≤ length b
@@ -156,7 +149,7 @@ module _ (b : List ℕ) where
       (ltb-false _ _ (if-none _ _ (a .0)), λ q. leb-false _ _ (and-not _ _ (if-none _ _ (a .1)) (eq-eqb _ _ (sym q))))
 
   pub record EntryGood (n : ℕ) : Type 0 where
-    pub inside : entryAt b n + entrySize ≤ length b
+    pub inside : entryAt b n + sampleEntrySize ≤ length b
     pub there : (0 < track b (entryAt b n)) × (track b (entryAt b n) ≤ trackCount b)
     pub order : 1 < n → orderFault (entryOn b (entryAt b (n - 1))) (entryOn b (entryAt b n)) ≡ 0
 
@@ -167,7 +160,7 @@ module _ (b : List ℕ) where
   pub entry-good : (n : ℕ) → entryFault b n ≡ 0 → EntryGood n
   unfolding entryFault
   entry-good n e =
-      let a = orElse-none (cut b (entryAt b n) entrySize) _ e in
+      let a = orElse-none (cut b (entryAt b n) sampleEntrySize) _ e in
       let c = orElse-none (badTrackOrTime if noSuchTrack b (track b (entryAt b n))) _ (a .1) in
       record {
         inside = ltb-false _ _ (if-none _ _ (a .0));
@@ -181,7 +174,7 @@ module _ (b : List ℕ) where
     pub inside : byteCountAt b ≤ length b
 
   -- the last entry, if there is one, ends in the bundle
-  pub entries-inside : entriesAt b ≤ length b → (n : ℕ) → (0 < n → entryFault b n ≡ 0) → entriesAt b + n * entrySize ≤ length b
+  pub entries-inside : entriesAt b ≤ length b → (n : ℕ) → (0 < n → entryFault b n ≡ 0) → entriesAt b + n * sampleEntrySize ≤ length b
   entries-inside h n e = by-number n
       (λ z. omega arith)
       (λ k z. let g = entry-good n (e (omega arith)) .inside in omega arith)
@@ -208,8 +201,8 @@ module _ (b : List ℕ) where
     pub count : byteCount b p ≡ total
     pub end : p + byteCountSize + total ≡ length b
 
-  pub end-good : (p total : ℕ) → endFault b p total ≡ 0 → EndGood p total
-  unfolding endFault
+  pub end-good : (p total : ℕ) → byteCountFault b p total ≡ 0 → EndGood p total
+  unfolding byteCountFault
   end-good p total e =
       let a = orElse-none (cut b p byteCountSize) _ e in
       let c = orElse-none (badByteCount if not (byteCount b p ≡? total)) _ (a .1) in

@@ -1,7 +1,7 @@
 -- Section four of a bundle b: sample bytes (01, 'The bundle', 4). The count, equal to the sum of the lengths; samples lie without gaps; the
 -- bundle ends there. And the whole: its first refusal front to back, or the recording that it means.
 --
---   endFault b p total           the refusal of section four at p, where the lengths add to total: 7 or 2
+--   byteCountFault b p total           the refusal of section four at p, where the lengths add to total: 7 or 2
 --   bundleVerdict b              the bundle's first refusal, section by section
 --   BundleRefusal b n p          n at p is a refusal that a bundle can have
 --   layoutOf b, recordingOf b    what its sections mean
@@ -30,15 +30,15 @@ module _ (b : List ℕ) where
   byteCount p = big b p byteCountSize
 
   -- The count at p, where the lengths add to total: 7 for the sum comes first, then 2, then 7 for bytes that follow.
-  unfoldable pub endFault : ℕ → ℕ → ℕ
-  endFault p total =
+  unfoldable pub byteCountFault : ℕ → ℕ → ℕ
+  byteCountFault p total =
       cut b p byteCountSize orElse
       badByteCount if not (byteCount p ≡? total) orElse
       cut b (p + byteCountSize) (byteCount p) orElse
       badByteCount if p + byteCountSize + byteCount p <? length b
 
   unfoldable pub bytesVerdict : Verdict
-  bytesVerdict = endFault (byteCountAt b) (sum (lengths b)) atPlace byteCountAt b
+  bytesVerdict = byteCountFault (byteCountAt b) (sum (lengths b)) atPlace byteCountAt b
 
   abbrev pub lengthVerdict : Verdict
   lengthVerdict = (bundleTooLong if bundleMost <? length b) atPlace 0

@@ -5,7 +5,7 @@
 --   referenceCountSize                                section two: the count of references
 --   trackNumberSize, referenceSize                    a track number; a reference: from-track, to-track
 --   sampleCountSize                                   section three: the count of samples
---   timeSize, sampleLengthSize, entrySize             a sample's entry: track, decode time, length
+--   timeSize, sampleLengthSize, sampleEntrySize             a sample's entry: track, decode time, length
 --   byteCountSize                                     section four: the count of bytes
 use Prim.Native.Nat.{ℕ, _+_}
 
@@ -54,8 +54,8 @@ timeOffset = trackNumberSize
 abbrev pub lengthOffset : ℕ
 lengthOffset = timeOffset + timeSize
 
-abbrev pub entrySize : ℕ
-entrySize = lengthOffset + sampleLengthSize
+abbrev pub sampleEntrySize : ℕ
+sampleEntrySize = lengthOffset + sampleLengthSize
 
 -- section four
 abbrev pub byteCountSize : ℕ

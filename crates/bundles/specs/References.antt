@@ -10,8 +10,8 @@
 --   samplesAt b                  where section three starts
 use Prim.Native.Nat.{ℕ, _+_, _*_}
 use mathlib.Core.List.{List, map}
-use mathlib.Core.Bool.{Bool, _||_, not}
-use Rattle.words.specs.Tests.{_<?_, _≡?_}
+use mathlib.Core.Bool.{Bool, not}
+use Rattle.words.specs.Tests.{_≡?_, outOf}
 use Rattle.words.specs.RefusalNumbers.{badReference}
 use Rattle.words.specs.Refusals.{_if_, _orElse_, Verdict, _andThen_, _atPlace_, first}
 use Rattle.words.specs.Lists.{nth}
@@ -34,7 +34,7 @@ module _ (b : List ℕ) where
   to p = big b (p + toOffset) trackNumberSize
 
   unfoldable pub noSuchTrack : ℕ → Bool
-  noSuchTrack k = (k ≡? 0) || (trackCount b <? k)
+  noSuchTrack k = outOf (trackCount b) k
 
   -- L of track k
   abbrev pub lengthSizeOn : ℕ → ℕ

@@ -19,7 +19,8 @@ use Rattle.words.specs.Refusals.{_if_, _orElse_, Verdict, _andThen_, _atPlace_,
 use Rattle.words.specs.Lists.{upto}
 use Rattle.words.specs.Bytes.{big}
 use Rattle.bundles.specs.Limits.{cut, countFault, sampleMost}
-use Rattle.bundles.specs.Fields.{trackNumberSize, sampleCountSize, timeSize, sampleLengthSize, timeOffset, lengthOffset, entrySize}
+use Rattle.bundles.specs.Fields.{trackNumberSize, sampleCountSize, timeSize, sampleLengthSize}
+use Rattle.bundles.specs.Fields.{timeOffset, lengthOffset, sampleEntrySize}
 use Rattle.bundles.specs.Recordings.{Entry}
 use Rattle.bundles.specs.References.{noSuchTrack, samplesAt}
 
@@ -38,7 +39,7 @@ module _ (b : List ℕ) where
   entriesAt = samplesAt b + sampleCountSize
 
   abbrev pub entryAt : ℕ → ℕ
-  entryAt n = entriesAt + (n - 1) * entrySize
+  entryAt n = entriesAt + (n - 1) * sampleEntrySize
 
   -- what the entry at p says
   abbrev pub track : ℕ → ℕ
@@ -56,7 +57,7 @@ module _ (b : List ℕ) where
   -- Entry n is there (2), its track exists, and it comes after entry n - 1 (6); the first has none before it.
   unfoldable pub entryFault : ℕ → ℕ
   entryFault n =
-      cut b (entryAt n) entrySize orElse
+      cut b (entryAt n) sampleEntrySize orElse
       badTrackOrTime if noSuchTrack b (track (entryAt n)) orElse
       pick (n ≡? 1) 0 (orderFault (entryOn (entryAt (n - 1))) (entryOn (entryAt n)))
 
@@ -77,4 +78,4 @@ module _ (b : List ℕ) where
 
   -- where section four starts
   unfoldable pub byteCountAt : ℕ
-  byteCountAt = entriesAt + entryCount * entrySize
+  byteCountAt = entriesAt + entryCount * sampleEntrySize

@@ -7,11 +7,11 @@ ghost use Rattle.words.specs.Refusals.{ok, _andThen_, _atPlace_};
 ghost use Rattle.words.specs.Lists.{sum};
 ghost use Rattle.record_rules.specs.Read.{recordFault, lengthSize};
 ghost use Rattle.bundles.specs.Limits.{countFault, trackMost};
-ghost use Rattle.bundles.specs.Fields.{entrySize};
+ghost use Rattle.bundles.specs.Fields.{sampleEntrySize};
 ghost use Rattle.bundles.specs.Tracks.{tracksVerdict, referencesAt};
 ghost use Rattle.bundles.specs.References.{noSuchTrack, referenceFault, referencesVerdict, samplesAt};
 ghost use Rattle.bundles.specs.Samples.{entryAt, time, lengthAt, entryOn, orderFault, entryFault, lengths, samplesVerdict};
-ghost use Rattle.bundles.specs.Bundles.{endFault, bytesVerdict, bundleVerdict};
+ghost use Rattle.bundles.specs.Bundles.{byteCountFault, bytesVerdict, bundleVerdict};
 ghost use Rattle.bundles.specs.Answers.{answerOf};
 ghost use Rattle.bundles.specs.Steps.{LengthSizes, ReadTrack, TracksChecked, sectionOf};
 use numbers::ByteOffset;
@@ -105,7 +105,7 @@ fn no_such_track(b: &[u8], k: usize) -> bool
 
 // The decode time that a sample's entry says.
 fn sample_time(b: &[u8], at: usize) -> usize
-    requires { ⌜ at + entrySize ≤ length (now b) ⌝ }
+    requires { ⌜ at + sampleEntrySize ≤ length (now b) ⌝ }
     ensures { λ r. ⌜ r ≡ time (now (b .entry)) at ⌝ }
 {
     numbers::number(b, at + fields::TIME_OFFSET, fields::TIME_SIZE)
@@ -113,7 +113,7 @@ fn sample_time(b: &[u8], at: usize) -> usize
 
 // The length that a sample's entry says.
 fn sample_length(b: &[u8], at: usize) -> usize
-    requires { ⌜ at + entrySize ≤ length (now b) ⌝ }
+    requires { ⌜ at + sampleEntrySize ≤ length (now b) ⌝ }
     ensures { λ r. ⌜ (r ≡ lengthAt (now (b .entry)) at) × (r < 4294967296) ⌝ }
 {
     numbers::number(b, at + fields::LENGTH_OFFSET, fields::SAMPLE_LENGTH_SIZE)
@@ -121,7 +121,7 @@ fn sample_length(b: &[u8], at: usize) -> usize
 
 // The refusal of a sample's entry after the entry before it: 6, or 0 for none.
 fn order_fault(b: &[u8], before: usize, at: usize) -> u8
-    requires { ⌜ (before + entrySize ≤ length (now b)) × (at + entrySize ≤ length (now b)) ⌝ }
+    requires { ⌜ (before + sampleEntrySize ≤ length (now b)) × (at + sampleEntrySize ≤ length (now b)) ⌝ }
     ensures { λ r. ⌜ r ≡ orderFault (entryOn (now (b .entry)) before) (entryOn (now (b .entry)) at) ⌝ }
 {
     let earlier = numbers::number(b, before, fields::TRACK_NUMBER_SIZE);
@@ -138,8 +138,8 @@ fn order_fault(b: &[u8], before: usize, at: usize) -> u8
 }
 
 // The refusal of the fourth count at a place, where the lengths add to a total: 7, 2, or 0 for none.
-fn end_fault(b: &[u8], at: usize, total: usize) -> u8
-    ensures { λ r. ⌜ r ≡ endFault (now (b .entry)) at total ⌝ }
+fn byte_count_fault(b: &[u8], at: usize, total: usize) -> u8
+    ensures { λ r. ⌜ r ≡ byteCountFault (now (b .entry)) at total ⌝ }
 {
     if cut(b, at, fields::BYTE_COUNT_SIZE) {
         return refusals::BUNDLE_CUT;
@@ -331,9 +331,9 @@ fn check_tracks(b: &[u8], sizes: &mut [u8]) -> Section
 
 // Section four, at its place, where the lengths add to a total.
 fn check_bytes(b: &[u8], at: usize, total: usize) -> Checked
-    ensures { λ r. ⌜ answerOf r ≡ endFault (now (b .entry)) at total atPlace at ⌝ }
+    ensures { λ r. ⌜ answerOf r ≡ byteCountFault (now (b .entry)) at total atPlace at ⌝ }
 {
-    let fault = end_fault(b, at, total);
+    let fault = byte_count_fault(b, at, total);
     if fault != 0 {
         return Checked::Refused(Refusal {
             number: fault,

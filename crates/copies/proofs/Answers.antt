@@ -1,11 +1,9 @@
 -- What code says of a copy, by parts. Assumes nothing.
 --
 --   copy-ill, copy-border, copy-formed    25; 26 and 27; 28 or none
---   refused-as                            a copy that is refused
---   unchained-copy                         a copy that is not is what one walk over it counts
---   fault-of                              the refusal number in it
+--   chained-copy                          28 or none is what one walk over the copy finds
 --   good-formed, good-border              a copy without a refusal: of a well-formed sample, without 26 and 27
---   good-flat, good-whole                 its units are those of one walk, and whole
+--   good-flat, good-plain, good-whole     its units are those of one walk, none an extractor, and whole
 --   place-refused, place-good, place-whole    where a copied unit stands; a unit that stands there is whole
 --   unit-past, unit-place                 its bytes
 use Prim.Native.Nat.{ℕ, _+_, _≤_, _<_}
@@ -27,7 +25,7 @@ use Rattle.samples.proofs.Laws.{formed-ok}
 use Rattle.copies.specs.Copies.{copyEnd, copied, formFault, borderFault, chainFault, copyFault, copyUnits}
 use Rattle.copies.specs.Extracted.{unitBytes, copiedUnit}
 use Rattle.copies.specs.Flat.{flatPlaces}
-use Rattle.copies.specs.Written.{refusedAmount, unchainedAmount, copyAmount, copiedPlace}
+use Rattle.copies.specs.Written.{copiedPlace}
 use Rattle.words.proofs.Numbered.{nth-none, nth-other, nth-map, part-past}
 use Rattle.copies.proofs.Flat.{flat-good}
 use Rattle.copies.proofs.Copies.{copy-cut, copied-flat}
@@ -50,17 +48,8 @@ module _ (z : Sample) where
     unfolding copyFault
     copy-formed k e = rw (k, e)
 
-    pub refused-as : {f : ℕ} → f ≡ copyFault z o n → (f ≡ 0 → ⊥) → refusedAmount f ≡ copyAmount z o n
-    unfolding copyAmount
-    refused-as {f} e h = rw (← e, ne-eqb f 0 h)
-
-    pub unchained-copy : check z ≡ ok tt → borderFault z o n ≡ 0 → unchainedAmount z (rest z (copyEnd z o n) o) ≡ copyAmount z o n
-    unfolding unchainedAmount copyAmount
-    unchained-copy k e = rw (← copied-flat z o n e k, copy-formed k e)
-
-    pub fault-of : copyAmount z o n .fault ≡ copyFault z o n
-    unfolding copyAmount
-    fault-of = by-bool (copyFault z o n ≡? 0) (λ t. rw t (sym (eqb-true _ _ t))) (λ t. rw t)
+    pub chained-copy : check z ≡ ok tt → borderFault z o n ≡ 0 → chainFault z (rest z (copyEnd z o n) o) ≡ copyFault z o n
+    chained-copy k e = rw (← copied-flat z o n e k) (sym (copy-formed k e))
 
     -- a copy without a refusal
     module _ (g : copyFault z o n ≡ 0) where
@@ -74,6 +63,9 @@ module _ (z : Sample) where
 
       pub good-flat : copied z o n ≡ rest z (copyEnd z o n) o
       good-flat = copied-flat z o n good-border good-formed
+
+      pub good-plain : chainFault z (rest z (copyEnd z o n) o) ≡ 0
+      good-plain = rw (← good-flat) (sym (copy-formed good-formed good-border) ∙ g)
 
       pub good-whole : (q : ℕ) → List·Memᴰ q (copied z o n) → Whole z (end z) q
       good-whole q m = flat-good z o (copyEnd z o n) (copy-cut z o n good-border good-formed) q (keep-from _ (flatPlaces z o (copyEnd z o n)) (rw good-flat at m) .0) .0

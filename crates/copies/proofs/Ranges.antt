@@ -4,25 +4,20 @@
 --   fault-range                            the refusals of a copy: 25 to 27, then 28
 --   range-formed                           a copy without 25 to 27
 --   range-zero, range-some                 the answer by the refusal
-use Prim.Native.Nat.{ℕ, zero, suc, _<_}
-use mathlib.Core.Path.{_≡_, refl, ap, sym, _∙_}
-use mathlib.Core.Bool.{not}
-use native.Mathlib.Omega.{arith}
-use borrow.Author.Tests.{ne-eqb, eq-eqb, not-false}
+use Prim.Native.Nat.{ℕ, suc}
+use mathlib.Core.Path.{_≡_, sym}
+use borrow.Author.Tests.{ne-eqb, not-false}
 use lib.Dec.{eqb·suc-zero}
 use Rattle.words.specs.Refusals.{ok, refused, _if_, _orElse_}
 use Rattle.words.specs.RefusalNumbers.{namedIllFormed, extractorCopied}
 use Rattle.words.specs.Lists.{some}
-use Rattle.words.proofs.Tests.{by-number}
 use Rattle.words.proofs.Refusals.{if-none, orElse-none, orElse-assoc}
-use Rattle.numbers.specs.declared.ByteOffset.{ByteOffset}
 use Rattle.units.specs.Units.{Sample, isExtractor}
 use Rattle.units.specs.Steps.{place}
-use Rattle.samples.specs.Check.{check, wellFormed}
+use Rattle.samples.specs.Check.{check}
 use Rattle.samples.proofs.Laws.{formed-ok}
-use Rattle.copies.specs.Copies.{copyEnd, copied, borderFault, copyFault}
+use Rattle.copies.specs.Copies.{copyEnd, copied, formFault, borderFault, copyFault}
 use Rattle.copies.specs.Range.{rangeFault, rangeOf}
-use Rattle.copies.specs.declared.range.CopyRange.{CopyRange}
 use Rattle.copies.specs.declared.range.CopyRange.the-variants.{Refused, End}
 
 module _ (z : Sample) (o n : ℕ) where
@@ -40,12 +35,12 @@ module _ (z : Sample) (o n : ℕ) where
 
   pub fault-range : copyFault z o n ≡ (rangeFault z o n orElse (extractorCopied if some (isExtractor z) (copied z o n)))
   unfolding copyFault rangeFault
-  fault-range = sym (orElse-assoc (namedIllFormed if not (wellFormed z)) (borderFault z o n) _)
+  fault-range = sym (orElse-assoc (formFault z) (borderFault z o n) _)
 
   pub range-formed : rangeFault z o n ≡ 0 → (check z ≡ ok tt) × (borderFault z o n ≡ 0)
   unfolding rangeFault
   range-formed e =
-      let a = orElse-none (namedIllFormed if not (wellFormed z)) _ e in
+      let a = orElse-none (formFault z) _ e in
       (formed-ok z (not-false _ (if-none 24 _ (a .0))), a .1)
 
   pub range-zero : rangeFault z o n ≡ 0 → rangeOf z o n ≡ End (place (copyEnd z o n))

@@ -9,26 +9,20 @@ ghost use Rattle.words.specs.Refusals.{ok};
 ghost use Rattle.words.specs.Lists.{nth};
 ghost use Rattle.units.specs.Units.{sample, next, border};
 ghost use Rattle.samples.specs.Check.{check};
-ghost use Rattle.copies.specs.Copies.{copyStarts, copyEnd, copyEnds, borderFault, copyFault};
+ghost use Rattle.copies.specs.Copies.{copyStarts, copyEnd, copyEnds, borderFault, chainFault, copyFault};
 ghost use Rattle.copies.specs.Extracted.{copiedUnit, extracted};
 ghost use Rattle.copies.specs.Flat.{unitsBetween, BetweenBorders};
-ghost use Rattle.copies.specs.Written.{refusedAmount, unchainedAmount, copyAmount, copiedPlace};
+ghost use Rattle.copies.specs.Written.{copiedPlace};
 use numbers::ByteOffset;
 use numbers::LengthSize;
 use numbers::refusals;
 use samples::Checked;
+use unit_steps::Item;
 use units::MaybeExtractor;
 use units::Track;
 
 // The size of the length that stands before a unit in the output.
 pub const LENGTH_BEFORE: usize = 4;
-
-// What is counted of a copy: its refusal number, 0 for none; the number of its units; the number of their bytes.
-struct CopyAmount {
-    fault: u8,
-    count: usize,
-    bytes: usize,
-}
 
 // Where the next unit starts, after a unit that lies in the sample.
 fn next_at(k: Track, z: &[u8], at: usize) -> usize
@@ -106,101 +100,88 @@ pub(crate) fn copy_end(k: Track, z: &[u8], from: usize, length: usize) -> usize
     next + l.number(z, from + l.bytes() + LengthSize::HEADER)
 }
 
-// A copy that is refused.
-fn refused(fault: u8) -> CopyAmount
-    ensures { λ r. ⌜ r ≡ refusedAmount fault ⌝ }
-{
-    CopyAmount {
-        fault: fault,
-        count: 0,
-        bytes: 0,
-    }
-}
-
-// The number of units from a border up to a border, and of their bytes, aggregators dropped; 28 where one of them is an extractor.
-fn amount_between(k: Track, z: &[u8], from: usize, to: usize) -> CopyAmount
+// 28 where an extractor stands from a border up to a border, 0 where none does.
+fn chain_fault(k: Track, z: &[u8], from: usize, to: usize) -> u8
     requires { ⌜ BetweenBorders (sample k (now z)) from to ⌝ }
-    ensures { λ r. ⌜ r ≡ unchainedAmount (sample k (now (z .entry))) (unitsBetween (sample k (now (z .entry))) from to) ⌝ }
+    ensures { λ r. ⌜ r ≡ chainFault (sample k (now (z .entry))) (unitsBetween (sample k (now (z .entry))) from to) ⌝ }
 {
-    let l = k.length_size;
-    let n = l.bytes();
-    let mut count: usize = 0;
-    let mut bytes: usize = 0;
     let mut p = from;
     while p < to {
-        let t = units::type_at(k, z, ByteOffset(p));
-        let size = l.number(z, p);
-        if t == units::AGGREGATOR {
-            p = p + n + LengthSize::HEADER + n;
-        } else {
-            if t == units::EXTRACTOR {
-                return refused(refusals::EXTRACTOR_COPIED);
+        let item = unit_steps::item_at(k, z, ByteOffset(p));
+        match item {
+            // does not come: the sample is well formed
+            Item::Nothing => {
+                return 0;
             }
-            count += 1;
-            bytes += size;
-            p = p + n + size;
+            Item::Aggregator(included) => {
+                p = included.0;
+            }
+            Item::Extractor(_) => {
+                return refusals::EXTRACTOR_COPIED;
+            }
+            Item::Unit(u) => {
+                p = u.next.0;
+            }
         }
     }
-    CopyAmount {
-        fault: 0,
-        count: count,
-        bytes: bytes,
-    }
+    0
 }
 
-// A copy of a well-formed sample: 26, 27, 28, or its units counted.
-fn copy_formed(k: Track, z: &[u8], from: usize, length: usize) -> CopyAmount
+// The refusal number of a copy of a well-formed sample, 26 to 28; 0 for none.
+fn formed_fault(k: Track, z: &[u8], from: usize, length: usize) -> u8
     requires { ⌜ check (sample k (now z)) ≡ ok tt ⌝ }
-    ensures { λ r. ⌜ r ≡ copyAmount (sample k (now (z .entry))) from length ⌝ }
+    ensures { λ r. ⌜ r ≡ copyFault (sample k (now (z .entry))) from length ⌝ }
 {
     let fault = border_fault(k, z, from, length);
     if fault != 0 {
-        return refused(fault);
+        return fault;
     }
-    amount_between(k, z, from, copy_end(k, z, from, length))
+    chain_fault(k, z, from, copy_end(k, z, from, length))
 }
 
-// A copy of a sample by data_offset and data_length: 25 to 28, or its units counted.
+// The refusal number of a copy by data_offset and data_length, 25 to 28; 0 for none.
 // The sample is checked once; then one walk goes over its top-level units up to the end of the copy, and one over the units copied.
-fn copy_amount(k: Track, z: &[u8], offset: ByteOffset, length: usize) -> CopyAmount
-    ensures { λ r. ⌜ r ≡ copyAmount (sample k (now (z .entry))) (offset .0) length ⌝ }
-{
-    let checked = samples::check_sample(k, z);
-    match checked {
-        Checked::WellFormed => copy_formed(k, z, offset.0, length),
-        Checked::Refused(_) => refused(refusals::NAMED_ILL_FORMED),
-    }
-}
-
-// The refusal number of a copy, 25 to 28; 0 for none.
 fn copy_fault(k: Track, z: &[u8], offset: ByteOffset, length: usize) -> u8
     ensures { λ r. ⌜ r ≡ copyFault (sample k (now (z .entry))) (offset .0) length ⌝ }
 {
-    let c = copy_amount(k, z, offset, length);
-    c.fault
+    let checked = samples::check_sample(k, z);
+    match checked {
+        Checked::WellFormed => formed_fault(k, z, offset.0, length),
+        Checked::Refused(_) => refusals::NAMED_ILL_FORMED,
+    }
 }
 
-// Where the ith unit from 1 stands from a border up to a border, aggregators dropped; the end of the sample where there is none.
+// Where the ith unit from 1 stands from a border up to a border with no extractor between, aggregators dropped; the end of the sample where
+// there is none.
 fn place_among(k: Track, z: &[u8], from: usize, to: usize, i: usize) -> usize
-    requires { ⌜ BetweenBorders (sample k (now z)) from to ⌝ }
+    requires { ⌜ BetweenBorders (sample k (now z)) from to × (chainFault (sample k (now z)) (unitsBetween (sample k (now z)) from to) ≡ 0) ⌝ }
     ensures { λ r. ⌜ r ≡ nth (unitsBetween (sample k (now (z .entry))) from to) i (length (now (z .entry))) ⌝ }
 {
     if i == 0 {
         return z.len();
     }
-    let l = k.length_size;
-    let n = l.bytes();
     let mut left = i;
     let mut q = from;
     while q < to {
-        if units::type_at(k, z, ByteOffset(q)) == units::AGGREGATOR {
-            q = q + n + LengthSize::HEADER + n;
-        } else {
-            left -= 1;
-            if left == 0 {
-                return q;
+        let item = unit_steps::item_at(k, z, ByteOffset(q));
+        match item {
+            // these two do not come: the sample is well formed, and there is no extractor
+            Item::Nothing => {
+                return z.len();
             }
-            q = next_at(k, z, q);
+            Item::Extractor(_) => {
+                return z.len();
+            }
+            Item::Aggregator(included) => {
+                q = included.0;
+            }
+            Item::Unit(u) => {
+                left -= 1;
+                if left == 0 {
+                    return q;
+                }
+                q = u.next.0;
+            }
         }
     }
     z.len()
@@ -218,13 +199,7 @@ fn copied_place(k: Track, z: &[u8], offset: ByteOffset, length: usize, i: usize)
 }
 
 // The ith copied unit from 1 as a part of the sample; empty where the copy is refused, or has no such unit.
-pub fn copied_unit<'a>(
-    k: Track,
-    z: &'a [u8],
-    offset: ByteOffset,
-    length: usize,
-    i: usize,
-) -> &'a [u8]
+fn copied_unit<'a>(k: Track, z: &'a [u8], offset: ByteOffset, length: usize, i: usize) -> &'a [u8]
     ensures { λ r. ⌜ now r ≡ copiedUnit (sample k (now (z .entry))) (offset .0) length i ⌝ }
 {
     let place = copied_place(k, z, offset, length, i);

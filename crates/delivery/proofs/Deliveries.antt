@@ -1,9 +1,10 @@
--- What a sample delivers, each unit with whether it is copied. Assumes nothing.
+-- What a sample delivers, each unit with where it comes from. Assumes nothing.
 --
 --   deliveries-spans                          without that, it is what the sample delivers
 --   deliveries-unit, -aggregator, -extractor  what is delivered for a unit
 --   allSize, all-none, -one, -append          the bytes of all
---   own-none, -add, copied-none, -add         own and copied bytes as they are added up
+--   ownSize, copiedSize                       own and copied bytes as a loop adds them up
+--   own-none, -add, copied-none, -add         none, and a unit more
 --   all-parts, parts-one                      all bytes are own or copied
 --   deliveries-own, deliveries-copied         own and copied bytes of what a sample delivers
 use Prim.Native.Nat.{ℕ, _+_}
@@ -21,7 +22,9 @@ use Rattle.resolution_rules.specs.Resolving.{Span, spanOf, own, copiedAt, deliv
 use Rattle.resolution_rules.specs.Amounts.{totalSize, ownBytes, copiedBytes}
 use Rattle.resolution_rules.proofs.Delivered.{aggregator-only, delivered-unit, delivered-aggregator, delivered-extractor}
 use Rattle.resolution_rules.proofs.Amounts.{ownAt, copiedSizeAt, own-unit, own-aggregator, own-extractor, copied-other, copied-extractor, own-sum, copied-sum}
-use Rattle.delivery.specs.Deliveries.{Delivery, delivery, spans, deliveriesAt, deliveries, ownPart, copiedPart, ownSize, copiedSize}
+use Rattle.delivery.specs.Deliveries.{Delivery, delivery, spans, copiesFrom, deliveriesAt, deliveries, sizeOwn, sizeCopied, ownPart, copiedPart}
+use Rattle.delivery.specs.declared.Source.{Source}
+use Rattle.delivery.specs.declared.Source.the-variants.{Own, Copy}
 
 unfoldable pub allSize : List Delivery → ℕ
 allSize ds = sum (map (λ d. d .span .size) ds)
@@ -37,6 +40,12 @@ all-one d = omega arith
 pub all-append : (ds es : List Delivery) → allSize (ds ++ es) ≡ allSize ds + allSize es
 unfolding allSize
 all-append ds es = rw (map-append (λ (d : Delivery). d .span .size) ds es) (sum-append (map (λ (d : Delivery). d .span .size) ds) (map (λ (d : Delivery). d .span .size) es))
+
+unfoldable pub ownSize : List Delivery → ℕ
+ownSize ds = sum (map ownPart ds)
+
+unfoldable pub copiedSize : List Delivery → ℕ
+copiedSize ds = sum (map copiedPart ds)
 
 own-append : (ds es : List Delivery) → ownSize (ds ++ es) ≡ ownSize ds + ownSize es
 unfolding ownSize
@@ -62,8 +71,12 @@ pub copied-add : (ds : List Delivery) (d : Delivery) → copiedSize (ds ++ (d �
 unfolding copiedSize sum
 copied-add ds d = let a = copied-append ds (d ∷ []) in omega arith
 
+parts-of : (from : Source) (n : ℕ) → sizeOwn from n + sizeCopied from n ≡ n
+parts-of Own n = omega arith
+parts-of (Copy p k) n = omega arith
+
 pub parts-one : (d : Delivery) → ownPart d + copiedPart d ≡ d .span .size
-parts-one d = by-bool (d .copied) (λ t. rw t (omega arith)) (λ t. rw t (omega arith))
+parts-one d = parts-of (d .source) (d .span .size)
 
 pub all-parts : (ds : List Delivery) → allSize ds ≡ ownSize ds + copiedSize ds
 unfolding allSize ownSize copiedSize sum
@@ -71,23 +84,31 @@ all-parts [] = refl
 all-parts (d ∷ ds) = let below = all-parts ds in let p = parts-one d in omega arith
 
 -- units that are copied
-copied-own : (us : List Span) → ownSize (map (delivery true) us) ≡ 0
-unfolding ownSize sum
-copied-own [] = refl
-copied-own (u ∷ us) = let below = copied-own us in omega arith
+copied-own : (p k : ℕ) (us : List Span) → ownSize (copiesFrom p k us) ≡ 0
+unfolding ownSize sum copiesFrom
+copied-own p k [] = refl
+copied-own p k (u ∷ us) = let below = copied-own p (k + 1) us in omega arith
 
-copied-all : (us : List Span) → copiedSize (map (delivery true) us) ≡ totalSize us
-unfolding copiedSize totalSize sum
-copied-all [] = refl
-copied-all (u ∷ us) = let below = copied-all us in omega arith
+copied-all : (p k : ℕ) (us : List Span) → copiedSize (copiesFrom p k us) ≡ totalSize us
+unfolding copiedSize totalSize sum copiesFrom
+copied-all p k [] = refl
+copied-all p k (u ∷ us) = let below = copied-all p (k + 1) us in omega arith
+
+copied-spans : (p k : ℕ) (us : List Span) → spans (copiesFrom p k us) ≡ us
+unfolding copiesFrom
+copied-spans p k [] = refl
+copied-spans p k (u ∷ us) = rw (copied-spans p (k + 1) us)
+
+own-spans : (us : List Span) → spans (map (delivery Own) us) ≡ us
+own-spans [] = refl
+own-spans (u ∷ us) = rw (own-spans us)
 
 module _ (r : Recording) (n : ℕ) where
   spans-at : (p : ℕ) → spans (deliveriesAt r n p) ≡ deliveredAt r n p
-  spans-at p = same (deliveredAt r n p)
-    where
-      same : (us : List Span) → spans (map (delivery (isExtractor (own r n) p)) us) ≡ us
-      same [] = refl
-      same (u ∷ us) = rw (same us)
+  unfolding deliveriesAt
+  spans-at p = by-bool (isExtractor (own r n) p)
+      (λ e. rw e (copied-spans p 1 (deliveredAt r n p)))
+      (λ e. rw e (own-spans (deliveredAt r n p)))
 
   spans-each : (ps : List ℕ) → spans (each (deliveriesAt r n) ps) ≡ each (deliveredAt r n) ps
   unfolding each
@@ -98,27 +119,30 @@ module _ (r : Recording) (n : ℕ) where
   unfolding deliveries delivered
   deliveries-spans = spans-each (units (own r n))
 
-  pub deliveries-unit : (p : ℕ) → isAggregator (own r n) p ≡ false → isExtractor (own r n) p ≡ false → deliveriesAt r n p ≡ delivery false (spanOf n (own r n) p) ∷ []
-  deliveries-unit p a e = rw (delivered-unit r n p a e, e)
+  pub deliveries-unit : (p : ℕ) → isAggregator (own r n) p ≡ false → isExtractor (own r n) p ≡ false → deliveriesAt r n p ≡ delivery Own (spanOf n (own r n) p) ∷ []
+  unfolding deliveriesAt
+  deliveries-unit p a e = rw (e, delivered-unit r n p a e)
 
   pub deliveries-aggregator : (p : ℕ) → isAggregator (own r n) p ≡ true → deliveriesAt r n p ≡ []
-  deliveries-aggregator p a = rw (delivered-aggregator r n p a)
+  unfolding deliveriesAt
+  deliveries-aggregator p a = rw (aggregator-only (own r n) p a, delivered-aggregator r n p a)
 
-  pub deliveries-extractor : (p : ℕ) → isExtractor (own r n) p ≡ true → deliveriesAt r n p ≡ map (delivery true) (copiedAt r n p)
-  deliveries-extractor p e = rw (delivered-extractor r n p e, e)
+  pub deliveries-extractor : (p : ℕ) → isExtractor (own r n) p ≡ true → deliveriesAt r n p ≡ copiesFrom p 1 (copiedAt r n p)
+  unfolding deliveriesAt
+  deliveries-extractor p e = rw (e, delivered-extractor r n p e)
 
   own-at : (p : ℕ) → ownSize (deliveriesAt r n p) ≡ ownAt r n p
   own-at p = by-bool (isAggregator (own r n) p)
       (λ a. rw (deliveries-aggregator p a, own-aggregator r n p a) own-none)
       (λ a. by-bool (isExtractor (own r n) p)
-      (λ e. ap ownSize (deliveries-extractor p e) ∙ copied-own (copiedAt r n p) ∙ sym (own-extractor r n p e))
+      (λ e. ap ownSize (deliveries-extractor p e) ∙ copied-own p 1 (copiedAt r n p) ∙ sym (own-extractor r n p e))
       (λ e. ap ownSize (deliveries-unit p a e) ∙ rw (own-unit r n p a e) (unfold ownSize sum in omega arith)))
 
   copied-at : (p : ℕ) → copiedSize (deliveriesAt r n p) ≡ copiedSizeAt r n p
   copied-at p = by-bool (isAggregator (own r n) p)
       (λ a. rw (deliveries-aggregator p a, copied-other r n p (aggregator-only (own r n) p a)) copied-none)
       (λ a. by-bool (isExtractor (own r n) p)
-      (λ e. ap copiedSize (deliveries-extractor p e) ∙ copied-all (copiedAt r n p) ∙ sym (copied-extractor r n p e))
+      (λ e. ap copiedSize (deliveries-extractor p e) ∙ copied-all p 1 (copiedAt r n p) ∙ sym (copied-extractor r n p e))
       (λ e. ap copiedSize (deliveries-unit p a e) ∙ rw (copied-other r n p e) (unfold copiedSize sum in refl)))
 
   own-each : (ps : List ℕ) → ownSize (each (deliveriesAt r n) ps) ≡ sum (map (ownAt r n) ps)

@@ -6,11 +6,10 @@
 --   Falls                          what is left after a step is less, by a unit's bytes and more
 --   falls                          every step falls
 --   bound-start                    what is left at the start, at most
-use Prim.Native.Nat.{ℕ, zero, suc, _+_, _-_, _*_, _≤_, _<_}
+use Prim.Native.Nat.{ℕ, suc, _+_, _-_, _*_, _≤_, _<_}
 use mathlib.Core.Path.{_≡_, refl}
 use mathlib.Core.List.{List, [], _∷_, List·Memᴰ, List·Memᴰ·head, List·Memᴰ·tail, List·Memᴰ·not-nil, List·Memᴰ·cases-cons}
 use mathlib.Core.Logic.{_⊎_, inl, inr, ⊎-elim}
-use mathlib.Core.Bool.{true, false}
 use native.Mathlib.Omega.{arith}
 use native.Mathlib.Nat.{suc-mul, add-mul, mul-le-mul, mul-le-mul-right, le-mul-of-pos-right}
 use borrow.Author.Tests.{ltb-true, ltb-false}
@@ -20,7 +19,6 @@ use Rattle.words.specs.Lists.{nth}
 use Rattle.words.proofs.Tests.{by-bool}
 use Rattle.words.proofs.Lists.{nth-mem}
 use Rattle.numbers.proofs.Laws.{L-some}
-use Rattle.numbers.specs.declared.ByteOffset.{ByteOffset}
 use Rattle.units.specs.Units.{Sample, end, size, next}
 use Rattle.units.specs.Aggregators.{includedStart}
 use Rattle.units.specs.Steps.{extractorAt}
@@ -36,7 +34,7 @@ use Rattle.delivery.specs.declared.FoundCopy.{FoundCopy}
 use Rattle.delivery.specs.declared.FoundCopy.the-variants as found
 use Rattle.delivery.specs.declared.Stepped.{Stepped}
 use Rattle.delivery.specs.declared.Stepped.the-variants as step
-use Rattle.delivery.proofs.Items.{by-item}
+use Rattle.unit_steps.proofs.Items.{by-item}
 
 unfoldable pub longest : List (List ℕ) → ℕ
 longest [] = 0

@@ -36,7 +36,7 @@ use Rattle.delivery.specs.declared.FoundCopy.{FoundCopy}
 use Rattle.delivery.specs.declared.FoundCopy.the-variants as found
 use Rattle.delivery.specs.declared.Stepped.{Stepped}
 use Rattle.delivery.specs.declared.Stepped.the-variants as step
-use Rattle.delivery.proofs.Items.{by-item}
+use Rattle.unit_steps.proofs.Items.{by-item}
 use Rattle.delivery.proofs.Falling.{longest, longest-least, content-longest, bound, bound-start}
 use Rattle.delivery.proofs.Rests.{rest, rest-done, rest-refused, rest-moved, rest-unit, rest-few}
 use Rattle.delivery.proofs.FromStart.{rest-start}

@@ -5,14 +5,14 @@
 --   fault-named, fault-copy, fault-rest    the refusals of an extractor, by parts
 --   own-says         what is left of the own sample
 --   rest-start       what is left at the start
-use Prim.Native.Nat.{ℕ, zero, suc, _-_, _≤_, _<_}
+use Prim.Native.Nat.{ℕ, zero, suc, _+_, _-_, _≤_, _<_}
 use mathlib.Core.Path.{_≡_, refl, ap, sym, _∙_}
-use mathlib.Core.List.{List, [], _∷_, _++_, map}
+use mathlib.Core.List.{List, _++_}
 use mathlib.Core.Bool.{true, false}
 use native.Mathlib.Omega.{arith}
-use borrow.Author.Tests.{leb-true, leb-false}
+use borrow.Author.Tests.{leb-true, leb-false, lt-ltb}
 use lib.Dec.{leb}
-use Rattle.words.specs.Refusals.{_if_, ok, refused, Verdict, _andThen_, _atPlace_}
+use Rattle.words.specs.Refusals.{_if_, ok, Verdict, _andThen_, _atPlace_}
 use Rattle.words.specs.RefusalNumbers.{extractorCopied}
 use Rattle.words.specs.Lists.{some}
 use Rattle.words.proofs.Tests.{by-bool, by-number}
@@ -20,16 +20,16 @@ use Rattle.words.proofs.Lists.{keep-mem}
 use Rattle.units.specs.Units.{Sample, sample, end, next, isAggregator, isExtractor}
 use Rattle.units.specs.Extractors.{trackRefIndex, sampleOffset, dataOffset, dataLength}
 use Rattle.units.specs.Aggregators.{includedStart, units, extractors}
-use Rattle.units.specs.Steps.{place, extractorOf, extractorAt}
+use Rattle.units.specs.Steps.{place, unitOf, extractorOf, extractorAt}
 use Rattle.units.specs.declared.Track.{Track}
 use Rattle.units.specs.declared.MaybeExtractor.the-variants as extractor
-use Rattle.units.proofs.Units.{whole-end}
+use Rattle.units.proofs.Units.{next-after, whole-end}
 use Rattle.numbers.proofs.Laws.{L-some}
 use Rattle.samples.specs.Check.{check}
 use Rattle.samples.proofs.Laws.{extractor-step}
 use Rattle.bundles.specs.Recordings.{Recording, contentOf}
-use Rattle.links.specs.Links.{sampleNamed, nameFault}
-use Rattle.copies.specs.Copies.{copyEnd, copied}
+use Rattle.links.specs.Links.{nameFault}
+use Rattle.copies.specs.Copies.{copyEnd}
 use Rattle.copies.specs.Range.{rangeFault, rangeOf}
 use Rattle.copies.proofs.Flat.{Walking, walking-start, walking-whole}
 use Rattle.copies.proofs.Copies.{copy-cut, copied-flat}
@@ -37,50 +37,65 @@ use Rattle.copies.proofs.Ranges.{fault-range, range-formed, range-zero, range-s
 use Rattle.copies.proofs.Rest as copies
 use Rattle.resolution_rules.specs.Resolving.{spansOf, own, named, linked, nameFaultAt, copyFaultAt, extractFault, copiedAt, judged}
 use Rattle.resolution_rules.proofs.Delivered.{unit-judge, unit-passes}
-use Rattle.delivery.specs.Steps.{start, trackFor, itemAt, copyBy, replacedBy, copyFor, copyStepBy, extractorStepBy, stepOf}
-use Rattle.delivery.specs.Deliveries.{Delivery, delivery, deliveries}
+use Rattle.delivery.specs.Steps.{start, trackFor, copyBy, replacedBy, copyFor, numberAfter, unitIn, copyStepBy, extractorStepBy, stepOf}
+use Rattle.delivery.specs.Deliveries.{Delivery, copiesFrom, deliveries}
 use Rattle.delivery.specs.declared.CopyCursor.{CopyCursor}
 use Rattle.delivery.specs.declared.Cursor.{Cursor}
-use Rattle.delivery.specs.declared.Item.{Item}
+use Rattle.unit_steps.specs.Items.{itemAt}
+use Rattle.unit_steps.specs.declared.Item.{Item}
+use Rattle.unit_steps.specs.declared.Item.the-variants.{Unit}
+use Rattle.delivery.specs.declared.Source.the-variants.{Copy}
 use Rattle.delivery.specs.declared.FoundCopy.the-variants as found
-use Rattle.delivery.proofs.Items.{item-aggregator, item-extractor, item-unit, item-end}
+use Rattle.delivery.specs.declared.Stepped.the-variants as step
+use Rattle.unit_steps.proofs.Items.{item-aggregator, item-extractor, item-unit, item-end}
 use Rattle.delivery.proofs.Steps.{track-sample, step-copy, step-own, copy-refused, copy-named}
 use Rattle.delivery.proofs.Rests.{rest, Says, says-done, says-refused, says-moved, says-unit}
 use Rattle.delivery.proofs.Passing.{remaining, judgedFrom, remaining-end, remaining-skip, remaining-take, from-end, from-skip, from-take, remaining-start, from-start, Passing, passing-start, passing-skip, passing-take, passing-mem}
 use Rattle.delivery.proofs.Deliveries.{deliveries-unit, deliveries-extractor}
 
 -- a copy of the sample z, which is sample m, up to f, for the extractor at e; the own sample goes on at p
-module _ (r : Recording) (n : ℕ) (x : Sample) (p e m f : ℕ) (k : Track) (z : Sample) (same : sample k (contentOf r m) ≡ z) where
-  abbrev At : ℕ → Cursor
-  At q = record { place = place p; copy = record { extractor = place e; named = record { 0 = m }; track = k; at = place q; end = place f } }
+module _ (r : Recording) (n : ℕ) (x : Sample) (p e m f : ℕ) (t : Track) (z : Sample) (same : sample t (contentOf r m) ≡ z) where
+  -- k units of it are delivered
+  abbrev At : ℕ → ℕ → Cursor
+  At q k = record { place = place p; copy = record { extractor = place e; named = record { 0 = m }; track = t; at = place q; end = place f; count = k } }
 
   -- 28: an extractor in what is left of the copy
   abbrev copyVerdict : ℕ → Verdict
   copyVerdict q = (extractorCopied if some (isExtractor z) (copies.rest z f q)) atPlace e
 
-  step-at : (q : ℕ) (h : Item) → q < f → itemAt z q ≡ h → stepOf r n x (At q) ≡ copyStepBy (At q) h
-  step-at q h l g = step-copy r n x (At q) {i = h} l (rw same g)
+  -- what is left of the copy, numbered from the first one that is not yet delivered
+  abbrev copyLeft : ℕ → ℕ → List Delivery
+  copyLeft q k = copiesFrom e (k + 1) (spansOf m z (copies.rest z f q))
 
-  module _ (v : Verdict) (us : List Delivery) (after : Says r n x (At f) v us) where
-    copy-end : (q : ℕ) → f ≤ q → q ≤ f → Says r n x (At q) (copyVerdict q andThen v) (map (delivery true) (spansOf m z (copies.rest z f q)) ++ us)
-    unfolding some
-    copy-end q h l = let i : q ≡ f = omega arith in rw (copies.rest-end z f q h) (rw i after)
+  step-at : (q k : ℕ) (h : Item) → q < f → itemAt z q ≡ h → stepOf r n x (At q k) ≡ copyStepBy (At q k) h
+  step-at q k h l g = step-copy r n x (At q k) {i = h} l (rw same g)
 
-    copy-says : (j q : ℕ) → f - q ≤ j → Walking z f q → Says r n x (At q) (copyVerdict q andThen v) (map (delivery true) (spansOf m z (copies.rest z f q)) ++ us)
-    unfolding some
-    copy-says zero q h w = let i = w .inside in copy-end q (omega arith) (omega arith)
-    copy-says (suc j) q h w = let l = L-some (z .lengthSize) in by-bool (leb f q)
-        (λ t. let i = leb-true f q t in copy-end q i (w .inside))
+  -- a unit takes a byte at least, so its number is one more
+  step-unit : (q k : ℕ) → k ≤ q → q < f → itemAt z q ≡ Unit (unitOf z q) →
+      stepOf r n x (At q k) ≡ step.Unit (unitIn (record { 0 = m }) (Copy (place e) (k + 1)) (unitOf z q)) (At (next z q) (k + 1))
+  unfolding numberAfter
+  step-unit q k h l g = let a = next-after z q in step-at q k _ l g ∙ rw (lt-ltb k (next z q) (omega arith))
+
+  module _ (v : Verdict) (us : List Delivery) (after : (k : ℕ) → Says r n x (At f k) v us) where
+    copy-end : (q k : ℕ) → f ≤ q → q ≤ f → Says r n x (At q k) (copyVerdict q andThen v) (copyLeft q k ++ us)
+    unfolding some copiesFrom
+    copy-end q k h l = let i : q ≡ f = omega arith in rw (copies.rest-end z f q h) (rw i (after k))
+
+    copy-says : (j q k : ℕ) → f - q ≤ j → k ≤ q → Walking z f q → Says r n x (At q k) (copyVerdict q andThen v) (copyLeft q k ++ us)
+    unfolding some copiesFrom
+    copy-says zero q k h b w = let i = w .inside in copy-end q k (omega arith) (omega arith)
+    copy-says (suc j) q k h b w = let l = L-some (z .lengthSize) in by-bool (leb f q)
+        (λ t. let i = leb-true f q t in copy-end q k i (w .inside))
         (λ t. let i = leb-false f q t in let u = whole-end z (end z) q (walking-whole z f q w i) .1 in by-bool (isAggregator z q)
         (λ a. rw (copies.rest-skip z f q i a)
-        (says-moved r n x (At q) (step-at q _ i (item-aggregator z q a))
-        (copy-says j (includedStart z q) (omega arith) (copies.walking-skip z f q w i a))))
+        (says-moved r n x (At q k) (step-at q k _ i (item-aggregator z q a))
+        (copy-says j (includedStart z q) k (omega arith) (omega arith) (copies.walking-skip z f q w i a))))
         (λ a. by-bool (isExtractor z q)
         (λ g. rw (copies.rest-take z f q i a, g)
-        (says-refused r n x (At q) extractorCopied e _ (step-at q _ i (item-extractor z q a u g))))
+        (says-refused r n x (At q k) extractorCopied e _ (step-at q k _ i (item-extractor z q a u g))))
         (λ g. rw (copies.rest-take z f q i a, g)
-        (says-unit r n x (At q) (step-at q _ i (item-unit z q a u g))
-        (copy-says j (next z q) (omega arith) (copies.walking-take z f q w i a))))))
+        (says-unit r n x (At q k) (step-unit q k b i (item-unit z q a u g))
+        (copy-says j (next z q) (k + 1) (omega arith) (omega arith) (copies.walking-take z f q w i a))))))
 
 module _ (r : Recording) (n : ℕ) where
   abbrev X : Sample
@@ -147,8 +162,8 @@ module _ (r : Recording) (n : ℕ) where
           rw (from-take r n X p i a, unit-judge r n p t, fault-rest e g, remaining-take r n X p i a, deliveries-extractor r n p t, copied-rest g)
           (says-moved r n X C (step-extractor ∙ ap (replacedBy (place p) (place (next X p))) (opens-by e ∙ ap (copyBy (r .layout) (named r n p) (place p) (extractorOf X p)) (range-zero z O N g)))
           (copy-says r n X (next X p) p (named r n p) f (trackFor (r .layout) (named r n p)) z (track-sample r (named r n p)) _ _
-          (after (record { extractor = place p; named = record { 0 = named r n p }; track = trackFor (r .layout) (named r n p); at = place f; end = place f }) (omega arith))
-          f O (omega arith) (walking-start z O f (copy-cut z O N (c .1) (c .0)))))
+          (λ k. after (record { extractor = place p; named = record { 0 = named r n p }; track = trackFor (r .layout) (named r n p); at = place f; end = place f; count = k }) (omega arith))
+          f O 0 (omega arith) (omega arith) (walking-start z O f (copy-cut z O N (c .1) (c .0)))))
 
       extractor-says :
           ((q : CopyCursor) → q .end .0 ≤ q .at .0 → Says r n X (record { place = place (next X p); copy = q }) (judgedFrom r n X (next X p)) (remaining r n X (next X p))) →

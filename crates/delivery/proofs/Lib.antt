@@ -1,17 +1,17 @@
 -- Laws of the delivery of a sample, unit by unit.
 --
---   Items        what stands at a place
 --   Steps        the step by what stands there, and the copy of an extractor
 --   Falling      each step makes less of what is left
---   Deliveries   what a sample delivers, each unit with whether it is copied
+--   Deliveries   what a sample delivers, each unit with where it comes from
+--   Sources      own units stand in the sample; copied ones are what `extracted` gives
 --   Rests        what is left, by the step
 --   Passing      a walk over all units of a well-formed sample
 --   FromStart    from the start, what is left is what the sample delivers, and 23 to 28 come as they are judged
 --   Folds        loops over delivered units
-pub mod Items
 pub mod Steps
 pub mod Falling
 pub mod Deliveries
+pub mod Sources
 pub mod Rests
 pub mod Passing
 pub mod FromStart

@@ -17,9 +17,10 @@ use Rattle.tables.specs.Tables.{layoutIn, recordingIn}
 use Rattle.links.specs.Links.{sampleNamed, nameFault}
 use Rattle.copies.specs.Range.{rangeOf}
 use Rattle.resolution_rules.specs.Resolving.{sampleOf}
-use Rattle.delivery.specs.Steps.{trackFor, itemAt, copyBy, copyFor, copySample, copyStepBy, copyStep, ownStepBy, ownStep, stepOf}
+use Rattle.delivery.specs.Steps.{trackFor, copyBy, copyFor, copySample, copyStepBy, copyStep, ownStepBy, ownStep, stepOf}
 use Rattle.delivery.specs.declared.Cursor.{Cursor}
-use Rattle.delivery.specs.declared.Item.{Item}
+use Rattle.unit_steps.specs.Items.{itemAt}
+use Rattle.unit_steps.specs.declared.Item.{Item}
 use Rattle.delivery.specs.declared.FoundCopy.the-variants as found
 
 pub track-sample : (r : Recording) (m : ℕ) → sample (trackFor (r .layout) m) (contentOf r m) ≡ sampleOf r m

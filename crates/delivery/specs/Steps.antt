@@ -3,40 +3,41 @@
 --
 --   start                  the cursor before the first unit
 --   trackFor y n           what the track of sample n says of it, as the code has it
---   itemAt x p             what stands at p
 --   copyFor r n p f        the copy of an extractor at p with the fields f: 23 to 27, or the sample named, its start and its end there
+--   numberAfter count q    the number of a unit in its copy, after count others
 --   withCopyAt, withPlace  the cursor with another place in the copy, or in the own sample
 --   copyStep s c           a step in the copy, of a sample with the bytes s
+--   extractorStepBy r n p q m    a step at an extractor at p with the fields m; the sample goes on at q
 --   ownStep r n x c        a step in the own sample
 --   stepOf r n x c         the step: in the copy until that is at its end, then in the own sample
-use Prim.Native.Nat.{ℕ}
+use Prim.Native.Nat.{ℕ, _+_}
 use mathlib.Core.List.{List}
-use mathlib.Core.Bool.{Bool, true, false}
 use Rattle.words.specs.Tests.{_<?_, _≡?_, pick}
 use Rattle.words.specs.RefusalNumbers.{extractorCopied}
 use Rattle.numbers.specs.declared.ByteOffset.{ByteOffset}
 use Rattle.numbers.specs.declared.SampleNumber.{SampleNumber}
 use Rattle.numbers.specs.declared.Kind.the-variants.{Avc}
 use Rattle.numbers.specs.declared.LengthSize.the-variants.{One}
-use Rattle.units.specs.Units.{Sample, sample, end, next, isAggregator, isExtractor}
-use Rattle.units.specs.Aggregators.{includedStart}
-use Rattle.units.specs.Steps.{place, unitOf, extractorAt}
+use Rattle.units.specs.Units.{Sample, sample, end}
+use Rattle.units.specs.Steps.{place, extractorAt}
 use Rattle.units.specs.declared.NalUnit.{NalUnit}
 use Rattle.units.specs.declared.Track.{Track}
 use Rattle.units.specs.declared.Extractor as fields
 use Rattle.units.specs.declared.MaybeExtractor as E
 use Rattle.units.specs.declared.MaybeExtractor.the-variants as extractor
+use Rattle.unit_steps.specs.Items.{itemAt}
+use Rattle.unit_steps.specs.declared.Item as I
+use Rattle.unit_steps.specs.declared.Item.the-variants as item
 use Rattle.bundles.specs.Recordings.{Layout, Recording, trackAt, contentOf}
 use Rattle.links.specs.Links.{sampleNamed, nameFault}
 use Rattle.copies.specs.Range.{rangeOf}
 use Rattle.copies.specs.declared.range.CopyRange.{CopyRange}
 use Rattle.copies.specs.declared.range.CopyRange.the-variants as range
 use Rattle.resolution_rules.specs.Resolving.{sampleOf}
-use Rattle.delivery.specs.declared.CopyCursor.{CopyCursor}
 use Rattle.delivery.specs.declared.Cursor.{Cursor}
 use Rattle.delivery.specs.declared.DeliveredUnit.{DeliveredUnit}
-use Rattle.delivery.specs.declared.Item as I
-use Rattle.delivery.specs.declared.Item.the-variants as item
+use Rattle.delivery.specs.declared.Source.{Source}
+use Rattle.delivery.specs.declared.Source.the-variants as source
 use Rattle.delivery.specs.declared.FoundCopy as F
 use Rattle.delivery.specs.declared.FoundCopy.the-variants as found
 use Rattle.delivery.specs.declared.Stepped as S
@@ -52,25 +53,18 @@ start = record {
     track = record { kind = Avc; «length_size» = One };
     at = place 0;
     end = place 0;
+    count = 0;
   };
 }
 
 abbrev pub trackFor : Layout → ℕ → Track
 trackFor y n = record { kind = trackAt y n .kind; «length_size» = trackAt y n .lengthSize }
 
--- Nothing where the unit ends past the sample. Where an aggregator ends does not matter here: what it includes is looked at next.
-unfoldable pub itemAt : Sample → ℕ → I.Item
-itemAt x p =
-    pick (isAggregator x p) (item.Aggregator (place (includedStart x p)))
-    (pick (end x <? next x p) item.Nothing
-    (pick (isExtractor x p) (item.Extractor (place (next x p)))
-    (item.Unit (unitOf x p))))
-
 -- 25 to 27 of sample m, or where its copy starts and ends
 abbrev pub copyBy : Layout → ℕ → ByteOffset → fields.Extractor → CopyRange → F.FoundCopy
 copyBy y m p f (range.Refused fault) = found.Refused fault
 copyBy y m p f (range.End e) =
-    found.Copy (record { extractor = p; named = record { 0 = m }; track = trackFor y m; at = f .«data_offset»; end = e })
+    found.Copy (record { extractor = p; named = record { 0 = m }; track = trackFor y m; at = f .«data_offset»; end = e; count = 0 })
 
 -- 23, 24, then 25 to 27
 unfoldable pub copyFor : Recording → ℕ → ByteOffset → fields.Extractor → F.FoundCopy
@@ -81,24 +75,38 @@ copyFor r n p f =
     (copyBy (r .layout) m p f (rangeOf (sampleOf r m) (f .«data_offset» .0) (f .«data_length»)))
     (found.Refused fault)
 
-abbrev pub withCopyAt : Cursor → ByteOffset → Cursor
-withCopyAt c q = record {
+-- The number of a unit that comes after count others of its copy, which goes on at q: one more. Each unit takes a byte at least, so count
+-- lies below q; where it does not, which no cursor from the start on has, it stays.
+unfoldable pub numberAfter : ℕ → ByteOffset → ℕ
+numberAfter count q = pick (count <? q .0) (count + 1) count
+
+abbrev pub withCopyAt : Cursor → ByteOffset → ℕ → Cursor
+withCopyAt c q count = record {
   place = c .place;
-  copy = record { extractor = c .copy .extractor; named = c .copy .named; track = c .copy .track; at = q; end = c .copy .end };
+  copy = record {
+    extractor = c .copy .extractor;
+    named = c .copy .named;
+    track = c .copy .track;
+    at = q;
+    end = c .copy .end;
+    count = count;
+  };
 }
 
 abbrev pub withPlace : Cursor → ByteOffset → Cursor
 withPlace c q = record { place = q; copy = c .copy }
 
-abbrev pub unitIn : SampleNumber → Bool → NalUnit → DeliveredUnit
-unitIn m copied u = record { span = record { sample = m; start = u .start; size = u .size }; copied = copied }
+abbrev pub unitIn : SampleNumber → Source → NalUnit → DeliveredUnit
+unitIn m from u = record { span = record { sample = m; start = u .start; size = u .size }; source = from }
 
 -- In the copy: an aggregator's header and additional_bytes are dropped; an extractor is 28, at the place of the one that copies it.
 abbrev pub copyStepBy : Cursor → I.Item → S.Stepped
 copyStepBy c item.Nothing = step.Done
-copyStepBy c (item.Aggregator q) = step.Moved (withCopyAt c q)
+copyStepBy c (item.Aggregator q) = step.Moved (withCopyAt c q (c .copy .count))
 copyStepBy c (item.Extractor q) = step.Refused (record { number = extractorCopied; place = c .copy .extractor })
-copyStepBy c (item.Unit u) = step.Unit (unitIn (c .copy .named) true u) (withCopyAt c (u .next))
+copyStepBy c (item.Unit u) =
+    let number = numberAfter (c .copy .count) (u .next) in
+    step.Unit (unitIn (c .copy .named) (source.Copy (c .copy .extractor) number) u) (withCopyAt c (u .next) number)
 
 abbrev pub copySample : List ℕ → Cursor → Sample
 copySample s c = sample (c .copy .track) s
@@ -120,7 +128,7 @@ abbrev pub ownStepBy : Recording → ℕ → Sample → Cursor → I.Item → S.
 ownStepBy r n x c item.Nothing = step.Done
 ownStepBy r n x c (item.Aggregator q) = step.Moved (withPlace c q)
 ownStepBy r n x c (item.Extractor q) = extractorStepBy r n (c .place) q (extractorAt x (end x) (c .place .0))
-ownStepBy r n x c (item.Unit u) = step.Unit (unitIn (record { 0 = n }) false u) (withPlace c (u .next))
+ownStepBy r n x c (item.Unit u) = step.Unit (unitIn (record { 0 = n }) source.Own u) (withPlace c (u .next))
 
 unfoldable pub ownStep : Recording → ℕ → Sample → Cursor → S.Stepped
 ownStep r n x c = ownStepBy r n x c (itemAt x (c .place .0))

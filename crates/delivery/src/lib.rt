@@ -1,9 +1,11 @@
 // What a sample delivers, unit by unit: a cursor, and the one step that all loops over delivered units take.
 // Every function takes any bytes, any table, any numbers and any cursor.
 ghost use mathlib.Core.Path.{_≡_};
+ghost use lib.ListN.{length};
 ghost use Rattle.units.specs.Units.{sample};
+ghost use Rattle.units.specs.Steps.{extractorAt};
 ghost use Rattle.tables.specs.Tables.{layoutIn, recordingIn};
-ghost use Rattle.delivery.specs.Steps.{start, trackFor, itemAt, copyFor, withCopyAt, withPlace, copyStep, ownStep, stepOf};
+ghost use Rattle.delivery.specs.Steps.{start, trackFor, copyFor, numberAfter, withCopyAt, withPlace, copyStep, extractorStepBy, ownStep, stepOf};
 use copies::range::CopyRange;
 use links::Named;
 use numbers::ByteOffset;
@@ -12,19 +14,20 @@ use numbers::LengthSize;
 use numbers::Refusal;
 use numbers::SampleNumber;
 use numbers::refusals;
+use unit_steps::Item;
 use units::Extractor;
 use units::MaybeExtractor;
-use units::NalUnit;
 use units::Track;
 
 // A copy that is being delivered: the extractor's place in its own sample, the sample that it names with what its track says of it, where
-// the copy goes on there, and where it ends.
+// the copy goes on there, where it ends, and how many of its units are delivered.
 pub struct CopyCursor {
     pub extractor: ByteOffset,
     pub named: SampleNumber,
     pub track: Track,
     pub at: ByteOffset,
     pub end: ByteOffset,
+    pub count: usize,
 }
 
 // How far the delivery of a sample has come: where its own units go on, and a copy, which comes first until it is at its end.
@@ -40,10 +43,16 @@ pub struct Span {
     pub size: usize,
 }
 
-// A delivered unit, and whether an extractor copies it.
+// Where a delivered unit comes from: the sample itself; or a copy: the extractor's place, and the unit's number in its copy, from 1.
+pub enum Source {
+    Own,
+    Copy(ByteOffset, usize),
+}
+
+// A delivered unit, and where it comes from.
 pub struct DeliveredUnit {
     pub span: Span,
-    pub copied: bool,
+    pub source: Source,
 }
 
 // A step: nothing is left; a refusal, 23 to 28; nothing delivered, and how it goes on; a unit, and how it goes on.
@@ -52,15 +61,6 @@ pub enum Stepped {
     Refused(Refusal),
     Moved(Cursor),
     Unit(DeliveredUnit, Cursor),
-}
-
-// What stands at a place: nothing that lies in the sample; an aggregator, and where its included units start; an extractor, and where the
-// next unit starts; another unit.
-enum Item {
-    Nothing,
-    Aggregator(ByteOffset),
-    Extractor(ByteOffset),
-    Unit(NalUnit),
 }
 
 // An extractor: 23 to 27, or the copy that it stands for.
@@ -73,7 +73,7 @@ enum FoundCopy {
 pub fn track_of(t: &[u64], n: SampleNumber) -> Track
     ensures { λ r. ⌜ r ≡ trackFor (layoutIn (now (t .entry))) (n .0) ⌝ }
 {
-    let k = tables::sample_track(t, n);
+    let k = sample_tables::sample_track(t, n);
     let kind = tables::track_kind(t, k);
     let length_size = tables::track_length_size(t, k);
     Track { kind, length_size }
@@ -94,43 +94,9 @@ pub fn start() -> Cursor
             },
             at: ByteOffset(0),
             end: ByteOffset(0),
+            count: 0,
         },
     }
-}
-
-// What stands at a place of a sample. Its type is read once, and its length once where it matters.
-fn item_at(k: Track, s: &[u8], at: ByteOffset) -> Item
-    ensures { λ r. ⌜ r ≡ itemAt (sample k (now (s .entry))) (at .0) ⌝ }
-{
-    let l = k.length_size;
-    let n = l.bytes();
-    let p = at.0;
-    if s.len() <= p {
-        return Item::Nothing;
-    }
-    if s.len() - p < n {
-        return Item::Nothing;
-    }
-    let start = p + n;
-    let t = numbers::byte(s, start) % 32;
-    if t == units::AGGREGATOR {
-        let included = start + LengthSize::HEADER + n;
-        return Item::Aggregator(ByteOffset(included));
-    }
-    let size = l.number(s, p);
-    if s.len() - start < size {
-        return Item::Nothing;
-    }
-    let next = start + size;
-    if t == units::EXTRACTOR {
-        return Item::Extractor(ByteOffset(next));
-    }
-    Item::Unit(NalUnit {
-        start: ByteOffset(start),
-        size: size,
-        nal_type: t,
-        next: ByteOffset(next),
-    })
 }
 
 // The copy of an extractor at a place of sample n: here the sample is named and checked and the copy's end found, once for each extractor.
@@ -142,7 +108,7 @@ fn copy_for(b: &[u8], t: &[u64], n: SampleNumber, at: ByteOffset, f: Extractor) 
         Named::Refused(fault) => FoundCopy::Refused(fault),
         Named::Sample(m) => {
             let k = track_of(t, m);
-            let z = tables::sample_bytes(b, t, m);
+            let z = sample_tables::sample_bytes(b, t, m);
             let from = f.data_offset;
             let range = copies::range::range_of(k, z, from, f.data_length);
             match range {
@@ -153,15 +119,26 @@ fn copy_for(b: &[u8], t: &[u64], n: SampleNumber, at: ByteOffset, f: Extractor) 
                     track: k,
                     at: from,
                     end: end,
+                    count: 0,
                 }),
             }
         }
     }
 }
 
-// The cursor with another place in the copy.
-fn with_copy_at(c: Cursor, at: ByteOffset) -> Cursor
-    ensures { λ r. ⌜ r ≡ withCopyAt c at ⌝ }
+// The number of a unit that comes after so many others of its copy, which goes on at a place.
+fn number_after(count: usize, next: ByteOffset) -> usize
+    ensures { λ r. ⌜ r ≡ numberAfter count next ⌝ }
+{
+    if count < next.0 {
+        return count + 1;
+    }
+    count
+}
+
+// The cursor with another place in the copy, and so many of its units delivered.
+fn with_copy_at(c: Cursor, at: ByteOffset, count: usize) -> Cursor
+    ensures { λ r. ⌜ r ≡ withCopyAt c at count ⌝ }
 {
     let place = c.place;
     let copy = c.copy;
@@ -177,6 +154,7 @@ fn with_copy_at(c: Cursor, at: ByteOffset) -> Cursor
             track: track,
             at: at,
             end: end,
+            count: count,
         },
     }
 }
@@ -199,17 +177,18 @@ fn copy_step(z: &[u8], c: Cursor) -> Stepped
     let copy = c.copy;
     let extractor = copy.extractor;
     let named = copy.named;
-    let item = item_at(copy.track, z, copy.at);
+    let item = unit_steps::item_at(copy.track, z, copy.at);
     match item {
         Item::Nothing => Stepped::Done,
-        Item::Aggregator(included) => Stepped::Moved(with_copy_at(c, included)),
+        Item::Aggregator(included) => Stepped::Moved(with_copy_at(c, included, copy.count)),
         Item::Extractor(_) => Stepped::Refused(Refusal {
             number: refusals::EXTRACTOR_COPIED,
             place: extractor,
         }),
         Item::Unit(u) => {
             let start = u.start;
-            let next = with_copy_at(c, u.next);
+            let number = number_after(copy.count, u.next);
+            let next = with_copy_at(c, u.next, number);
             Stepped::Unit(
                 DeliveredUnit {
                     span: Span {
@@ -217,10 +196,42 @@ fn copy_step(z: &[u8], c: Cursor) -> Stepped
                         start: start,
                         size: u.size,
                     },
-                    copied: true,
+                    source: Source::Copy(extractor, number),
                 },
                 next,
             )
+        }
+    }
+}
+
+// The step at an extractor, at a place of sample n, which is x: its copy comes next, and the sample goes on after it.
+fn extractor_step(
+    b: &[u8],
+    t: &[u64],
+    n: SampleNumber,
+    k: Track,
+    x: &[u8],
+    place: ByteOffset,
+    next: ByteOffset,
+) -> Stepped
+    ensures { λ r. ⌜ r ≡ extractorStepBy (recordingIn (now (b .entry)) (now (t .entry))) (n .0) place next
+        (extractorAt (sample k (now (x .entry))) (length (now (x .entry))) (place .0)) ⌝ }
+{
+    let fields = unit_steps::extractor_at(k, x, place, ByteOffset(x.len()));
+    match fields {
+        MaybeExtractor::Nothing => Stepped::Done,
+        MaybeExtractor::Extractor(f) => {
+            let found = copy_for(b, t, n, place, f);
+            match found {
+                FoundCopy::Refused(fault) => Stepped::Refused(Refusal {
+                    number: fault,
+                    place: place,
+                }),
+                FoundCopy::Copy(copy) => Stepped::Moved(Cursor {
+                    place: next,
+                    copy: copy,
+                }),
+            }
         }
     }
 }
@@ -230,29 +241,11 @@ fn own_step(b: &[u8], t: &[u64], n: SampleNumber, k: Track, x: &[u8], c: Cursor)
     ensures { λ r. ⌜ r ≡ ownStep (recordingIn (now (b .entry)) (now (t .entry))) (n .0) (sample k (now (x .entry))) c ⌝ }
 {
     let place = c.place;
-    let item = item_at(k, x, place);
+    let item = unit_steps::item_at(k, x, place);
     match item {
         Item::Nothing => Stepped::Done,
         Item::Aggregator(included) => Stepped::Moved(with_place(c, included)),
-        Item::Extractor(next) => {
-            let fields = unit_steps::extractor_at(k, x, place, ByteOffset(x.len()));
-            match fields {
-                MaybeExtractor::Nothing => Stepped::Done,
-                MaybeExtractor::Extractor(f) => {
-                    let found = copy_for(b, t, n, place, f);
-                    match found {
-                        FoundCopy::Refused(fault) => Stepped::Refused(Refusal {
-                            number: fault,
-                            place: place,
-                        }),
-                        FoundCopy::Copy(copy) => Stepped::Moved(Cursor {
-                            place: next,
-                            copy: copy,
-                        }),
-                    }
-                }
-            }
-        }
+        Item::Extractor(next) => extractor_step(b, t, n, k, x, place, next),
         Item::Unit(u) => {
             let start = u.start;
             let next = with_place(c, u.next);
@@ -263,7 +256,7 @@ fn own_step(b: &[u8], t: &[u64], n: SampleNumber, k: Track, x: &[u8], c: Cursor)
                         start: start,
                         size: u.size,
                     },
-                    copied: false,
+                    source: Source::Own,
                 },
                 next,
             )
@@ -277,7 +270,7 @@ pub fn step(b: &[u8], t: &[u64], n: SampleNumber, k: Track, x: &[u8], c: Cursor)
 {
     let copy = c.copy;
     if copy.at.0 < copy.end.0 {
-        return copy_step(tables::sample_bytes(b, t, copy.named), c);
+        return copy_step(sample_tables::sample_bytes(b, t, copy.named), c);
     }
     own_step(b, t, n, k, x, c)
 }

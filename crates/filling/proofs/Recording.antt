@@ -21,7 +21,7 @@ use Rattle.words.proofs.Rows.{map-upto, lastThat-cong, write-here, write-before
 use Rattle.bundles.specs.Limits.{trackMost, referenceMost, sampleMost}
 use Rattle.bundles.specs.Recordings.{Layout, Recording, Track, Reference, Entry, noTrack, noReference, noEntry, sampleCount}
 use Rattle.bundles.proofs.Promises.{LimitsKept, Ordered}
-use Rattle.tables.specs.Tables.{columns, countsRow, trackRow, referenceRow, sampleRow, tracksColumn, referencesColumn, samplesColumn, kindColumn, sizeColumn, beforeColumn, fromColumn, toColumn, timeColumn, startColumn, lengthColumn, cell, trackTotal, referenceTotal, sampleTotal, trackIn, referenceIn, beforeIn, ownerIn, entryIn, layoutIn, inside, contentIn, recordingIn}
+use Rattle.tables.specs.Tables.{columns, countsRow, trackRow, referenceRow, sampleRow, tracksColumn, referencesColumn, samplesColumn, kindColumn, sizeColumn, beforeColumn, fromColumn, toColumn, timeColumn, startColumn, lengthColumn, cell, trackTotal, referenceTotal, sampleTotal, trackIn, referenceIn, beforeIn, ownerIn, sampleEntryIn, layoutIn, inside, contentIn, recordingIn}
 use Rattle.tables.proofs.Layouts.{total-fits}
 use Rattle.tables.proofs.Numbers.{kind-back, size-back}
 use Rattle.filling.specs.Filling.{writeRows, countCells, samplesBefore, trackCells, referenceCells, sampleCells, tableOf, needed}
@@ -205,11 +205,11 @@ module _ (b t : List ℕ) (r : Recording) (starts : ℕ → ℕ) (h : Tabled b r
       (lastThat-cong (λ k. beforeIn filled k <? i + 1) (λ k. below k (y .entries) <? i + 1) (upto tracks) (λ k m. rw (before-same k m))
       ∙ owner-here (y .entries) tracks i (h .ordered .rise) g (h .ordered .exist (getD-mem (y .entries) i noEntry g) .1))
 
-  entry-same : (i : ℕ) → i < samples → entryIn filled (i + 1) ≡ getD (y .entries) i noEntry
+  entry-same : (i : ℕ) → i < samples → sampleEntryIn filled (i + 1) ≡ getD (y .entries) i noEntry
   entry-same i g = rw (owner-same i g, sample-cell i timeColumn g (omega arith), ap (λ e. e .time) (nth-at (y .entries) i noEntry))
 
-  entries-same : map (entryIn filled) (upto (sampleTotal filled)) ≡ y .entries
-  entries-same = rw sample-total (map-upto (entryIn filled) (y .entries) noEntry samples refl entry-same)
+  entries-same : map (sampleEntryIn filled) (upto (sampleTotal filled)) ≡ y .entries
+  entries-same = rw sample-total (map-upto (sampleEntryIn filled) (y .entries) noEntry samples refl entry-same)
 
   pub filled-layout : layoutIn filled ≡ y
   unfolding layoutIn

@@ -25,7 +25,8 @@ use Rattle.words.proofs.Rows.{rows-length, rows-more, take-sum-le, nth-upto}
 use Rattle.numbers.specs.Sizes.{inBytes}
 use Rattle.numbers.specs.declared.Kind.{Kind}
 use Rattle.numbers.specs.declared.MaybeKind.the-variants.{Known, Unknown}
-use Rattle.bundles.specs.Fields.{trackHeadSize, toOffset, trackNumberSize, referenceCountSize, referenceSize, entrySize, byteCountSize}
+use Rattle.numbers.specs.Kinds.{numberOfKind}
+use Rattle.bundles.specs.Fields.{trackHeadSize, toOffset, trackNumberSize, referenceCountSize, referenceSize, sampleEntrySize, byteCountSize}
 use Rattle.bundles.specs.Recordings.{Entry, noTrack, noReference, noEntry, timeOf, contentOf}
 use Rattle.bundles.specs.Tracks.{trackCount, tracksAt, trackEnd, trackFault, recordLength, kindAt, recordAt, recordFaultAs, sizeAt, trackOn, tracks, referencesAt}
 use Rattle.bundles.specs.References.{from, to, referenceCount, referencePlaces, referenceOn, references}
@@ -35,7 +36,7 @@ use Rattle.bundles.proofs.Sections.{Samples, Accepted, accepted, track-count, r
 use Rattle.bundles.proofs.Checking.{track-at, good-size}
 use Rattle.bundles.proofs.Order.{InOrder, entries-rise}
 use Rattle.bundles.proofs.Replacing.{length-is}
-use Rattle.tables.specs.Tables.{columns, numberOfKind}
+use Rattle.tables.specs.Tables.{columns}
 use Rattle.tables.proofs.Numbers.{number-back}
 use Rattle.filling.specs.Filling.{writeRows, countCells, samplesBefore, trackCells, referenceCells, sampleCells}
 use Rattle.filling.proofs.Sorted.{below, below-most, below-more, above-here, below-here}
@@ -82,7 +83,7 @@ module _ (b : List ℕ) where
   abbrev pub startOf : ℕ → ℕ
   startOf i = contentsAt b + sum (take i (lengths b))
 
-  pub start-first : startOf 0 ≡ entriesAt b + entryCount b * entrySize + byteCountSize
+  pub start-first : startOf 0 ≡ entriesAt b + entryCount b * sampleEntrySize + byteCountSize
   unfolding byteCountAt sum
   start-first = omega arith
 
@@ -95,21 +96,21 @@ module _ (b : List ℕ) where
 
 -- how many samples stand before a track's
 module _ (b : List ℕ) (good : Samples b) where
-  place-is : (i : ℕ) → entryAt b (suc i) ≡ entriesAt b + i * entrySize
+  place-is : (i : ℕ) → entryAt b (suc i) ≡ entriesAt b + i * sampleEntrySize
   place-is i = omega arith
 
-  entry-is : (i : ℕ) → i < entryCount b → getD (sampleEntries b) i noEntry ≡ entryOn b (entriesAt b + i * entrySize)
+  entry-is : (i : ℕ) → i < entryCount b → getD (sampleEntries b) i noEntry ≡ entryOn b (entriesAt b + i * sampleEntrySize)
   unfolding nth
   entry-is i h = entry-at b (suc i) (omega arith) (omega arith) ∙ ap (entryOn b) (place-is i)
 
   counted : (i : ℕ) → i < entryCount b → i < length (sampleEntries b)
   counted i h = rw (sample-count b) h
 
-  pub before-on : (k i : ℕ) → i < entryCount b → track b (entriesAt b + i * entrySize) < k → i < samplesBefore (layoutOf b) k
+  pub before-on : (k i : ℕ) → i < entryCount b → track b (entriesAt b + i * sampleEntrySize) < k → i < samplesBefore (layoutOf b) k
   unfolding samplesBefore layoutOf
   before-on k i h l = above-here k (sampleEntries b) i (entries-rise b good) (counted i h) (rw (entry-is i h) l)
 
-  pub before-off : (k i : ℕ) → i < entryCount b → k ≤ track b (entriesAt b + i * entrySize) → samplesBefore (layoutOf b) k ≤ i
+  pub before-off : (k i : ℕ) → i < entryCount b → k ≤ track b (entriesAt b + i * sampleEntrySize) → samplesBefore (layoutOf b) k ≤ i
   unfolding samplesBefore layoutOf
   before-off k i h l = below-here k (sampleEntries b) i (entries-rise b good) (counted i h) (rw (entry-is i h) l)
 
@@ -133,10 +134,10 @@ module _ (b : List ℕ) (a : Accepted b) where
   reference-sound i p h e =
       rw e (reference-good b (skip (λ q. q + referenceSize) i (referencesAt b + referenceCountSize)) (a .references .each (entries-mem (λ q. q + referenceSize) (referenceCount b) (referencesAt b + referenceCountSize) i h)) .inside)
 
-  pub entry-sound : (i p : ℕ) → i < entryCount b → p ≡ entryAt b (i + 1) → p + entrySize ≤ length b
+  pub entry-sound : (i p : ℕ) → i < entryCount b → p ≡ entryAt b (i + 1) → p + sampleEntrySize ≤ length b
   entry-sound i p h e = rw e (entry-good b (i + 1) (a .samples .each (i + 1) (omega arith) (omega arith)) .inside)
 
-  pub entries-inside : entriesAt b + entryCount b * entrySize ≤ length b
+  pub entries-inside : entriesAt b + entryCount b * sampleEntrySize ≤ length b
   entries-inside = (unfold byteCountAt in a .samples .inside)
 
   -- the kind of an accepted track is known

@@ -20,9 +20,10 @@ use Rattle.words.specs.Refusals.{_if_, Answer, refused, ok, _atPlace_, _andThen
 use Rattle.words.specs.Lists.{keep, each, nth, upto}
 use Rattle.words.specs.Buffers.{writeAt}
 use Rattle.numbers.specs.Sizes.{inBytes}
+use Rattle.numbers.specs.Kinds.{numberOfKind}
 use Rattle.bundles.specs.Recordings.{Layout, Recording, noTrack, noReference, sampleCount, timeOf, contentOf}
 use Rattle.bundles.specs.Readers.{Reader}
-use Rattle.tables.specs.Tables.{columns, countsRow, trackRow, referenceRow, sampleRow, tableSize, numberOfKind}
+use Rattle.tables.specs.Tables.{columns, countsRow, trackRow, referenceRow, sampleRow, tableSize}
 use Rattle.filling.specs.declared.Filled.{Filled}
 use Rattle.filling.specs.declared.Filled.the-variants.{Refused, Done}
 

@@ -4,7 +4,7 @@
 --   counts-fit                         the sums fit
 --   counts-refused, counts-end         what is judged of a sample
 --   form-refused                       a sample that is not well formed
-use Prim.Native.Nat.{ℕ, suc, _+_, _*_, _≤_}
+use Prim.Native.Nat.{ℕ, suc, _+_, _≤_}
 use mathlib.Core.Path.{_≡_, refl, ap, sym, _∙_}
 use mathlib.Core.List.{List, [], _∷_, _++_}
 use native.Mathlib.Omega.{arith}
@@ -21,12 +21,12 @@ use Rattle.resolution_rules.specs.Resolving.{sampleOf, delivered}
 use Rattle.resolution_rules.proofs.Delivered.{judged-form}
 use Rattle.resolution_rules.proofs.Good.{own-length}
 use Rattle.delivery.specs.Steps.{start, stepOf}
-use Rattle.delivery.specs.Deliveries.{Delivery, unitFor, deliveries, ownPart, copiedPart, ownSize, copiedSize}
+use Rattle.delivery.specs.Deliveries.{Delivery, unitFor, deliveries, ownPart, copiedPart}
 use Rattle.delivery.specs.declared.Cursor.{Cursor}
 use Rattle.delivery.specs.declared.DeliveredUnit.{DeliveredUnit}
 use Rattle.delivery.specs.declared.Stepped.the-variants as step
 use Rattle.delivery.proofs.Falling.{bound}
-use Rattle.delivery.proofs.Deliveries.{own-none, own-add, copied-none, copied-add, parts-one, all-parts, deliveries-spans, deliveries-own, deliveries-copied}
+use Rattle.delivery.proofs.Deliveries.{ownSize, copiedSize, own-none, own-add, copied-none, copied-add, parts-one, all-parts, deliveries-spans, deliveries-own, deliveries-copied}
 use Rattle.delivery.proofs.Folds.{Folded, folded-unit, folded-fits, folded-refused, folded-done, content-most, recording-bound}
 use Rattle.judging.specs.Steps.{judgement}
 

@@ -12,6 +12,7 @@ ghost use Rattle.resolution_rules.specs.Calls.{numberFault};
 ghost use Rattle.delivery.specs.Deliveries.{unitFor, ownPart, copiedPart};
 ghost use Rattle.judging.specs.Steps.{judgement, judgementIn, answerOf};
 use delivery::DeliveredUnit;
+use delivery::Source;
 use delivery::Stepped;
 use numbers::ByteOffset;
 use numbers::Refusal;
@@ -50,14 +51,22 @@ pub fn number_fault(count: usize, n: usize) -> u8
 fn own_part(u: DeliveredUnit) -> usize
     ensures { λ r. ⌜ r ≡ ownPart (unitFor u) ⌝ }
 {
-    if u.copied { 0 } else { u.span.size }
+    let source = u.source;
+    match source {
+        Source::Own => u.span.size,
+        Source::Copy(_, _) => 0,
+    }
 }
 
 // The bytes of a delivered unit that is copied; 0 for one that stands in the sample itself.
 fn copied_part(u: DeliveredUnit) -> usize
     ensures { λ r. ⌜ r ≡ copiedPart (unitFor u) ⌝ }
 {
-    if u.copied { u.span.size } else { 0 }
+    let source = u.source;
+    match source {
+        Source::Own => 0,
+        Source::Copy(_, _) => u.span.size,
+    }
 }
 
 // How much sample n delivers, which is x and well formed; or 23 to 28 of its first extractor that is refused.
@@ -105,7 +114,7 @@ pub fn judge(b: &[u8], t: &[u64], n: SampleNumber) -> Judged
             place: ByteOffset(0),
         });
     }
-    let fault = number_fault(tables::sample_count(t), n.0);
+    let fault = number_fault(sample_tables::sample_count(t), n.0);
     if fault != 0 {
         return Judged::Refused(Refusal {
             number: fault,
@@ -113,7 +122,7 @@ pub fn judge(b: &[u8], t: &[u64], n: SampleNumber) -> Judged
         });
     }
     let k = delivery::track_of(t, n);
-    let x = tables::sample_bytes(b, t, n);
+    let x = sample_tables::sample_bytes(b, t, n);
     let checked = samples::check_sample(k, x);
     match checked {
         Checked::Refused(f) => Judged::Refused(f),

@@ -16,11 +16,11 @@ use native.Mathlib.Nat.{pos-of-ne-zero}
 use borrow.Author.Tests.{le-ltb, ltb-true, ltb-false, eq-eqb, ne-eqb, eqb-true, eqb-false}
 use lib.Dec.{ltb, eqb}
 use lib.ListN.{length}
-use Rattle.words.specs.Tests.{_<?_, _≡?_}
+use Rattle.words.specs.Tests.{_≡?_, outOf}
 use Rattle.words.specs.Refusals.{_if_}
 use Rattle.words.specs.RefusalNumbers.{badTrackRefIndex, noSampleNamed, nameRefusals}
 use Rattle.words.specs.Lists.{some, nth, upto}
-use Rattle.words.proofs.Tests.{by-bool}
+use Rattle.words.proofs.Tests.{by-bool, count-within, within-count}
 use Rattle.words.proofs.Refusals.{if-none, orElse-none, NoneOr, none-or-if, none-or-orElse}
 use Rattle.words.proofs.Lists.{keep-mem, keep-from, upto-mem, upto-from, nth-mem, nth-found, has-from, Rising, rising-keep, rising-upto}
 use Rattle.words.proofs.Rows.{nth-none, nth-beyond}
@@ -31,13 +31,11 @@ module _ (y : Layout) (n : ℕ) where
   -- 23
   pub link-none : (index : ℕ) → linkFault y n index ≡ 0 → (0 < index) × (index ≤ length (referencesFrom y (trackOf y n)))
   unfolding linkFault
-  link-none index e =
-      let a = orElse-none (badTrackRefIndex if index ≡? 0) _ e in
-      (pos-of-ne-zero (eqb-false _ _ (if-none 22 _ (a .0))), ltb-false _ _ (if-none 22 _ (a .1)))
+  link-none index e = count-within (length (referencesFrom y (trackOf y n))) index (if-none 22 _ e)
 
   pub link-good : (index : ℕ) → 0 < index → index ≤ length (referencesFrom y (trackOf y n)) → linkFault y n index ≡ 0
   unfolding linkFault
-  link-good index h l = rw (ne-eqb index 0 (λ z. absurd (omega arith)), le-ltb (length (referencesFrom y (trackOf y n))) index l)
+  link-good index h l = rw (within-count (length (referencesFrom y (trackOf y n))) index h l)
 
   pub record Link (index : ℕ) : Type 0 where
     pub reference : Reference
@@ -112,6 +110,5 @@ module _ (y : Layout) (n : ℕ) where
   unfolding nameFault linkFault some
   name-refusal index offset =
       none-or-orElse nameRefusals _ _
-      (none-or-orElse nameRefusals _ _ (none-or-if nameRefusals badTrackRefIndex (index ≡? 0) (has-from _ _ refl))
-      (none-or-if nameRefusals badTrackRefIndex (length (referencesFrom y (trackOf y n)) <? index) (has-from _ _ refl)))
+      (none-or-if nameRefusals badTrackRefIndex (outOf (length (referencesFrom y (trackOf y n))) index) (has-from _ _ refl))
       (none-or-if nameRefusals noSampleNamed (sampleNamed y n index offset ≡? 0) (has-from _ _ refl))

@@ -12,7 +12,7 @@
 use Prim.Native.Nat.{ℕ, _+_, _-_}
 use mathlib.Core.Bool.{Bool}
 use lib.ListN.{length}
-use Rattle.words.specs.Tests.{_<?_, _≤?_, _≡?_, pick, _when_else_}
+use Rattle.words.specs.Tests.{_<?_, _≤?_, _≡?_, outOf, pick, _when_else_}
 use Rattle.words.specs.Refusals.{_if_, _orElse_}
 use Rattle.words.specs.RefusalNumbers.{badTrackRefIndex, noSampleNamed}
 use Rattle.words.specs.Lists.{nth, lastThat}
@@ -35,9 +35,7 @@ stepped b (back k) = b - k when k <? b else 0
 module _ (y : Layout) where
   -- 23: track_ref_index 0 or past the last
   unfoldable pub linkFault : ℕ → ℕ → ℕ
-  linkFault n index =
-      badTrackRefIndex if index ≡? 0 orElse
-      badTrackRefIndex if length (referencesFrom y (trackOf y n)) <? index
+  linkFault n index = badTrackRefIndex if outOf (length (referencesFrom y (trackOf y n))) index
 
   -- The linked track: the own track's reference track_ref_index.
   unfoldable pub linkedTrack : ℕ → ℕ → ℕ

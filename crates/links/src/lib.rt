@@ -21,7 +21,7 @@ fn link_fault(t: &[u64], n: SampleNumber, index: u8) -> u8
     if index == 0 {
         return numbers::refusals::BAD_TRACK_REF_INDEX;
     }
-    let own = tables::sample_track(t, n);
+    let own = sample_tables::sample_track(t, n);
     let count = tables::reference_count(t, own);
     if count < index as usize {
         return numbers::refusals::BAD_TRACK_REF_INDEX;
@@ -33,13 +33,13 @@ fn link_fault(t: &[u64], n: SampleNumber, index: u8) -> u8
 fn base_in(t: &[u64], n: SampleNumber, track: TrackNumber) -> usize
     ensures { λ r. ⌜ r ≡ base (layoutIn (now (t .entry))) (n .0) (track .0) ⌝ }
 {
-    let own = tables::sample_time(t, n);
-    let range = tables::sample_range(t, track);
+    let own = sample_tables::sample_time(t, n);
+    let range = sample_tables::sample_range(t, track);
     let mut b: usize = 0;
     let mut m = range.before;
     while m < range.after {
         m += 1;
-        if tables::sample_time(t, SampleNumber(m)) <= own {
+        if sample_tables::sample_time(t, SampleNumber(m)) <= own {
             b = m - range.before;
         }
     }
@@ -65,7 +65,7 @@ fn stepped(b: usize, offset: u8) -> usize
 fn sample_named(t: &[u64], n: SampleNumber, index: u8, offset: u8) -> SampleNumber
     ensures { λ r. ⌜ r .0 ≡ sampleNamed (layoutIn (now (t .entry))) (n .0) index offset ⌝ }
 {
-    let own = tables::sample_track(t, n);
+    let own = sample_tables::sample_track(t, n);
     let track = tables::reference(t, own, index as usize);
     let b = base_in(t, n, track);
     if b == 0 {
@@ -75,7 +75,7 @@ fn sample_named(t: &[u64], n: SampleNumber, index: u8, offset: u8) -> SampleNumb
     if k == 0 {
         return SampleNumber(0);
     }
-    let range = tables::sample_range(t, track);
+    let range = sample_tables::sample_range(t, track);
     if range.after - range.before < k {
         return SampleNumber(0);
     }

@@ -2,8 +2,9 @@
 use libc::STDERR_FILENO;
 use libc::STDIN_FILENO;
 use numbers::SampleNumber;
-use report::decimal;
-use report::decimal::MaybeNumber;
+use program_input::decimal;
+use program_input::decimal::MaybeNumber;
+use program_input::limit;
 
 // The first argument. One that is missing or longer than 4,096 bytes is no number.
 fn argument() -> MaybeNumber {
@@ -14,9 +15,10 @@ fn argument() -> MaybeNumber {
 
 // The naming list of sample s of the bundle on standard input.
 fn print_names(s: SampleNumber) {
-    let mut buffer = [0u8; report::MOST];
+    let mut buffer = [0u8; limit::MOST];
     let n = io::read_full(STDIN_FILENO, &mut buffer);
-    if report::is_too_big(n) {
+    if limit::is_too_big(n) {
+        report::print_too_big();
         return;
     }
     report::print_names(&buffer[..n], s);

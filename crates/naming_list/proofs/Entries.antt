@@ -3,9 +3,9 @@ use mathlib.Core.Path.{_≡_, ap, sym}
 use mathlib.Core.List.{[], append-nil}
 use Rattle.naming_list_rules.specs.Naming.{Namer, entryBytes}
 use Rattle.naming_list_rules.proofs.Entries.{EntryFits, entry-read}
-use Rattle.naming_list.specs.Entries.{entryIn}
+use Rattle.naming_list.specs.Entries.{listEntryIn}
 
-pub entry-back : (e : Namer) → EntryFits e → entryIn (entryBytes e) ≡ record { sample = record { 0 = e .sample }; place = record { 0 = e .place } }
+pub entry-back : (e : Namer) → EntryFits e → listEntryIn (entryBytes e) ≡ record { sample = record { 0 = e .sample }; place = record { 0 = e .place } }
 entry-back e h =
     let w = rw (append-nil (entryBytes e)) at (entry-read e [] h) in
     rw (w .0, w .1)

@@ -42,7 +42,7 @@ use Rattle.resolution_rules.specs.Resolving.{own}
 use Rattle.resolution_rules.specs.Calls.{numberFault}
 use Rattle.resolution_rules.proofs.Sizes.{units-count}
 use Rattle.delivery.proofs.Folds.{content-most}
-use Rattle.naming_list_rules.specs.Naming.{Namer, namer, namesSample, namersIn, namingList, entrySize, listBytes, names, namesCall}
+use Rattle.naming_list_rules.specs.Naming.{Namer, namer, namesSample, namersIn, namingList, listEntrySize, listBytes, names, namesCall}
 use Rattle.naming_list_rules.proofs.Listing.{list-size}
 use Rattle.naming_list.proofs.Namers.{namers-not, list-none, list-append}
 
@@ -186,19 +186,19 @@ module _ (b t₀ : List ℕ) (s : ℕ) where
 module _ (r : Recording) (s : ℕ) (o : List ℕ) where
   pub record Putting (n at : ℕ) (out : List ℕ) : Type 0 where
     pub inside : n ≤ sampleCount (r .layout)
-    pub here : at ≡ length (sofar r s n) * entrySize
+    pub here : at ≡ length (sofar r s n) * listEntrySize
     pub is : out ≡ writeAt o 0 (listBytes (sofar r s n))
 
   pub putting-start : Putting 0 0 o
   putting-start = record { inside = omega arith; here = let e = ap length (sofar-none r s) in omega arith; is = rw (sofar-none r s, list-none) (write-none o 0) }
 
   -- samples of at most so many bytes have at most so many entries
-  pub putting-most : (c : ℕ) → ((k : ℕ) → length (contentOf r k) ≤ c) → (n at : ℕ) (out : List ℕ) → Putting n at out → at ≤ n * c * entrySize
+  pub putting-most : (c : ℕ) → ((k : ℕ) → length (contentOf r k) ≤ c) → (n at : ℕ) (out : List ℕ) → Putting n at out → at ≤ n * c * listEntrySize
   putting-most c most n at out p = let a = sofar-few r s c most n in let h = p .here in omega arith
 
   module _ (fits : length (listBytes (namingList r s)) ≤ length o) (n at : ℕ) (out : List ℕ) (c : Putting n at out) where
     -- what is written so far, and sample m too, fits
-    room : (m : ℕ) → m ≤ sampleCount (r .layout) → length (sofar r s m) * entrySize ≤ length o
+    room : (m : ℕ) → m ≤ sampleCount (r .layout) → length (sofar r s m) * listEntrySize ≤ length o
     room m h =
         let a = list-size (namingList r s) in
         let b = sofar-most r s m (sampleCount (r .layout)) h in
@@ -220,7 +220,7 @@ module _ (r : Recording) (s : ℕ) (o : List ℕ) where
           none-left (x ∷ xs) e = absurd (omega arith)
 
       -- there is room for the entries of the next sample
-      pub putting-room : at + length (namersIn r s (n + 1)) * entrySize ≤ length out
+      pub putting-room : at + length (namersIn r s (n + 1)) * listEntrySize ≤ length out
       putting-room =
           let a = room (n + 1) (omega arith) in
           let b = sofar-count r s n in
@@ -228,7 +228,7 @@ module _ (r : Recording) (s : ℕ) (o : List ℕ) where
           let l = putting-length in
           omega arith
 
-      pub putting-some : {k : ℕ} {out₁ : List ℕ} → k ≡ length (namersIn r s (n + 1)) → out₁ ≡ writeAt out at (listBytes (map (namer (n + 1)) (namersIn r s (n + 1)))) → Putting (n + 1) (at + k * entrySize) out₁
+      pub putting-some : {k : ℕ} {out₁ : List ℕ} → k ≡ length (namersIn r s (n + 1)) → out₁ ≡ writeAt out at (listBytes (map (namer (n + 1)) (namersIn r s (n + 1)))) → Putting (n + 1) (at + k * listEntrySize) out₁
       putting-some {k} {out₁} e f =
           let B = listBytes (sofar r s n) in
           let E = listBytes (entriesOf r s (n + 1)) in

@@ -1,10 +1,11 @@
 -- A walk over all units of a well-formed sample x that looks for the extractors that name sample s. Assumes nothing.
 --
 --   names-refused, names-sample          an extractor by what it names
+--   names-other                          no other unit names a sample
 --   from-end, from-skip, from-yes, from-no    what is left from p on
 --   namers-formed, namers-not            in a well-formed sample they are those of the naming list; in another there are none
 --   list-none, list-append               entries one after the other
---   Looking, looking-start, -skip, -take, -few, -count, -written    a loop that looks for them, counts them and writes their entries
+--   Looking, looking-start, -skip, -pass, -take, -few, -count, -written    a loop that looks for them, counts them and writes their entries
 use Prim.Native.Nat.{ℕ, suc, _+_, _-_, _*_, _≤_, _<_}
 use mathlib.Core.Path.{_≡_, refl, ap, sym, _∙_}
 use mathlib.Core.List.{List, [], _∷_, _++_, map, append-assoc, append-nil, List·Memᴰ}
@@ -26,8 +27,9 @@ use Rattle.words.proofs.Numbered.{put-after}
 use Rattle.words.proofs.Bytes.{bytes-length}
 use Rattle.words.proofs.Buffers.{write-none, put-length}
 use Rattle.numbers.proofs.Laws.{L-some}
-use Rattle.units.specs.Units.{Sample, end, next, isAggregator, isExtractor}
+use Rattle.units.specs.Units.{Sample, end, next, isAggregator, isExtractor, unitFault}
 use Rattle.units.specs.Aggregators.{includedStart, units, extractors}
+use Rattle.units.specs.Steps.{extractorAt}
 use Rattle.units.specs.declared.Extractor.{Extractor}
 use Rattle.samples.specs.Check.{check}
 use Rattle.samples.proofs.Laws.{extractor-step}
@@ -37,7 +39,7 @@ use Rattle.copies.proofs.Flat.{flat-aggregator, flat-other, flat-end, flat-step
 use Rattle.copies.proofs.Rest.{walking-skip, walking-take}
 use Rattle.resolution_rules.specs.Resolving.{own, named, nameFaultAt}
 use Rattle.resolution_rules.proofs.Delivered.{aggregator-only}
-use Rattle.naming_list_rules.specs.Naming.{Namer, namer, namesSample, namersIn, entryBytes, listBytes, entrySize}
+use Rattle.naming_list_rules.specs.Naming.{Namer, namer, namesSample, namersIn, entryBytes, listBytes, listEntrySize}
 use Rattle.naming_list_rules.proofs.Listing.{list-size}
 use Rattle.naming_list.specs.Steps.{namesWith, namesAt, namersFrom, withEntry}
 
@@ -51,18 +53,19 @@ module _ (y : Layout) (s n : ℕ) (f : Extractor) where
   unfolding namesWith
   names-sample e g = rw (e, g)
 
+-- no other unit names a sample
+pub names-other : (y : Layout) (s n : ℕ) (x : Sample) (p : ℕ) → isExtractor x p ≡ false → namesAt y s n x p ≡ false
+unfolding namesAt extractorAt
+names-other y s n x p t = by-bool (unitFault x (end x) p ≡? 0) (λ u. rw (u, t)) (λ u. rw u)
+
 module _ (y : Layout) (s n : ℕ) (x : Sample) where
   pub from-end : (p : ℕ) → end x ≤ p → namersFrom y s n x p ≡ []
   unfolding keep
   from-end p h = rw (flat-end x p (end x) h)
 
   module _ (p : ℕ) (h : p < end x) where
-    skips : isAggregator x p ≡ true → namesAt y s n x p ≡ false
-    unfolding namesAt
-    skips t = rw (aggregator-only x p t)
-
     pub from-skip : isAggregator x p ≡ true → namersFrom y s n x p ≡ namersFrom y s n x (includedStart x p)
-    from-skip t = rw (flat-step x p (end x) h, flat-aggregator x p t) (keep-no (namesAt y s n x) p _ (skips t))
+    from-skip t = rw (flat-step x p (end x) h, flat-aggregator x p t) (keep-no (namesAt y s n x) p _ (names-other y s n x p (aggregator-only x p t)))
 
     module _ (t : isAggregator x p ≡ false) where
       pub from-yes : namesAt y s n x p ≡ true → namersFrom y s n x p ≡ p ∷ namersFrom y s n x (next x p)
@@ -77,7 +80,7 @@ module _ (r : Recording) (s n : ℕ) where
   unfolding namesAt namesWith nameFaultAt named extractors
   at-names f p m = by-bool (isExtractor (own r n) p)
       (λ t. rw (t, extractor-step (own r n) f p (keep-mem (isExtractor (own r n)) (units (own r n)) m t)))
-      (λ t. rw t)
+      (λ t. rw t (names-other (r .layout) s n (own r n) p t))
 
   pub namers-formed : (x : Sample) → x ≡ own r n → check x ≡ ok tt → namersFrom (r .layout) s n x 0 ≡ namersIn r s n
   unfolding namersIn extractors
@@ -117,7 +120,7 @@ module _ (y : Layout) (s n : ℕ) (x : Sample) (o : List ℕ) (at : ℕ) where
     pub split : namersFrom y s n x 0 ≡ done ++ namersFrom y s n x p
     pub few : count ≤ p
     pub size : length out ≡ length o
-    pub written : at + length (namersFrom y s n x 0) * entrySize ≤ length o → out ≡ writeAt o at (listBytes (map (namer n) done))
+    pub written : at + length (namersFrom y s n x 0) * listEntrySize ≤ length o → out ≡ writeAt o at (listBytes (map (namer n) done))
 
   pub looking-start : check x ≡ ok tt → Looking 0 0 o
   looking-start f =
@@ -163,7 +166,7 @@ module _ (y : Layout) (s n : ℕ) (x : Sample) (o : List ℕ) (at : ℕ) where
           }
 
       abbrev place : ℕ
-      place = at + count * entrySize
+      place = at + count * listEntrySize
 
       abbrev after : List ℕ
       after = withEntry out place n p
@@ -184,7 +187,7 @@ module _ (y : Layout) (s n : ℕ) (x : Sample) (o : List ℕ) (at : ℕ) where
             written = λ r.
                 let B = listBytes (map (namer n) (c .done)) in
                 let a : length (namersFrom y s n x 0) ≡ length (c .done) + suc (length (namersFrom y s n x (next x p))) = ap length (c .split ∙ ap (λ l. c .done ++ l) e) ∙ length-append (c .done) (p ∷ namersFrom y s n x (next x p)) in
-                let b : length B ≡ length (c .done) * entrySize = list-size (map (namer n) (c .done)) ∙ rw (length-map (c .done) (namer n)) in
+                let b : length B ≡ length (c .done) * listEntrySize = list-size (map (namer n) (c .done)) ∙ rw (length-map (c .done) (namer n)) in
                 let b2 : length (B ++ bytes 2 n) ≡ length B + 2 = length-append B (bytes 2 n) ∙ rw (bytes-length 2 n) in
                 let b4 = bytes-length 4 p in
                 let u2 = bytes-length 2 n in
@@ -194,6 +197,9 @@ module _ (y : Layout) (s n : ℕ) (x : Sample) (o : List ℕ) (at : ℕ) where
                 rw (map-append (namer n) (c .done) (p ∷ []), list-append (map (namer n) (c .done)) (namer n p ∷ []), list-one (namer n p)) (sym (append-assoc B (bytes 2 n) (bytes 4 p))) in
                 v ∙ ap (writeAt o at) (sym z);
           }
+
+      pub looking-pass : isExtractor x p ≡ false → Looking (next x p) count out
+      looking-pass g = looking-no (names-other y s n x p g)
 
       pub looking-take : {f : ℕ} → f ≡ pick (namesAt y s n x p) 1 0 → Looking (next x p) (count + f) (pick (namesAt y s n x p) after out)
       looking-take e = by-bool (namesAt y s n x p)
@@ -206,7 +212,7 @@ module _ (y : Layout) (s n : ℕ) (x : Sample) (o : List ℕ) (at : ℕ) where
     pub looking-count : end x ≤ p → count ≡ length (namersFrom y s n x 0)
     looking-count h = c .number ∙ ap length (sym (whole h))
 
-    pub looking-written : end x ≤ p → at + count * entrySize ≤ length o → out ≡ writeAt o at (listBytes (map (namer n) (namersFrom y s n x 0)))
+    pub looking-written : end x ≤ p → at + count * listEntrySize ≤ length o → out ≡ writeAt o at (listBytes (map (namer n) (namersFrom y s n x 0)))
     looking-written h f =
         let e = looking-count h in
         c .written (omega arith) ∙ ap (λ (l : List ℕ). writeAt o at (listBytes (map (namer n) l))) (sym (whole h))

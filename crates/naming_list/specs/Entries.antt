@@ -6,5 +6,5 @@ use Rattle.numbers.specs.Places.{placeSize}
 use Rattle.naming_list_rules.specs.Naming.{sampleSize}
 use Rattle.naming_list.specs.declared.Entry.{Entry}
 
-abbrev pub entryIn : List ℕ → Entry
-entryIn s = record { sample = record { 0 = big s 0 sampleSize }; place = record { 0 = big s sampleSize placeSize } }
+abbrev pub listEntryIn : List ℕ → Entry
+listEntryIn s = record { sample = record { 0 = big s 0 sampleSize }; place = record { 0 = big s sampleSize placeSize } }

@@ -8,11 +8,11 @@
 use Prim.Native.Nat.{ℕ, _+_, _*_}
 use mathlib.Core.List.{List}
 use mathlib.Core.Bool.{Bool, false, _&&_}
-use Rattle.words.specs.Tests.{_≡?_, pick}
+use Rattle.words.specs.Tests.{_≡?_}
 use Rattle.words.specs.Lists.{keep}
 use Rattle.words.specs.Bytes.{bytes}
 use Rattle.words.specs.Buffers.{put}
-use Rattle.units.specs.Units.{Sample, end, isExtractor}
+use Rattle.units.specs.Units.{Sample, end}
 use Rattle.units.specs.Steps.{extractorAt}
 use Rattle.units.specs.declared.Extractor as fields
 use Rattle.units.specs.declared.MaybeExtractor.{MaybeExtractor}
@@ -22,7 +22,7 @@ use Rattle.bundles.specs.Recordings.{Layout}
 use Rattle.links.specs.Links.{sampleNamed, nameFault}
 use Rattle.copies.specs.Flat.{flatPlaces}
 use Rattle.numbers.specs.Places.{placeSize}
-use Rattle.naming_list_rules.specs.Naming.{sampleSize, entrySize}
+use Rattle.naming_list_rules.specs.Naming.{sampleSize, listEntrySize}
 
 module _ (y : Layout) (s n : ℕ) where
   unfoldable pub namesWith : fields.Extractor → Bool
@@ -30,13 +30,13 @@ module _ (y : Layout) (s n : ℕ) where
       (nameFault y n (f .«track_ref_index») (f .«sample_offset») ≡? 0)
       && (sampleNamed y n (f .«track_ref_index») (f .«sample_offset») ≡? s)
 
-  -- in a well-formed sample `Nothing` does not come
+  -- no extractor, or a bad one, names nothing
   abbrev pub namesBy : MaybeExtractor → Bool
   namesBy (Extractor f) = namesWith f
   namesBy Nothing = false
 
   unfoldable pub namesAt : Sample → ℕ → Bool
-  namesAt x p = pick (isExtractor x p) (namesBy (extractorAt x (end x) p)) false
+  namesAt x p = namesBy (extractorAt x (end x) p)
 
   abbrev pub namersFrom : Sample → ℕ → List ℕ
   namersFrom x p = keep (namesAt x) (flatPlaces x p (end x))
@@ -46,4 +46,4 @@ abbrev pub withEntry : List ℕ → ℕ → ℕ → ℕ → List ℕ
 withEntry o at n p = put (put o at (bytes sampleSize n)) (at + sampleSize) (bytes placeSize p)
 
 abbrev pub listMost : ℕ
-listMost = sampleMost * bundleMost * entrySize
+listMost = sampleMost * bundleMost * listEntrySize

@@ -13,19 +13,19 @@ ghost use Rattle.bundles.specs.Limits.{bundleMost};
 ghost use Rattle.bundles.specs.Recordings.{sampleCount};
 ghost use Rattle.bundles.specs.Readers.{firstLayout};
 ghost use Rattle.tables.specs.Tables.{tableMost, layoutIn, recordingIn, keptCountIn};
-ghost use Rattle.naming_list_rules.specs.Naming.{namer, namersIn, namingList, entrySize, listBytes, names, namesCall};
-ghost use Rattle.naming_list.specs.Entries.{entryIn};
+ghost use Rattle.naming_list_rules.specs.Naming.{namer, namersIn, namingList, listEntrySize, listBytes, names, namesCall};
+ghost use Rattle.naming_list.specs.Entries.{listEntryIn};
 ghost use Rattle.naming_list.specs.Steps.{namesWith, namesAt, namersFrom, listMost, withEntry};
 use filling::Filled;
 use links::Named;
 use numbers::ByteOffset;
-use numbers::LengthSize;
 use numbers::PLACE_SIZE;
 use numbers::Refusal;
 use numbers::SampleNumber;
 use numbers::Written;
 use numbers::refusals;
 use samples::Checked;
+use unit_steps::Item;
 use units::Extractor;
 use units::MaybeExtractor;
 use units::Track;
@@ -43,7 +43,7 @@ pub struct Entry {
 
 // What an entry's bytes say.
 pub fn entry_of(entry: &[u8]) -> Entry
-    ensures { λ r. ⌜ r ≡ entryIn (now (entry .entry)) ⌝ }
+    ensures { λ r. ⌜ r ≡ listEntryIn (now (entry .entry)) ⌝ }
 {
     let sample = numbers::number(entry, 0, SAMPLE_SIZE);
     let place = numbers::number(entry, SAMPLE_SIZE, PLACE_SIZE);
@@ -68,9 +68,6 @@ fn names_with(t: &[u64], n: SampleNumber, f: Extractor, s: SampleNumber) -> bool
 fn names_at(t: &[u64], n: SampleNumber, k: Track, x: &[u8], at: ByteOffset, s: SampleNumber) -> bool
     ensures { λ r. ⌜ r ≡ namesAt (layoutIn (now (t .entry))) (s .0) (n .0) (sample k (now (x .entry))) (at .0) ⌝ }
 {
-    if units::type_at(k, x, at) != units::EXTRACTOR {
-        return false;
-    }
     let found = unit_steps::extractor_at(k, x, at, ByteOffset(x.len()));
     match found {
         MaybeExtractor::Extractor(f) => names_with(t, n, f, s),
@@ -122,20 +119,29 @@ fn put_namers(
 ) -> usize
     requires { ⌜ (check (sample k (now x)) ≡ ok tt) × (length (now x) ≤ bundleMost) × (at ≤ listMost) ⌝ }
     ensures { λ r. ⌜ (r ≡ length (namersFrom (layoutIn (now (t .entry))) (s .0) (n .0) (sample k (now (x .entry))) 0))
-        × (at + r * entrySize ≤ length (now (out .entry))
+        × (at + r * listEntrySize ≤ length (now (out .entry))
         → now (out .exit) ≡ writeAt (now (out .entry)) at (listBytes (map (namer (n .0)) (namersFrom (layoutIn (now (t .entry))) (s .0) (n .0) (sample k (now (x .entry))) 0)))) ⌝ }
 {
-    let l = k.length_size;
-    let w = l.bytes();
     let mut count: usize = 0;
     let mut p: usize = 0;
     while p < x.len() {
-        if units::type_at(k, x, ByteOffset(p)) == units::AGGREGATOR {
-            p = p + w + LengthSize::HEADER + w;
-        } else {
-            let found = put_namer(out, at + count * ENTRY_SIZE, t, n, k, x, ByteOffset(p), s);
-            count += found;
-            p = p + w + l.number(x, p);
+        let item = unit_steps::item_at(k, x, ByteOffset(p));
+        match item {
+            // does not come: the sample is well formed
+            Item::Nothing => {
+                return count;
+            }
+            Item::Aggregator(included) => {
+                p = included.0;
+            }
+            Item::Extractor(next) => {
+                let found = put_namer(out, at + count * ENTRY_SIZE, t, n, k, x, ByteOffset(p), s);
+                count += found;
+                p = next.0;
+            }
+            Item::Unit(u) => {
+                p = u.next.0;
+            }
         }
     }
     count
@@ -147,7 +153,7 @@ fn count_in(b: &[u8], t: &[u64], n: SampleNumber, s: SampleNumber) -> usize
     ensures { λ r. ⌜ r ≡ length (namersIn (recordingIn (now (b .entry)) (now (t .entry))) (s .0) (n .0)) ⌝ }
 {
     let k = delivery::track_of(t, n);
-    let x = tables::sample_bytes(b, t, n);
+    let x = sample_tables::sample_bytes(b, t, n);
     let checked = samples::check_sample(k, x);
     match checked {
         Checked::Refused(_) => 0,
@@ -165,13 +171,13 @@ fn count_all(b: &[u8], t: &mut [u64], s: SampleNumber) -> usize
         × (recordingIn (now (b .entry)) (now (t .exit)) ≡ recordingIn (now (b .entry)) (now (t .entry)))
         × ((m : ℕ) → 0 < m → m ≤ sampleCount (layoutIn (now (t .entry))) → keptCountIn (now (t .exit)) m ≡ length (namersIn (recordingIn (now (b .entry)) (now (t .entry))) (s .0) m)) ⌝ }
 {
-    let total = tables::sample_count(t);
+    let total = sample_tables::sample_count(t);
     let mut count: usize = 0;
     let mut n: usize = 0;
     while n < total {
         n += 1;
         let found = count_in(b, t, SampleNumber(n), s);
-        tables::keep_count(t, SampleNumber(n), found as u64);
+        sample_tables::keep_count(t, SampleNumber(n), found as u64);
         count += found;
     }
     count
@@ -184,14 +190,14 @@ fn put_list(out: &mut [u8], b: &[u8], t: &[u64], s: SampleNumber)
         × ((m : ℕ) → 0 < m → m ≤ sampleCount (layoutIn (now t)) → keptCountIn (now t) m ≡ length (namersIn (recordingIn (now b) (now t)) (s .0) m)) ⌝ }
     ensures { λ _. ⌜ now (out .exit) ≡ overwrite (now (out .entry)) (listBytes (namingList (recordingIn (now (b .entry)) (now (t .entry))) (s .0))) ⌝ }
 {
-    let total = tables::sample_count(t);
+    let total = sample_tables::sample_count(t);
     let mut at: usize = 0;
     let mut n: usize = 0;
     while n < total {
         n += 1;
-        if tables::kept_count(t, SampleNumber(n)) != 0 {
+        if sample_tables::kept_count(t, SampleNumber(n)) != 0 {
             let k = delivery::track_of(t, SampleNumber(n));
-            let x = tables::sample_bytes(b, t, SampleNumber(n));
+            let x = sample_tables::sample_bytes(b, t, SampleNumber(n));
             let found = put_namers(out, at, t, SampleNumber(n), k, x, s);
             at += found * ENTRY_SIZE;
         }
@@ -214,7 +220,7 @@ fn list_sample(b: &[u8], t: &mut [u64], s: SampleNumber, out: &mut [u8]) -> Writ
     ensures { λ r. ⌜ Wrote (now (out .entry)) (now (out .exit)) (answerOf r)
         (within (length (now (out .entry))) (names (recordingIn (now (b .entry)) (now (t .entry))) (s .0))) ⌝ }
 {
-    let fault = judging::number_fault(tables::sample_count(t), s.0);
+    let fault = judging::number_fault(sample_tables::sample_count(t), s.0);
     if fault != 0 {
         return refused(fault);
     }

@@ -25,7 +25,7 @@ use Rattle.links.proofs.Words.{mem-nth}
 use Rattle.resolution_rules.specs.Readers.{Sound}
 use Rattle.resolution_rules.proofs.Good.{extractor-inside}
 use Rattle.numbers.specs.Places.{placeSize}
-use Rattle.naming_list_rules.specs.Naming.{Namer, namer, namingList, sampleSize, entrySize, entryBytes, listBytes}
+use Rattle.naming_list_rules.specs.Naming.{Namer, namer, namingList, sampleSize, listEntrySize, entryBytes, listBytes}
 use Rattle.naming_list_rules.specs.Rules.{Unlisted}
 use Rattle.naming_list_rules.proofs.Listing.{list-only, entry-size, list-size}
 
@@ -59,18 +59,18 @@ abbrev pub noNamer : Namer
 noNamer = namer 0 0
 
 pub entries-read : (es : List Namer) → ((e : Namer) → List·Memᴰ e es → EntryFits e) → (i : ℕ) → i < length es →
-    (big (listBytes es) (i * entrySize) sampleSize ≡ getD es i noNamer .sample) × (big (listBytes es) (i * entrySize + sampleSize) placeSize ≡ getD es i noNamer .place)
+    (big (listBytes es) (i * listEntrySize) sampleSize ≡ getD es i noNamer .sample) × (big (listBytes es) (i * listEntrySize + sampleSize) placeSize ≡ getD es i noNamer .place)
 unfolding listBytes each
 entries-read [] h i l = absurd (omega arith)
 entries-read (e ∷ es) h zero l = entry-read e (listBytes es) (h e (List·Memᴰ·head refl))
 entries-read (e ∷ es) h (suc i) l =
     let below = entries-read es (λ x m. h x (List·Memᴰ·tail m)) i (omega arith) in
     let k = entry-size e in
-    let z : length (listBytes es) ≡ length es * entrySize = list-size es in
-    let u : suc i * entrySize ≡ length (entryBytes e) + i * entrySize = omega arith in
-    let v : suc i * entrySize + sampleSize ≡ length (entryBytes e) + (i * entrySize + sampleSize) = omega arith in (
-      ap (λ (q : ℕ). big (entryBytes e ++ listBytes es) q sampleSize) u ∙ big-after (entryBytes e) (listBytes es) (i * entrySize) sampleSize (omega arith) ∙ below .0,
-      ap (λ (q : ℕ). big (entryBytes e ++ listBytes es) q placeSize) v ∙ big-after (entryBytes e) (listBytes es) (i * entrySize + sampleSize) placeSize (omega arith) ∙ below .1,
+    let z : length (listBytes es) ≡ length es * listEntrySize = list-size es in
+    let u : suc i * listEntrySize ≡ length (entryBytes e) + i * listEntrySize = omega arith in
+    let v : suc i * listEntrySize + sampleSize ≡ length (entryBytes e) + (i * listEntrySize + sampleSize) = omega arith in (
+      ap (λ (q : ℕ). big (entryBytes e ++ listBytes es) q sampleSize) u ∙ big-after (entryBytes e) (listBytes es) (i * listEntrySize) sampleSize (omega arith) ∙ below .0,
+      ap (λ (q : ℕ). big (entryBytes e ++ listBytes es) q placeSize) v ∙ big-after (entryBytes e) (listBytes es) (i * listEntrySize + sampleSize) placeSize (omega arith) ∙ below .1,
     )
 
 -- numbers of samples fit their bytes, and so do places, which lie in a sample
@@ -91,10 +91,10 @@ module _ (r : Recording) (s : ℕ) (fits : Fits r) where
       (omega arith, omega arith)
 
   pub list-read : (i : ℕ) → i < length (namingList r s) →
-      (big (listBytes (namingList r s)) (i * entrySize) sampleSize ≡ getD (namingList r s) i noNamer .sample) × (big (listBytes (namingList r s)) (i * entrySize + sampleSize) placeSize ≡ getD (namingList r s) i noNamer .place)
+      (big (listBytes (namingList r s)) (i * listEntrySize) sampleSize ≡ getD (namingList r s) i noNamer .sample) × (big (listBytes (namingList r s)) (i * listEntrySize + sampleSize) placeSize ≡ getD (namingList r s) i noNamer .place)
   list-read i l = entries-read (namingList r s) entries-fit i l
 
-  pub unlisted-read : (n : ℕ) → ((i : ℕ) → i < length (namingList r s) → big (listBytes (namingList r s)) (i * entrySize) sampleSize ≡ n → ⊥) → Unlisted r s n
+  pub unlisted-read : (n : ℕ) → ((i : ℕ) → i < length (namingList r s) → big (listBytes (namingList r s)) (i * listEntrySize) sampleSize ≡ n → ⊥) → Unlisted r s n
   unlisted-read n h p m = let w = mem-nth (namingList r s) (namer n p) noNamer m in at (w .0) (w .1 .0) (w .1 .1) (w .2)
     where
       at : (i : ℕ) → 0 < i → i ≤ length (namingList r s) → nth (namingList r s) i noNamer ≡ namer n p → ⊥

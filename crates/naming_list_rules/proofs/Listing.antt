@@ -32,7 +32,7 @@ use Rattle.bundles.specs.Recordings.{Recording, trackOf, replaced}
 use Rattle.links.proofs.Links.{linked-reference, in-track, named-there, name-none}
 use Rattle.resolution_rules.specs.Resolving.{sampleOf, own, named, nameFaultAt}
 use Rattle.resolution_rules.specs.Readers.{DifferentTracks}
-use Rattle.naming_list_rules.specs.Naming.{Namer, namer, namesSample, namersIn, namingList, entrySize, entryBytes, listBytes}
+use Rattle.naming_list_rules.specs.Naming.{Namer, namer, namesSample, namersIn, namingList, listEntrySize, entryBytes, listBytes}
 use Rattle.naming_list_rules.specs.Rules.{Names, Before, isNamer, timesListed}
 use Rattle.naming_list_rules.proofs.Replaced.{sample-other, named-other, name-fault-other}
 
@@ -107,10 +107,10 @@ module _ (r : Recording) (s n p : ℕ) where
       (λ x y i j o. let a = found x i in let b = found y j in ⊎-elim (λ l. absurd (omega arith)) (λ l. let k = l .1 in absurd (omega arith)) o)
       (namingList r s) (list-rises r s) (listed r s n p w) (rw (eq-eqb n n refl, eq-eqb p p refl))
 
-pub entry-size : (e : Namer) → length (entryBytes e) ≡ entrySize
+pub entry-size : (e : Namer) → length (entryBytes e) ≡ listEntrySize
 entry-size e = simp (length-append, bytes-length)
 
-pub list-size : (es : List Namer) → length (listBytes es) ≡ length es * entrySize
+pub list-size : (es : List Namer) → length (listBytes es) ≡ length es * listEntrySize
 unfolding listBytes each
 list-size [] = refl
 list-size (e ∷ es) =

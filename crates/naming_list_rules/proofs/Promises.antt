@@ -41,7 +41,7 @@ use Rattle.bundles.specs.Readers.{Reader}
 use Rattle.resolution_rules.specs.Calls.{resolveCall}
 use Rattle.resolution_rules.specs.Readers.{DifferentTracks, Sound}
 use Rattle.resolution_rules.proofs.Calls.{call-means}
-use Rattle.naming_list_rules.specs.Naming.{Namer, namer, namingList, sampleSize, entrySize, listBytes, namesCall}
+use Rattle.naming_list_rules.specs.Naming.{Namer, namer, namingList, sampleSize, listEntrySize, listBytes, namesCall}
 use Rattle.naming_list_rules.specs.Rules.{Names, Before, timesListed, Unlisted, Kept, NamesAnswers, NamesRefuses, SameAnswer}
 use Rattle.naming_list_rules.proofs.Listing as listing
 use Rattle.naming_list_rules.proofs.Others as others
@@ -62,7 +62,7 @@ module _ (r : Recording) (s : ℕ) where
   pub listed-once : (n p : ℕ) → Names r s n p → timesListed r s n p ≡ 1
   listed-once n p = listing.list-once r s n p
 
-  pub six-bytes : length (listBytes (namingList r s)) ≡ length (namingList r s) * entrySize
+  pub six-bytes : length (listBytes (namingList r s)) ≡ length (namingList r s) * listEntrySize
   six-bytes = listing.list-size (namingList r s)
 
   pub never-itself : DifferentTracks (r .layout) → Unlisted r s s
@@ -73,26 +73,26 @@ module _
     (reader : Reader) (sound : Sound reader) (b : List ℕ) (r : Recording) (accepted : reader .means b ≡ ok r) (s : ℕ) (some : 0 < s)
     (there : s ≤ sampleCount (r .layout))
   where
-    pub names-answers : (room : ℕ) → length (namingList r s) * entrySize ≤ room → namesCall reader b s room ≡ ok (listBytes (namingList r s))
+    pub names-answers : (room : ℕ) → length (namingList r s) * listEntrySize ≤ room → namesCall reader b s room ≡ ok (listBytes (namingList r s))
     names-answers room h =
         let l = six-bytes r s in
         calls.lists reader b s room (record { recording = r; means = accepted; some = some; there = there; lists = refl; fits = omega arith })
 
     pub entries-read-back : (i : ℕ) → i < length (namingList r s) →
-        (big (listBytes (namingList r s)) (i * entrySize) sampleSize ≡ getD (namingList r s) i (namer 0 0) .sample)
-        × (big (listBytes (namingList r s)) (i * entrySize + sampleSize) placeSize ≡ getD (namingList r s) i (namer 0 0) .place)
+        (big (listBytes (namingList r s)) (i * listEntrySize) sampleSize ≡ getD (namingList r s) i (namer 0 0) .sample)
+        × (big (listBytes (namingList r s)) (i * listEntrySize + sampleSize) placeSize ≡ getD (namingList r s) i (namer 0 0) .place)
     entries-read-back = entries.list-read r s (entries.sound-fits reader sound b r accepted)
 
     pub unlisted-by-call : {out out₁ : List ℕ} {count : ℕ} → Wrote out out₁ (ok count) (namesCall reader b s (length out)) →
-        (n : ℕ) → ((i : ℕ) → i * entrySize < count → big out₁ (i * entrySize) sampleSize ≡ n → ⊥) → Unlisted r s n
+        (n : ℕ) → ((i : ℕ) → i * listEntrySize < count → big out₁ (i * listEntrySize) sampleSize ≡ n → ⊥) → Unlisted r s n
     unlisted-by-call {out} {out₁} {count} w n h =
         let k = calls.wrote-list w in
         let l = calls.lists-because reader b s (length out) (k .0) (k .1) in
         let same : l .recording ≡ r = ok-same (sym (l .means) ∙ accepted) in
         let is : k .0 ≡ listBytes (namingList r s) = l .lists ∙ ap (λ (x : Recording). listBytes (namingList x s)) same in
-        let size : count ≡ length (namingList r s) * entrySize = k .2 ∙ ap length is ∙ six-bytes r s in
+        let size : count ≡ length (namingList r s) * listEntrySize = k .2 ∙ ap length is ∙ six-bytes r s in
         entries.unlisted-read r s (entries.sound-fits reader sound b r accepted) n (λ i j e.
-        h i (omega arith) (k .3 (i * entrySize) sampleSize (omega arith) ∙ ap (λ (x : List ℕ). big x (i * entrySize) sampleSize) is ∙ e))
+        h i (omega arith) (k .3 (i * listEntrySize) sampleSize (omega arith) ∙ ap (λ (x : List ℕ). big x (i * listEntrySize) sampleSize) is ∙ e))
 
     -- other bytes in place of the sample's
     module _ (new : List ℕ) (equal-length : length new ≡ length (contentOf r s)) where

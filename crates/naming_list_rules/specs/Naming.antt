@@ -47,8 +47,8 @@ module _ (r : Recording) (s : ℕ) where
 abbrev pub sampleSize : ℕ
 sampleSize = 2
 
-abbrev pub entrySize : ℕ
-entrySize = sampleSize + placeSize
+abbrev pub listEntrySize : ℕ
+listEntrySize = sampleSize + placeSize
 
 abbrev pub entryBytes : Namer → List ℕ
 entryBytes e = bytes sampleSize (e .sample) ++ bytes placeSize (e .place)

@@ -23,7 +23,7 @@ use Rattle.bundles.specs.Recordings.{Recording, sampleCount}
 use Rattle.bundles.specs.Readers.{Reader}
 use Rattle.resolution_rules.specs.Resolving.{sampleOf, named, nameFaultAt, delivered, judged}
 use Rattle.resolution_rules.specs.Calls.{output}
-use Rattle.naming_list_rules.specs.Naming.{Namer, namer, namingList, entrySize, listBytes}
+use Rattle.naming_list_rules.specs.Naming.{Namer, namer, namingList, listEntrySize, listBytes}
 
 -- Whatever 25 to 28 say, and whatever the other extractors of its sample are.
 pub record Names (r : Recording) (s n p : ℕ) : Type 0 where
@@ -72,7 +72,7 @@ module _ (reader : Reader) (b : List ℕ) (s room : ℕ) where
     number : (r : Recording) → reader .means b ≡ ok r → (s ≡ 0) ⊎ (sampleCount (r .layout) < s) → NamesRefuses noSuchNumber 0
     tooLong :
         (r : Recording) → reader .means b ≡ ok r → 0 < s → s ≤ sampleCount (r .layout) →
-        room < length (namingList r s) * entrySize → NamesRefuses outputTooLong 0
+        room < length (namingList r s) * listEntrySize → NamesRefuses outputTooLong 0
 
 -- what two calls returned, and what they left in the buffers lent to them
 pub record SameAnswer (a a' : Answer ℕ) (out out' : List ℕ) : Type 0 where

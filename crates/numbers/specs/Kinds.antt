@@ -1,4 +1,4 @@
--- The kind of a track (01, 'The bundle', 1). A new kind is one more line of `kindOf` and of `isAvc`.
+-- The kind of a track (01, 'The bundle', 1). A new kind is one more line of each.
 use Prim.Native.Nat.{ℕ}
 use mathlib.Core.Bool.{Bool, true, false}
 use Rattle.words.specs.Tests.{_≡?_, pick}
@@ -9,11 +9,14 @@ use Rattle.numbers.specs.declared.Kind.the-variants.{Avc, Svc}
 use Rattle.numbers.specs.declared.MaybeKind.{MaybeKind}
 use Rattle.numbers.specs.declared.MaybeKind.the-variants.{Known, Unknown}
 
--- 0 is AVC, 1 is SVC
+abbrev pub numberOfKind : Kind → ℕ
+numberOfKind Avc = 0
+numberOfKind Svc = 1
+
 abbrev pub kindOf : ℕ → MaybeKind
 kindOf n =
-    pick (n ≡? 0) (Known Avc)
-    (pick (n ≡? 1) (Known Svc)
+    pick (n ≡? numberOfKind Avc) (Known Avc)
+    (pick (n ≡? numberOfKind Svc) (Known Svc)
     Unknown)
 
 -- 4 at 0, outside a bundle

@@ -21,6 +21,11 @@ pub struct ByteOffset(pub usize);
 // The bytes of a place as it is written.
 pub const PLACE_SIZE: usize = 4;
 
+// The first byte of a NAL unit: its top bit, forbidden_zero_bit, counts 128; its type is what is left of 32, the low five bits.
+pub const FORBIDDEN_BIT: u8 = 128;
+
+pub const NAL_TYPES: u8 = 32;
+
 // A refusal: its number in document 01's table, and its place.
 pub struct Refusal {
     pub number: u8,

@@ -107,7 +107,7 @@ module _ (b : List ℕ) (r : Recording) (accepted : firstLayout .means b ≡ ok 
     zero-good : Bytes b → (n : ℕ) → 0 < n → n ≤ count → SampleSays r n out₁ → big out₁ (13 * (n - 1)) 1 ≡ 0 → GoodSample r n
     zero-good g n h l (SampleSays.passed z us w v) e = w .good
     zero-good g n h l (SampleSays.empty z v) e = good-exactly b g r accepted n h l .0 (auditing.empty-is-good r n z .0)
-    zero-good g n h l (SampleSays.bad m p broken w v) e = let s = number-some r n (judged-refused r n m p (refused-sample b g r n w .2)) in let f = v .refusal in absurd (omega arith)
+    zero-good g n h l (SampleSays.bad m p broken w v) e = let s = number-some r n (judged-refused r n m p (refused-sample b g r accepted n w .2)) in let f = v .refusal in absurd (omega arith)
 
     good-zero : (n : ℕ) → SampleSays r n out₁ → GoodSample r n → big out₁ (13 * (n - 1)) 1 ≡ 0
     good-zero n (SampleSays.passed z us w v) good = v .refusal

@@ -35,7 +35,7 @@ use Rattle.naming_list_rules.specs.Naming.{namer, namingList}
 use Rattle.naming_list_rules.specs.Rules.{Names, Before, timesListed}
 use Rattle.naming_list_rules.proofs.Promises as naming
 use Rattle.promise_rules.proofs.SampleLaws.{formed-rules, rules-formed}
-use Rattle.promise_rules.specs.Resolving.{NamedBy, NamesIt, Extraction, GoodSample, unitIn, Delivery, afterLength, Resolved, StandsAt}
+use Rattle.promise_rules.specs.Resolving.{NamedBy, NamesIt, Extraction, GoodSample, deliveredUnit, Delivers, afterLength, Resolved, StandsAt}
 use Rattle.promise_rules.proofs.ResolveLaws.{names-by, by-names, extraction-is, good-sample, sample-good}
 
 pub part-bytes : (b : List ℕ) (a n : ℕ) → Bytes b → (i : ℕ) → byteAt (part b a n) i < 256
@@ -56,34 +56,34 @@ module _ (b : List ℕ) (g : Bytes b) (r : Recording) (accepted : firstLayout .m
     good-exactly = (good-sample r rise n offset-byte, sample-good r rise n offset-byte)
 
     -- what is delivered
-    copied-is : (p m : ℕ) (qs : List ℕ) → Extraction r n p m qs → copiedAt r n p ≡ map (unitIn r m) qs
+    copied-is : (p m : ℕ) (qs : List ℕ) → Extraction r n p m qs → copiedAt r n p ≡ map (deliveredUnit r m) qs
     unfolding copiedAt
-    copied-is p m qs x = let w = extraction-is r rise n offset-byte p m qs x in rw (w .1) (ap (λ (j : ℕ). map (unitIn r j) qs) (w .0))
+    copied-is p m qs x = let w = extraction-is r rise n offset-byte p m qs x in rw (w .1) (ap (λ (j : ℕ). map (deliveredUnit r j) qs) (w .0))
 
-    determined : {ps : List ℕ} {us : List Span} → Delivery r n ps us → us ≡ each (deliveredAt r n) ps
+    determined : {ps : List ℕ} {us : List Span} → Delivers r n ps us → us ≡ each (deliveredAt r n) ps
     unfolding each
-    determined Delivery.none = refl
-    determined (Delivery.unit p a e d) = rw (delivered-unit r n p (ne-eqb _ _ a) (ne-eqb _ _ e)) (ap (λ l. unitIn r n p ∷ l) (determined d))
-    determined (Delivery.aggregator p a d) = rw (delivered-aggregator r n p (eq-eqb _ _ a)) (determined d)
-    determined (Delivery.extractor p m qs t x d) = rw (delivered-extractor r n p (eq-eqb _ _ t), copied-is p m qs x) (ap (λ l. map (unitIn r m) qs ++ l) (determined d))
+    determined Delivers.none = refl
+    determined (Delivers.unit p a e d) = rw (delivered-unit r n p (ne-eqb _ _ a) (ne-eqb _ _ e)) (ap (λ l. deliveredUnit r n p ∷ l) (determined d))
+    determined (Delivers.aggregator p a d) = rw (delivered-aggregator r n p (eq-eqb _ _ a)) (determined d)
+    determined (Delivers.extractor p m qs t x d) = rw (delivered-extractor r n p (eq-eqb _ _ t), copied-is p m qs x) (ap (λ l. map (deliveredUnit r m) qs ++ l) (determined d))
 
-    over : (ps : List ℕ) → ((p : ℕ) → p ∈ ps → type (sampleOf r n) p ≡ 31 → (m : ℕ) × (qs : List ℕ) × Extraction r n p m qs) → Delivery r n ps (each (deliveredAt r n) ps)
+    over : (ps : List ℕ) → ((p : ℕ) → p ∈ ps → type (sampleOf r n) p ≡ 31 → (m : ℕ) × (qs : List ℕ) × Extraction r n p m qs) → Delivers r n ps (each (deliveredAt r n) ps)
     unfolding each
-    over [] h = Delivery.none
+    over [] h = Delivers.none
     over (p ∷ ps) h =
         let below = over ps (λ q m. h q (List·Memᴰ·tail m)) in
         by-bool (isAggregator (own r n) p)
-        (λ a. rw (delivered-aggregator r n p a) (Delivery.aggregator p (eqb-true _ _ a) below))
+        (λ a. rw (delivered-aggregator r n p a) (Delivers.aggregator p (eqb-true _ _ a) below))
         (λ a. by-bool (isExtractor (own r n) p)
         (λ e. let x = h p (List·Memᴰ·head refl) (eqb-true _ _ e) in
-        rw (delivered-extractor r n p e, copied-is p (x .0) (x .1) (x .2)) (Delivery.extractor p (x .0) (x .1) (eqb-true _ _ e) (x .2) below))
-        (λ e. rw (delivered-unit r n p a e) (Delivery.unit p (eqb-false _ _ a) (eqb-false _ _ e) below)))
+        rw (delivered-extractor r n p e, copied-is p (x .0) (x .1) (x .2)) (Delivers.extractor p (x .0) (x .1) (eqb-true _ _ e) (x .2) below))
+        (λ e. rw (delivered-unit r n p a e) (Delivers.unit p (eqb-false _ _ a) (eqb-false _ _ e) below)))
 
-    pub delivers : GoodSample r n → Delivery r n (units (sampleOf r n)) (delivered r n)
+    pub delivers : GoodSample r n → Delivers r n (units (sampleOf r n)) (delivered r n)
     unfolding delivered
     delivers w = over (units (sampleOf r n)) (w .extracts)
 
-    pub delivers-only : (us : List Span) → Delivery r n (units (sampleOf r n)) us → us ≡ delivered r n
+    pub delivers-only : (us : List Span) → Delivers r n (units (sampleOf r n)) us → us ≡ delivered r n
     unfolding delivered
     delivers-only us d = determined d
 
@@ -120,49 +120,41 @@ module _ (b : List ℕ) (g : Bytes b) (r : Recording) (accepted : firstLayout .m
     delivered-one us vs w v = delivers-only us (w .delivery) ∙ sym (delivers-only vs (v .delivery))
 
     -- where a delivered unit comes from
-    comes : {ps : List ℕ} {us : List Span} → Delivery r n ps us → ((p : ℕ) → p ∈ ps → p ∈ units (sampleOf r n)) → (u : Span) → u ∈ us →
+    comes : {ps : List ℕ} {us : List Span} → Delivers r n ps us → ((p : ℕ) → p ∈ ps → p ∈ units (sampleOf r n)) → (u : Span) → u ∈ us →
         (u .sample ≡ n) ⊎ ((p : ℕ) × (qs : List ℕ) × (p ∈ units (sampleOf r n)) × Extraction r n p (u .sample) qs)
-    comes Delivery.none h u m = absurd (List·Memᴰ·not-nil m)
-    comes (Delivery.unit p a e d) h u m = ⊎-elim
+    comes Delivers.none h u m = absurd (List·Memᴰ·not-nil m)
+    comes (Delivers.unit p a e d) h u m = ⊎-elim
         (λ z. inl (rw z))
         (λ k. comes d (λ q l. h q (List·Memᴰ·tail l)) u k)
         (List·Memᴰ·cases-cons m)
-    comes (Delivery.aggregator p a d) h u m = comes d (λ q l. h q (List·Memᴰ·tail l)) u m
-    comes (Delivery.extractor p j qs t x d) h u m = ⊎-elim
-        (λ k. let w = Memᴰ·of-map (unitIn r j) qs k in inr (p, qs, h p (List·Memᴰ·head refl), subst (λ (i : ℕ). Extraction r n p i qs) (ap (λ (v : Span). v .sample) (w .2)) x))
+    comes (Delivers.aggregator p a d) h u m = comes d (λ q l. h q (List·Memᴰ·tail l)) u m
+    comes (Delivers.extractor p j qs t x d) h u m = ⊎-elim
+        (λ k. let w = Memᴰ·of-map (deliveredUnit r j) qs k in inr (p, qs, h p (List·Memᴰ·head refl), subst (λ (i : ℕ). Extraction r n p i qs) (ap (λ (v : Span). v .sample) (w .2)) x))
         (λ k. comes d (λ q l. h q (List·Memᴰ·tail l)) u k)
-        (List·Memᴰ·append-cases (map (unitIn r j) qs) m)
+        (List·Memᴰ·append-cases (map (deliveredUnit r j) qs) m)
 
     module _ (us : List Span) (w : Resolved r n us) where
       good : judged r n ≡ ok tt
       good = sample-good r rise n offset-byte (w .good)
 
-      pub unit-there :
-          (k : ℕ) → 0 < k → k ≤ length us →
-          (start : ℕ) × (size : ℕ) × (placeCall firstLayout b n k ≡ ok (record { start = start; size = size }))
-          × StandsAt b r n (nth us k noSpan) start size
-      unfolding placeCall
-      unit-there k h l =
+      pub unit-stands :
+          (k : ℕ) → 0 < k → k ≤ length us → let u = nth us k noSpan in
+          StandsAt b r n u (firstLayout .contentAt b (u .sample) + u .start) (u .size)
+      unit-stands k h l =
           let e = delivers-only us (w .delivery) in
           let u = nth us k noSpan in
           let m : u ∈ us = nth-mem us k noSpan h l in
-          let c = calls.unit-answers firstLayout firstLayout-sound b r accepted n some there good k h (rw (← e) l) in
           let f = delivered-plain r n (good-rules r n good) u (rw (← e) m) in
           let t = delivered-there r n (good-rules r n good) some there u (rw (← e) m) in
           let i = firstLayout-sound .inside b r (u .sample) accepted (t .0) (t .1) in
           let j = f .inside in
           let a = firstLayout .contentAt b (u .sample) in
-          let v : unitCall firstLayout b n k ≡ ok u = rw (← e) at c in (
-            a + u .start,
-            u .size,
-            ap (placedBy (firstLayout .contentAt b)) v,
-            record {
-              some = f .some;
-              inside = omega arith;
-              bytes = sym (rw (firstLayout-sound .placed b r (u .sample) accepted (t .0) (t .1)) (part-part b a (length (contentOf r (u .sample))) (u .start) (u .size) j));
-              from = comes (w .delivery) (λ p k. k) u m;
-            },
-          )
+          record {
+            some = f .some;
+            inside = omega arith;
+            bytes = sym (rw (firstLayout-sound .placed b r (u .sample) accepted (t .0) (t .1)) (part-part b a (length (contentOf r (u .sample))) (u .start) (u .size) j));
+            from = comes (w .delivery) (λ p k. k) u m;
+          }
 
       pub unit-gives : (k : ℕ) → 0 < k → k ≤ length us → unitCall firstLayout b n k ≡ ok (nth us k noSpan)
       unit-gives k h l =

@@ -22,7 +22,7 @@ use Rattle.samples.specs.Check.{check, checkAlone}
 use Rattle.promise_rules.specs.Samples.{Formed, Given}
 use Rattle.promise_rules.specs.Refused.{CheckRefused}
 use Rattle.promise_rules.proofs.SampleLaws.{formed-rules, rules-formed}
-use Rattle.promise_rules.proofs.RefusedLaws.{form-refused}
+use Rattle.promise_rules.proofs.SampleFaultLaws.{form-refused, by-form}
 
 abbrev IsKind : ℕ → Kind → Type 0
 IsKind kind k = ((kind ≡ 0) × (k ≡ Avc)) ⊎ ((kind ≡ 1) × (k ≡ Svc))
@@ -100,7 +100,7 @@ module _ (kind l : ℕ) (s : List ℕ) where
   refuses : {m p : ℕ} → CheckRefused kind l s m p → checkAlone kind l s ≡ refused m p
   refuses (CheckRefused.kind a b) = no-kind a b
   refuses (CheckRefused.size h u) = let k = kind-one h in no-size (k .0) (k .1) u
-  refuses (CheckRefused.form x w f) = alone x w ∙ f .refuses
+  refuses (CheckRefused.form x w f) = alone x w ∙ by-form x f
 
   pub check-refused : (m p : ℕ) → (checkAlone kind l s ≡ refused m p) ↔ CheckRefused kind l s m p
   check-refused m p = (

@@ -1,20 +1,20 @@
 -- The proofs of what Demands says of an extractor that is refused. Assumes nothing.
 use Prim.Native.Nat.{ℕ, suc, _≤_, _<_}
-use mathlib.Core.Path.{_≡_, refl, sym, _∙_, subst}
+use mathlib.Core.Path.{_≡_, refl, ap, sym, _∙_, subst}
 use mathlib.Core.Bool.{Bool, true, false, not, _&&_}
 use mathlib.Core.List.{List, [], _∷_, List·Memᴰ·head, List·Memᴰ·tail}
 use mathlib.Core.Logic.{_⊎_, inl, inr}
 use native.Mathlib.Omega.{arith}
 use native.Mathlib.Nat.{pos-of-ne-zero}
-use borrow.Author.Tests.{ltb-true, ltb-false, leb-true, lt-ltb, eqb-true, eqb-false, eq-eqb}
+use borrow.Author.Tests.{ltb-true, ltb-false, leb-true, le-leb, lt-ltb, eqb-true, eqb-false, eq-eqb, ne-eqb}
 use lib.ListN.{length}
 use Rattle.words.specs.Tests.{_≤?_, _<?_, _≡?_}
 use Rattle.words.specs.Refusals.{refused, ok}
 use Rattle.words.specs.Lists.{_∈_, keep, some}
 use Rattle.words.proofs.Tests.{by-bool, by-number, true-false}
 use Rattle.words.proofs.Refusals.{ok-refused, by-verdict}
-use Rattle.words.proofs.Lists.{keep-from, has-from, some-mem}
-use Rattle.units.specs.Units.{Sample, isAggregator, isExtractor, topUnits, border}
+use Rattle.words.proofs.Lists.{keep-mem, keep-from, has-from, some-mem}
+use Rattle.units.specs.Units.{Sample, type, isAggregator, isExtractor, topUnits, border}
 use Rattle.units.specs.Extractors.{trackRefIndex, sampleOffset, dataOffset, dataLength}
 use Rattle.units.specs.Aggregators.{units}
 use Rattle.samples.specs.Check.{check}
@@ -27,7 +27,7 @@ use Rattle.resolution_rules.specs.Resolving.{sampleOf, own, named, linked, name
 use Rattle.promise_rules.specs.Resolving.{NamedBy}
 use Rattle.promise_rules.specs.Refused.{ExtractorFault}
 use Rattle.promise_rules.proofs.SampleLaws.{formed-rules, rules-formed, border-at, at-border}
-use Rattle.promise_rules.proofs.ResolveLaws.{names-by, by-names, copy-ends, copied-between}
+use Rattle.promise_rules.proofs.ResolveLaws.{names-by, by-names, copy-ends, ends-copy, copied-between}
 
 -- the numbers of a name
 module _ (y : Layout) (n index offset : ℕ) where
@@ -87,6 +87,9 @@ some-from t (x ∷ xs) e = by-bool (t x)
     (λ q. (x, List·Memᴰ·head refl, q))
     (λ q. let w = some-from t xs (rw q at e) in (w .0, List·Memᴰ·tail (w .1), w .2))
 
+starts : (z : Sample) {o : ℕ} → o ∈ topUnits z → copyStarts z o ≡ true
+starts z {o} m = some-mem (λ j. o ≡? j) (topUnits z) m (eq-eqb o o refl)
+
 module _ (r : Recording) (rise : TimesRise (r .layout)) (n : ℕ) (byte : (p : ℕ) → sampleOffset (sampleOf r n) p < 256) (p : ℕ) where
   abbrev index : ℕ
   index = trackRefIndex (own r n) p
@@ -140,7 +143,7 @@ module _ (r : Recording) (rise : TimesRise (r .layout)) (n : ℕ) (byte : (p : �
       (λ d. is (copy-then f ∙ copy-27 z o l v t d)
       (ExtractorFault.end (named r n p) (copyEnd z o l) w g u (copy-ends z o l) (λ b. true-false (border z (copyEnd z o l)) (at-border z (copyEnd z o l) b) d))))
       (λ t. is (copy-then f ∙ copy-26 z o l v t)
-      (ExtractorFault.start (named r n p) w g (λ k. true-false (copyStarts z o) (some-mem (λ j. o ≡? j) (topUnits z) k (eq-eqb o o refl)) t)))))
+      (ExtractorFault.start (named r n p) w g (λ k. true-false (copyStarts z o) (starts z k) t)))))
     where
       is : {k : ℕ} → extractFault r n p ≡ k → ExtractorFault r n p k → ExtractorFault r n p m
       is q w = subst (ExtractorFault r n p) (sym q ∙ e) w
@@ -148,3 +151,45 @@ module _ (r : Recording) (rise : TimesRise (r .layout)) (n : ℕ) (byte : (p : �
       and-true : (a c : Bool) → (a && c) ≡ true → (a ≡ true) × (c ≡ true)
       and-true true c h = (refl, h)
       and-true false c h = true-false false h refl
+
+  -- back
+  then : {k : ℕ} → NamedBy (r .layout) n index offset k → extractFault r n p ≡ copyFault (sampleOf r k) o l
+  unfolding named
+  then {k} w =
+      let i = by-names (r .layout) rise n index offset (byte p) k w in
+      copy-then (i .0) ∙ ap (λ (j : ℕ). copyFault (sampleOf r j) o l) (i .1)
+
+  pub is-fault : {m : ℕ} → ExtractorFault r n p m → (extractFault r n p ≡ m) × (0 < m)
+  is-fault (ExtractorFault.index h) = (name-first (link-23 (r .layout) n index offset h), omega arith)
+  is-fault (ExtractorFault.name h k none) = (
+    by-number (sampleNamed (r .layout) n index offset)
+        (λ z. name-first (name-24 (r .layout) n index offset h k z))
+        (λ j z. absurd (none (named r n p) (is-named (name-good (r .layout) n index offset (omega arith))))),
+    omega arith,
+  )
+  is-fault (ExtractorFault.form k w broken) = (
+    then w ∙ by-verdict (check (sampleOf r k))
+        (λ a c v. copy-25 (sampleOf r k) o l v)
+        (λ v. absurd (broken (formed-rules (sampleOf r k) v))),
+    omega arith,
+  )
+  is-fault (ExtractorFault.start k w f none) =
+      let z = sampleOf r k in
+      (then w ∙ copy-26 z o l (rules-formed z f) (by-bool (copyStarts z o) (λ t. absurd (none (has-from o (topUnits z) t))) (λ t. t)), omega arith)
+  is-fault (ExtractorFault.end k e w f s ends none) =
+      let z = sampleOf r k in (
+        then w ∙ copy-27 z o l (rules-formed z f) (starts z s)
+            (rw (ends-copy z o l e ends) (by-bool (border z e) (λ t. absurd (none (border-at z e t))) (λ t. t))),
+        omega arith,
+      )
+  is-fault (ExtractorFault.chain k e q w f s ends d u a b t) =
+      let z = sampleOf r k in
+      let v = rules-formed z f in
+      let i : copyEnd z o l ≡ e = ends-copy z o l e ends in
+      let h : border z (copyEnd z o l) ≡ true = rw i (at-border z e d) in
+      let g = keep-mem (λ j. (o ≤? j) && (j <? copyEnd z o l)) (withoutAggregators z (units z))
+      (keep-mem (λ j. not (isAggregator z j)) (units z) u (rw (ne-eqb (type z q) 30 (λ c. omega arith)))) (rw (i, le-leb o q a, lt-ltb q e b)) in (
+        then w ∙ copy-28 z o l v (starts z s) h
+            (some-mem (isExtractor z) (copied z o l) (subst (λ js. q ∈ js) (sym (copied-between z o l v s h)) g) (eq-eqb _ _ t)),
+        omega arith,
+      )

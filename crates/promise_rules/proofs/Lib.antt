@@ -1,7 +1,11 @@
 -- The proofs that crates/promises/specs/Demands cites, by what they are about.
+pub mod FirstLaws
 pub mod RecordLaws
+pub mod ReadLaws
 pub mod SampleLaws
+pub mod SampleFaultLaws
 pub mod BundleLaws
+pub mod BundleFaultLaws
 pub mod ResolveLaws
 pub mod CallLaws
 pub mod AuditLaws
@@ -11,3 +15,6 @@ pub mod UnitLaws
 pub mod CheckLaws
 pub mod OtherLaws
 pub mod ReturnLaws
+pub mod SlipLaws
+pub mod NumberLaws
+pub mod Cited

@@ -12,14 +12,14 @@ use Rattle.words.proofs.Splices.{splice-length}
 use Rattle.bundles.specs.Recordings.{Recording, sampleCount, contentOf, setNth, replaced}
 use Rattle.bundles.specs.Readers.{firstLayout}
 use Rattle.bundles.specs.Samples.{lengths}
-use Rattle.bundles.specs.Bundles.{contentsAt, contentAt}
+use Rattle.bundles.specs.Bundles.{bundleVerdict, contentsAt, contentAt}
 use Rattle.bundles.proofs.Promises.{means, samples-tile}
 use Rattle.bundles.proofs.Sections as sections
 use Rattle.resolution_rules.specs.Resolving.{Span}
 use Rattle.resolution_rules.specs.Calls.{placedBy, unitCall, placeCall}
 use Rattle.resolution_rules.proofs.Readers.{firstLayout-sound}
 use Rattle.naming_list_rules.specs.Rules.{Unlisted}
-use Rattle.promise_rules.proofs.AuditLaws.{others-unit}
+use Rattle.promise_rules.proofs.AuditLaws.{others-unit as unit-same}
 
 set-lengths : (cs : List (List ℕ)) (n : ℕ) (new : List ℕ) → length new ≡ length (getD cs n []) → map (λ c. length c) (set cs n new) ≡ map (λ c. length c) cs
 set-lengths [] n new e = refl
@@ -55,6 +55,10 @@ module _ (b : List ℕ) (r : Recording) (accepted : firstLayout .means b ≡ ok 
   abbrev after : List ℕ
   after = splice b (firstLayout .contentAt b s) new
 
+  pub still-accepted : (bundleVerdict after ≡ ok tt) × (firstLayout .means after ≡ ok (replaced r s new))
+  still-accepted =
+      let e = firstLayout-sound .replacing b r s new accepted some there equal-length in (means after e .0, e)
+
   pub starts-kept : (m : ℕ) → firstLayout .contentAt after m ≡ firstLayout .contentAt b m
   starts-kept m =
       let i = firstLayout-sound .inside b r s accepted some there in
@@ -65,8 +69,13 @@ module _ (b : List ℕ) (r : Recording) (accepted : firstLayout .means b ≡ ok 
   placed-same (refused m p) = refl
   placed-same (ok u) = ap (λ (k : ℕ). ok (record { start = k + u .start; size = u .size })) (starts-kept (u .sample))
 
-  pub others-place : (n : ℕ) → (n ≡ s → ⊥) → Unlisted r s n → (k : ℕ) → placeCall firstLayout after n k ≡ placeCall firstLayout b n k
+  others-place : (n : ℕ) → (n ≡ s → ⊥) → Unlisted r s n → (k : ℕ) → placeCall firstLayout after n k ≡ placeCall firstLayout b n k
   unfolding placeCall
   others-place n other unlisted k =
       placed-same (unitCall firstLayout after n k)
-      ∙ ap (placedBy (firstLayout .contentAt b)) (others-unit b r accepted s some there new equal-length n other unlisted k)
+      ∙ ap (placedBy (firstLayout .contentAt b)) (unit-same b r accepted s some there new equal-length n other unlisted k)
+
+  pub others-unit :
+      (n : ℕ) → (n ≡ s → ⊥) → Unlisted r s n → (k : ℕ) →
+      (unitCall firstLayout after n k ≡ unitCall firstLayout b n k) × (placeCall firstLayout after n k ≡ placeCall firstLayout b n k)
+  others-unit n other unlisted k = (unit-same b r accepted s some there new equal-length n other unlisted k, others-place n other unlisted k)

@@ -4,7 +4,9 @@
 --   valid-avc, valid-svc, fitted    fields and sets that fit a record, in plain facts; both ways
 --   accepted-exactly          a record is accepted with these fields and sets exactly if it is what they spell
 --   written-exactly           they are written exactly if they are valid and there is room: with the bytes that they spell
---   write-refused-exactly, read-refused    when writing and reading are refused
+--   write-refused-exactly     when writing is refused
+--   read-none, read-known, known-read    reading refused, by the first refusal of the bytes
+--   read-number               with which numbers
 use Prim.Native.Nat.{ℕ, zero, suc, _+_, _-_, _*_, _%_, _≤_, _<_}
 use mathlib.Core.Path.{_≡_, refl, ap, sym, _∙_, subst}
 use mathlib.Core.Bool.{Bool, true, false, _||_, not}
@@ -22,16 +24,16 @@ use Rattle.words.specs.Buffers.{within, overwrite, Wrote}
 use Rattle.words.proofs.Tests.{by-bool, all-first, true-false}
 use Rattle.words.proofs.Refusals.{orElse-none, ok-same, ok-refused, refused-same}
 use Rattle.words.proofs.Buffers.{within-room, within-not}
-use Rattle.numbers.specs.Kinds.{kindOf, onKind}
+use Rattle.numbers.specs.Kinds.{kindOf}
 use Rattle.numbers.specs.declared.Kind.{Kind}
 use Rattle.numbers.specs.declared.Kind.the-variants.{Avc, Svc}
-use Rattle.numbers.specs.declared.MaybeKind.the-variants.{Known, Unknown}
+use Rattle.numbers.specs.declared.MaybeKind.the-variants.{Known}
 use Rattle.sets.specs.Sets.{oneOf, setFault, setsFault, setsEnd, setsFit}
 use Rattle.sets.specs.declared.SetTypes.{SetTypes}
 use Rattle.sets.proofs.Laws.{whole, no-fault, fit-sets, fit-true}
-use Rattle.record_rules.specs.Layout.{recordLayout, pictureTypes, flagsByte, flagsFit, byteOf}
-use Rattle.record_rules.specs.Trailers.{isHigh, hasTrailer, extensionTypes, ending}
-use Rattle.record_rules.specs.Fields.{flagsOf, numbersFit, recordBytes, fits}
+use Rattle.record_rules.specs.Layout.{recordLayout, pictureTypes, flagsByte, flagsFit}
+use Rattle.record_rules.specs.Trailers.{isHigh, extensionTypes, ending}
+use Rattle.record_rules.specs.Fields.{recordBytes, fits}
 use Rattle.record_rules.specs.Parts.{fitsByParts}
 use Rattle.record_rules.specs.declared.Flag.{Flag}
 use Rattle.record_rules.specs.declared.Flag.the-variants.{Absent, Clear, Set}
@@ -41,7 +43,7 @@ use Rattle.record_rules.specs.declared.Trailer.the-variants.{Without, With}
 use Rattle.record_rules.specs.declared.Fields.{Fields}
 use Rattle.record_rules.proofs.Numbers.{Numbers, numbers, numbers-true, high-numbers, high-true}
 use Rattle.record_rules.proofs.Fits.{fits-by-parts}
-use Rattle.record_rules.specs.Read.{recordFault, recordOf, readAs, readRecord}
+use Rattle.record_rules.specs.Read.{recordFault, readAs, readRecord}
 use Rattle.record_rules.proofs.Refusals.{record-refusal}
 use Rattle.words.specs.RefusalNumbers.{recordRefusals}
 use Rattle.words.proofs.Refusals.{none-or-some}
@@ -49,52 +51,52 @@ use Rattle.words.proofs.Tests.{by-number}
 use Rattle.record_writer.specs.Write.{writeAs, writeRecord}
 use Rattle.record_writer.specs.Promise.{Holds}
 use Rattle.record_writer.proofs.Laws.{write-misfit, write-fits}
-use Rattle.record_writer.proofs.Promise.{writes-back, reads-back, read-refusals, write-refusals}
-use Rattle.promise_rules.specs.Records.{SetAt, Sets, trailerProfiles, Shared, Trailed, RecordOf, WriteRefused, ReadRefused}
+use Rattle.record_writer.proofs.Promise.{writes-back, reads-back}
+use Rattle.promise_rules.specs.Records.{SetAt, SetsTo, Sets, trailerProfiles, Shared, Trailed, RecordOf, WriteRefused}
 
 -- sets
 module _ (types : SetTypes) (ts : List ℕ) (to : (t : ℕ) → oneOf types t ≡ true → t ∈ ts) (from : (t : ℕ) → t ∈ ts → oneOf types t ≡ true) (s : List ℕ) where
-  pub sets-from : (n p : ℕ) → setsFault types s n p ≡ 0 → setsEnd s n p ≡ length s → Sets ts s n p
+  pub sets-from : (n p q : ℕ) → setsFault types s n p ≡ 0 → setsEnd s n p ≡ q → SetsTo ts s n p q
   unfolding entries skip firstOf
-  sets-from zero p e f = f
-  sets-from (suc n) p e f =
+  sets-from zero p q e f = f
+  sets-from (suc n) p q e f =
       let a = orElse-none (setFault types s p) _ e in
       let w = whole types s p (a .0) in
-      (record { some = w .some; inside = w .inside; top = w .top; type = to _ (w .type) }, sets-from n (p + 2 + big s p 2) (a .1) f)
+      (record { some = w .some; inside = w .inside; top = w .top; type = to _ (w .type) }, sets-from n (p + 2 + big s p 2) q (a .1) f)
 
-  pub sets-to : (n p : ℕ) → Sets ts s n p → (setsFault types s n p ≡ 0) × (setsEnd s n p ≡ length s)
+  pub sets-to : (n p q : ℕ) → SetsTo ts s n p q → (setsFault types s n p ≡ 0) × (setsEnd s n p ≡ q)
   unfolding entries skip firstOf
-  sets-to zero p h = (refl, h)
-  sets-to (suc n) p h =
+  sets-to zero p q h = (refl, h)
+  sets-to (suc n) p q h =
       let w = h .0 in
       let z = no-fault types s p (record { some = w .some; inside = w .inside; top = w .top; type = from _ (w .type) }) in
-      let b = sets-to n (p + 2 + big s p 2) (h .1) in
+      let b = sets-to n (p + 2 + big s p 2) q (h .1) in
       (rw z (b .0), b .1)
 
   pub sets-fit : (n : ℕ) → setsFit types s n ≡ true → Sets ts s n 0
-  sets-fit n e = let w = fit-sets types s n e in sets-from n 0 (w .0) (w .1)
+  sets-fit n e = let w = fit-sets types s n e in sets-from n 0 (length s) (w .0) (w .1)
 
   pub fit-of-sets : (n : ℕ) → Sets ts s n 0 → setsFit types s n ≡ true
-  fit-of-sets n h = let w = sets-to n 0 h in fit-true types s n (w .0) (w .1)
+  fit-of-sets n h = let w = sets-to n 0 (length s) h in fit-true types s n (w .0) (w .1)
 
 -- types by name
-one-in : (a t : ℕ) → oneOf (record { one = a; other = a }) t ≡ true → t ∈ (a ∷ [])
+pub one-in : (a t : ℕ) → oneOf (record { one = a; other = a }) t ≡ true → t ∈ (a ∷ [])
 one-in a t e = by-bool (t ≡? a) (λ q. List·Memᴰ·head (eqb-true _ _ q)) (λ q. true-false false (rw q at e) refl)
 
-in-one : (a t : ℕ) → t ∈ (a ∷ []) → oneOf (record { one = a; other = a }) t ≡ true
+pub in-one : (a t : ℕ) → t ∈ (a ∷ []) → oneOf (record { one = a; other = a }) t ≡ true
 in-one a t m = ⊎-elim (λ e. rw (eq-eqb t a e)) (λ k. absurd (List·Memᴰ·not-nil k)) (List·Memᴰ·cases-cons m)
 
-two-in : (a b t : ℕ) → oneOf (record { one = a; other = b }) t ≡ true → t ∈ (a ∷ b ∷ [])
+pub two-in : (a b t : ℕ) → oneOf (record { one = a; other = b }) t ≡ true → t ∈ (a ∷ b ∷ [])
 two-in a b t e = by-bool (t ≡? a) (λ q. List·Memᴰ·head (eqb-true _ _ q)) (λ q. List·Memᴰ·tail (List·Memᴰ·head (eqb-true _ _ (rw q at e))))
 
-in-two : (a b t : ℕ) → t ∈ (a ∷ b ∷ []) → oneOf (record { one = a; other = b }) t ≡ true
+pub in-two : (a b t : ℕ) → t ∈ (a ∷ b ∷ []) → oneOf (record { one = a; other = b }) t ≡ true
 in-two a b t m = ⊎-elim
     (λ e. rw (eq-eqb t a e))
     (λ k. ⊎-elim (λ e. rw (eq-eqb t b e) (by-bool (t ≡? a) (λ q. rw q) (λ q. rw q))) (λ l. absurd (List·Memᴰ·not-nil l)) (List·Memᴰ·cases-cons k))
     (List·Memᴰ·cases-cons m)
 
 -- profiles and length sizes
-high-in : (p : ℕ) → isHigh p ≡ true → p ∈ trailerProfiles
+pub high-in : (p : ℕ) → isHigh p ≡ true → p ∈ trailerProfiles
 high-in p e = by-bool (p ≡? 100)
     (λ q. List·Memᴰ·head (eqb-true _ _ q))
     (λ q. List·Memᴰ·tail (by-bool (p ≡? 110)
@@ -103,7 +105,7 @@ high-in p e = by-bool (p ≡? 100)
     (λ t. List·Memᴰ·head (eqb-true _ _ t))
     (λ t. List·Memᴰ·tail (List·Memᴰ·head (eqb-true _ _ (rw (q, s, t) at e))))))))
 
-in-high : (p : ℕ) → p ∈ trailerProfiles → isHigh p ≡ true
+pub in-high : (p : ℕ) → p ∈ trailerProfiles → isHigh p ≡ true
 in-high p m = ⊎-elim (λ e. rw e)
     (λ m1. ⊎-elim (λ e. rw e)
     (λ m2. ⊎-elim (λ e. rw e)
@@ -314,14 +316,14 @@ module _ (f : Fields) (a b x : List ℕ) where
       }
 
 -- of a kind's number
-record Fitted (kind : ℕ) (f : Fields) (a b x s : List ℕ) : Type 0 where
+pub record Fitted (kind : ℕ) (f : Fields) (a b x s : List ℕ) : Type 0 where
   pub known : Kind
   pub is : kindOf kind ≡ Known known
   pub fits : fits known f a b x ≡ true
   pub bytes : recordBytes known f a b x ≡ s
 
 module _ (f : Fields) (a b x : List ℕ) where
-  fitted : {kind : ℕ} {s : List ℕ} → RecordOf f a b x kind s → Fitted kind f a b x s
+  pub fitted : {kind : ℕ} {s : List ℕ} → RecordOf f a b x kind s → Fitted kind f a b x s
   fitted (RecordOf.avc h c l q g e none) =
       record {
         known = Avc;
@@ -348,7 +350,7 @@ module _ (f : Fields) (a b x : List ℕ) where
       }
 
 -- the kinds by number
-by-kind : {G : Type 0} (kind : ℕ) → (kind ≡ 0 → G) → (kind ≡ 1 → G) → ((kind ≡ 0 → ⊥) → (kind ≡ 1 → ⊥) → G) → G
+pub by-kind : {G : Type 0} (kind : ℕ) → (kind ≡ 0 → G) → (kind ≡ 1 → G) → ((kind ≡ 0 → ⊥) → (kind ≡ 1 → ⊥) → G) → G
 by-kind kind f g h = by-bool (kind ≡? 0)
     (λ t. f (eqb-true _ _ t))
     (λ t. by-bool (kind ≡? 1) (λ u. g (eqb-true _ _ u)) (λ u. h (eqb-false _ _ t) (eqb-false _ _ u)))
@@ -458,29 +460,33 @@ module _ (f : Fields) (a b x : List ℕ) where
   pub write-refused-exactly : (kind room n p : ℕ) → (writeRecord kind f a b x room ≡ refused n p) ↔ WriteRefused kind f a b x room n p
   write-refused-exactly kind room n p = (refused-because kind room n p, refuses kind room)
 
--- what is refused is no record
-no-record : (kind : ℕ) (s : List ℕ) {n p : ℕ} → readRecord kind s ≡ refused n p → (f : Fields) (a b x : List ℕ) → RecordOf f a b x kind s → ⊥
-no-record kind s e f a b x w =
-    let h = reads-back kind s f a b x (length s) (spelled f a b x kind (length s) w ∙ within-room (length s) s (omega arith)) in
-    ok-refused (sym e ∙ h .read)
-
-read-none : (kind : ℕ) (s : List ℕ) → (kind ≡ 0 → ⊥) → (kind ≡ 1 → ⊥) → readRecord kind s ≡ refused 4 0
+-- reading refused: 4, or a refusal of a record, at 0
+pub read-none : (kind : ℕ) (s : List ℕ) → (kind ≡ 0 → ⊥) → (kind ≡ 1 → ⊥) → readRecord kind s ≡ refused 4 0
 unfolding readRecord
 read-none kind s g h = rw (ne-eqb kind 0 g, ne-eqb kind 1 h)
 
-read-known : (kind : ℕ) (k : Kind) (s : List ℕ) {n p : ℕ} → kindOf kind ≡ Known k → readRecord kind s ≡ refused n p → (n ∈ recordRefusals) × (p ≡ 0)
+pub read-known : (kind : ℕ) (k : Kind) (s : List ℕ) {n p : ℕ} → kindOf kind ≡ Known k → readRecord kind s ≡ refused n p → (recordFault k s ≡ n) × (0 < n) × (p ≡ 0)
 unfolding readRecord readAs
 read-known kind k s {n} {p} is e =
     let h = rw is at e in
     by-number (recordFault k s)
     (λ z. ok-refused (sym (rw z at h)))
-    (λ m z. let q = refused-same (rw z at h) in (subst (λ (y : ℕ). y ∈ recordRefusals) (z ∙ q .0) (none-or-some recordRefusals (record-refusal k s) (omega (arith, z))), sym (q .1)))
+    (λ m z. let q = refused-same (rw z at h) in (z ∙ q .0, omega (arith, q .0), sym (q .1)))
 
-pub read-refused : (kind : ℕ) (s : List ℕ) (n p : ℕ) → readRecord kind s ≡ refused n p → ReadRefused kind s n p
-read-refused kind s n p e = by-kind kind
-    (λ z. let w = read-known kind Avc s (rw z) e in rw (w .1) (ReadRefused.bytes n (w .0) (inl z) (no-record kind s e)))
-    (λ z. let w = read-known kind Svc s (rw z) e in rw (w .1) (ReadRefused.bytes n (w .0) (inr z) (no-record kind s e)))
-    (λ g h. let q = refused-same (sym (read-none kind s g h) ∙ e) in rw (← q .0, ← q .1) (ReadRefused.kind g h))
+pub known-read : (kind : ℕ) (k : Kind) (s : List ℕ) {n : ℕ} → kindOf kind ≡ Known k → recordFault k s ≡ n → 0 < n → readRecord kind s ≡ refused n 0
+unfolding readRecord readAs
+known-read kind k s {n} is e l = rw (is, e) (by-number n (λ z. absurd (omega arith)) (λ m z. rw z))
+
+of-record : (kind : ℕ) (k : Kind) (s : List ℕ) {n p : ℕ} → kindOf kind ≡ Known k → readRecord kind s ≡ refused n p → n ∈ recordRefusals
+of-record kind k s is e =
+    let w = read-known kind k s is e in
+    subst (λ (y : ℕ). y ∈ recordRefusals) (w .0) (none-or-some recordRefusals (record-refusal k s) (omega (arith, w .0, w .1)))
+
+pub read-number : (kind : ℕ) (s : List ℕ) {n p : ℕ} → readRecord kind s ≡ refused n p → (n ≡ 4) ⊎ (n ∈ recordRefusals)
+read-number kind s {n} {p} e = by-kind kind
+    (λ z. inr (of-record kind Avc s (rw z) e))
+    (λ z. inr (of-record kind Svc s (rw z) e))
+    (λ g h. inl (sym (refused-same (sym (read-none kind s g h) ∙ e) .0)))
 
 -- given room, a record read and written again: the same bytes, and the rest of the buffer as it was
 pub written-back :

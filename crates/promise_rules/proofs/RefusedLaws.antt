@@ -2,24 +2,16 @@
 use Prim.Native.Nat.{ℕ, _≤_, _<_}
 use mathlib.Core.Path.{_≡_, refl, ap, sym, _∙_, subst}
 use mathlib.Core.List.{List}
-use mathlib.Core.Logic.{_⊎_, inl, ⊎-elim, _↔_}
-use native.Mathlib.Omega.{arith}
+use mathlib.Core.Logic.{_⊎_, inl, inr, ⊎-elim, _↔_}
 use borrow.Author.Tests.{eqb-true, eq-eqb}
 use lib.ListN.{length}
-use Rattle.words.specs.Refusals.{Answer, refused, ok, first, _atPlace_}
-use Rattle.words.specs.RefusalNumbers.{extractorRefusals}
-use Rattle.words.specs.Lists.{_∈_, each}
+use Rattle.words.specs.Refusals.{Answer, refused, ok}
+use Rattle.words.specs.Lists.{each}
 use Rattle.words.specs.Bytes.{Bytes}
-use Rattle.words.proofs.Tests.{by-bool}
-use Rattle.words.proofs.Refusals.{ok-refused, refused-same, by-verdict, first-from, at-from, none-or-some}
+use Rattle.words.proofs.Refusals.{ok-refused, refused-same, by-verdict}
 use Rattle.words.proofs.Lists.{keep-from}
-use Rattle.units.specs.Units.{Sample, end, next, isAggregator, isExtractor, unitFault, topUnits}
-use Rattle.units.specs.Extractors.{extractorFault}
-use Rattle.units.specs.Aggregators.{included, includedFault, coverFault, units, extractors}
-use Rattle.units.proofs.Walks.{units-top, units-included}
-use Rattle.samples.specs.Check.{check, topVerdict, contentVerdict}
-use Rattle.samples.proofs.Laws.{check-refusals}
-use Rattle.samples.proofs.Walks.{topJudge, includedJudge, content-included, content-cover, content-other}
+use Rattle.units.specs.Units.{isExtractor}
+use Rattle.units.specs.Aggregators.{units, extractors}
 use Rattle.bundles.specs.Recordings.{Recording, sampleCount}
 use Rattle.bundles.specs.Bundles.{bundleVerdict, meaning}
 use Rattle.bundles.specs.Readers.{firstLayout}
@@ -27,10 +19,9 @@ use Rattle.resolution_rules.specs.Resolving.{sampleOf, Span, own, extractFault,
 use Rattle.resolution_rules.specs.Calls.{placedBy, output, written, resolveCall, unitCall, placeCall}
 use Rattle.resolution_rules.specs.Rules.{FirstRefused, UnitRefuses, ResolveRefuses, CallRefuses, UnitCallRefuses}
 use Rattle.resolution_rules.proofs.Calls.{call-refused-because, call-refuses, unit-call-because, unit-call-refuses}
-use Rattle.resolution_rules.proofs.Good.{extract-rules, rules-extract, extract-range, extractor-inside, judged-first}
+use Rattle.resolution_rules.proofs.Good.{extract-rules, rules-extract, judged-first}
 use Rattle.resolution_rules.proofs.Exactly.{extractor-mem}
 use Rattle.resolution_rules.proofs.Promises.{first-refused}
-use Rattle.resolution_rules.proofs.Readers.{firstLayout-sound}
 use Rattle.naming_list_rules.specs.Naming.{namesCall}
 use Rattle.naming_list_rules.specs.Rules.{NamesRefuses}
 use Rattle.naming_list_rules.proofs.Promises.{names-refused-exactly}
@@ -38,46 +29,16 @@ use Rattle.audit_rules.specs.Auditing.{auditCall, tallyCall}
 use Rattle.audit_rules.specs.Rules.{AuditRefuses}
 use Rattle.audit_rules.proofs.Promises.{audit-refused-exactly, tally-refused-exactly}
 use Rattle.promise_rules.proofs.SampleLaws.{formed-rules, rules-formed}
-use Rattle.promise_rules.proofs.BundleLaws.{one-meaning}
-use Rattle.promise_rules.specs.Resolving.{Extraction, Resolved, afterLength}
+use Rattle.promise_rules.proofs.SampleFaultLaws.{form-refused, by-form}
+use Rattle.promise_rules.proofs.BundleFaultLaws.{bundle-by, by-bundle}
+use Rattle.promise_rules.specs.Resolving.{Extraction, Resolved, afterLength, GoodSample}
 use Rattle.promise_rules.proofs.ResolveLaws.{extraction, extraction-is}
-use Rattle.promise_rules.proofs.FaultLaws.{fault-of}
+use Rattle.promise_rules.proofs.FaultLaws.{fault-of, is-fault}
 use Rattle.promise_rules.proofs.CallLaws.{rise, offset-byte, good-exactly, delivers, delivers-only}
-use Rattle.promise_rules.specs.Refused.{BundleRefused, FormRefused, ExtractorRefused, SampleRefused, ResolveRefused, UnitRefused, NamesRefused, AuditRefused}
-
--- a sample that is not well formed is refused at a unit
-module _ (x : Sample) where
-  at-unit : (f q : ℕ) {m p : ℕ} → q ∈ units x → f atPlace q ≡ refused m p → p ∈ units x
-  at-unit f q k e = subst (λ (j : ℕ). j ∈ units x) (at-from f q e .1) k
-
-  content-place : (q m p : ℕ) → q ∈ topUnits x → contentVerdict x q ≡ refused m p → p ∈ units x
-  content-place q m p k v = by-bool (isAggregator x q)
-      (λ t. by-verdict (first (includedJudge x (next x q)) (included x q))
-      (λ a b c.
-      let w = first-from (includedJudge x (next x q)) (included x q) (c ∙ (sym (content-included x q t c) ∙ v)) in
-      at-unit (includedFault x (next x q) (w .0)) (w .0) (units-included x q (w .0) k t (w .1)) (w .2))
-      (λ c. at-unit (coverFault x q) q (units-top x q k) (sym (content-cover x q t c) ∙ v)))
-      (λ t. at-unit (extractorFault x q) q (units-top x q k) (sym (content-other x q t) ∙ v))
-
-  check-place : (m p : ℕ) → check x ≡ refused m p → p ∈ units x
-  unfolding check
-  check-place m p e = by-verdict (topVerdict x)
-      (λ a b v.
-      let w = first-from (topJudge x) (topUnits x) (v ∙ (rw v at e)) in
-      at-unit (unitFault x (end x) (w .0)) (w .0) (units-top x (w .0) (w .1)) (w .2))
-      (λ v. let w = first-from (contentVerdict x) (topUnits x) (rw v at e) in content-place (w .0) m p (w .1) (w .2))
-
-  pub form-refused : {m p : ℕ} → check x ≡ refused m p → FormRefused x m p
-  form-refused {m} {p} e =
-      let w = check-refusals x m p e in
-      record { refuses = e; broken = λ f. ok-refused (sym e ∙ rules-formed x f); number = w .0; unit = check-place m p e; place = w .1 }
+use Rattle.promise_rules.specs.BundleFaults.{BundleRefused}
+use Rattle.promise_rules.specs.Refused.{ExtractorRefused, SampleRefused, ResolveRefused, UnitRefused, NamesRefused, AuditRefused}
 
 module _ (b : List ℕ) (g : Bytes b) where
-  pub bundle-refused : {m p : ℕ} → firstLayout .means b ≡ refused m p → BundleRefused b m p
-  bundle-refused {m} {p} e =
-      let w = firstLayout-sound .refusal b m p e in
-      record { refuses = e; broken = λ rules. ok-refused (sym e ∙ one-meaning b g rules .1); number = w .0; place = w .1 }
-
   verdict-means : {m p : ℕ} → bundleVerdict b ≡ refused m p → firstLayout .means b ≡ refused m p
   unfolding meaning
   verdict-means e = rw e
@@ -89,35 +50,50 @@ module _ (b : List ℕ) (g : Bytes b) where
       (λ v. ok-refused (sym (rw v at e)))
 
   pub check-refused : (m p : ℕ) → (bundleVerdict b ≡ refused m p) ↔ BundleRefused b m p
-  check-refused m p = (λ e. bundle-refused (verdict-means e), λ w. means-verdict (w .refuses))
+  check-refused m p = (bundle-by b g, by-bundle b g)
+
+  bundle-refused : {m p : ℕ} → firstLayout .means b ≡ refused m p → BundleRefused b m p
+  bundle-refused e = bundle-by b g (means-verdict e)
+
+  refused-bundle : {m p : ℕ} → BundleRefused b m p → firstLayout .means b ≡ refused m p
+  refused-bundle w = verdict-means (by-bundle b g w)
 
   module _ (r : Recording) (accepted : firstLayout .means b ≡ ok r) (n : ℕ) (some : 0 < n) (there : n ≤ sampleCount (r .layout)) where
     -- an extractor without 23 to 28, both ways
     extracts : (q : ℕ) → extractFault r n q ≡ 0 → (k : ℕ) × (qs : List ℕ) × Extraction r n q k qs
     extracts q e = extraction r (rise b g r accepted) n (offset-byte b g r accepted n some there) q (extract-rules r n q e)
 
-    first-extractor : {m p : ℕ} → judged r n ≡ refused m p → FirstRefused r n m p → ExtractorRefused r n m p
+    first-extractor : {m p : ℕ} → FirstRefused r n m p → ExtractorRefused r n m p
     unfolding extractors
-    first-extractor {m} {p} j w =
+    first-extractor {m} {p} w =
         let k = keep-from (isExtractor (own r n)) (units (own r n)) (w .extractor) in
         record {
-          refuses = j;
           formed = formed-rules (sampleOf r n) (w .formed);
-          number = subst (λ (i : ℕ). i ∈ extractorRefusals) (w .refuses) (none-or-some extractorRefusals (extract-range r n p) (let z = w .refuses in let h = w .some in omega arith));
-          fault = fault-of r (rise b g r accepted) n (offset-byte b g r accepted n some there) p (w .refuses) (w .some);
           unit = k .0;
           extractor = eqb-true _ _ (k .1);
-          place = extractor-inside r n (w .formed) p (w .extractor);
-          broken = λ i qs x.
-              let z = rules-extract r n p (extraction-is r (rise b g r accepted) n (offset-byte b g r accepted n some there) p i qs x .2) in
-              let q = w .refuses in let h = w .some in absurd (omega arith);
           earlier = λ q m t l. extracts q (w .earlier q (extractor-mem r n q m (eq-eqb _ _ t)) l);
+          fault = fault-of r (rise b g r accepted) n (offset-byte b g r accepted n some there) p (w .refuses) (w .some);
+        }
+
+    extractor-first : {m p : ℕ} → ExtractorRefused r n m p → FirstRefused r n m p
+    unfolding extractors
+    extractor-first {m} {p} w =
+        let f = is-fault r (rise b g r accepted) n (offset-byte b g r accepted n some there) p (w .fault) in
+        record {
+          formed = rules-formed (sampleOf r n) (w .formed);
+          extractor = extractor-mem r n p (w .unit) (eq-eqb _ _ (w .extractor));
+          refuses = f .0;
+          some = f .1;
+          earlier = λ q m l.
+              let k = keep-from (isExtractor (own r n)) (units (own r n)) m in
+              let x = w .earlier q (k .0) (eqb-true _ _ (k .1)) l in
+              rules-extract r n q (extraction-is r (rise b g r accepted) n (offset-byte b g r accepted n some there) q (x .0) (x .1) (x .2) .2);
         }
 
     pub sample-refused : {m p : ℕ} → judged r n ≡ refused m p → SampleRefused r n m p
     sample-refused {m} {p} j = ⊎-elim
         (λ e. SampleRefused.form some there (form-refused (sampleOf r n) e))
-        (λ w. SampleRefused.extractor some there (first-extractor j w))
+        (λ w. SampleRefused.extractor some there (first-extractor w))
         (judged-first r n m p j)
 
     resolved : judged r n ≡ ok tt → Resolved r n (delivered r n)
@@ -126,9 +102,17 @@ module _ (b : List ℕ) (g : Bytes b) where
         record { some = some; there = there; good = good; delivery = delivers b g r accepted n some there good }
 
   -- back
-  pub refused-sample : (r : Recording) (n : ℕ) {m p : ℕ} → SampleRefused r n m p → (0 < n) × (n ≤ sampleCount (r .layout)) × (judged r n ≡ refused m p)
-  refused-sample r n {m} {p} (SampleRefused.form h l w) = (h, l, first-refused r n m p .1 (inl (w .refuses)))
-  refused-sample r n (SampleRefused.extractor h l w) = (h, l, w .refuses)
+  pub refused-sample :
+      (r : Recording) → firstLayout .means b ≡ ok r → (n : ℕ) {m p : ℕ} → SampleRefused r n m p →
+      (0 < n) × (n ≤ sampleCount (r .layout)) × (judged r n ≡ refused m p)
+  refused-sample r e n {m} {p} (SampleRefused.form h l w) = (h, l, first-refused r n m p .1 (inl (by-form (sampleOf r n) w)))
+  refused-sample r e n {m} {p} (SampleRefused.extractor h l w) = (h, l, first-refused r n m p .1 (inr (extractor-first r e n h l w)))
+
+  pub judged-exactly :
+      (r : Recording) → firstLayout .means b ≡ ok r → (n : ℕ) → 0 < n → n ≤ sampleCount (r .layout) →
+      ((judged r n ≡ ok tt) ↔ GoodSample r n) × ((m p : ℕ) → (judged r n ≡ refused m p) ↔ SampleRefused r n m p)
+  judged-exactly r e n h l =
+      (good-exactly b g r e n h l, λ m p. (λ j. sample-refused r e n h l j, λ w. refused-sample r e n w .2))
 
   unresolved : (r : Recording) (n : ℕ) (us : List Span) → firstLayout .means b ≡ ok r → Resolved r n us → (judged r n ≡ ok tt) × (us ≡ delivered r n)
   unresolved r n us e w =
@@ -146,10 +130,10 @@ module _ (b : List ℕ) (g : Bytes b) where
       ResolveRefused.room r (delivered r n) e (resolved r e n h l j) (rw (← output-length r (delivered r n)) w)
 
   by-resolving : (n room : ℕ) {m p : ℕ} → ResolveRefused b n room m p → CallRefuses firstLayout b n room m p
-  by-resolving n room (ResolveRefused.bundle w) = CallRefuses.bundle (w .refuses)
+  by-resolving n room (ResolveRefused.bundle w) = CallRefuses.bundle (refused-bundle w)
   by-resolving n room (ResolveRefused.number r e h) = CallRefuses.recording r e (ResolveRefuses.number h)
   by-resolving n room (ResolveRefused.sample r e w) =
-      let k = refused-sample r n w in CallRefuses.recording r e (ResolveRefuses.sample (k .0) (k .1) (k .2))
+      let k = refused-sample r e n w in CallRefuses.recording r e (ResolveRefuses.sample (k .0) (k .1) (k .2))
   by-resolving n room (ResolveRefused.room r us e w h) =
       let k = unresolved r n us e w in
       CallRefuses.recording r e (ResolveRefuses.tooLong (w .some) (w .there) (k .0) (rw (output-length r (delivered r n), ← k .1) h))
@@ -165,10 +149,10 @@ module _ (b : List ℕ) (g : Bytes b) where
   unit n k (UnitCallRefuses.recording r e (UnitRefuses.unit h l j w)) = UnitRefused.unit r (delivered r n) e (resolved r e n h l j) w
 
   by-unit : (n k : ℕ) {m p : ℕ} → UnitRefused b n k m p → UnitCallRefuses firstLayout b n k m p
-  by-unit n k (UnitRefused.bundle w) = UnitCallRefuses.bundle (w .refuses)
+  by-unit n k (UnitRefused.bundle w) = UnitCallRefuses.bundle (refused-bundle w)
   by-unit n k (UnitRefused.number r e h) = UnitCallRefuses.recording r e (UnitRefuses.number h)
   by-unit n k (UnitRefused.sample r e w) =
-      let j = refused-sample r n w in UnitCallRefuses.recording r e (UnitRefuses.sample (j .0) (j .1) (j .2))
+      let j = refused-sample r e n w in UnitCallRefuses.recording r e (UnitRefuses.sample (j .0) (j .1) (j .2))
   by-unit n k (UnitRefused.unit r us e w h) =
       let j = unresolved r n us e w in
       UnitCallRefuses.recording r e (UnitRefuses.unit (w .some) (w .there) (j .0) (subst (λ vs. (k ≡ 0) ⊎ (length vs < k)) (j .1) h))
@@ -198,7 +182,7 @@ module _ (b : List ℕ) (g : Bytes b) where
   naming s room (NamesRefuses.tooLong r e h l w) = NamesRefused.room r e h l w
 
   by-naming : (s room : ℕ) {m p : ℕ} → NamesRefused b s room m p → NamesRefuses firstLayout b s room m p
-  by-naming s room (NamesRefused.bundle w) = NamesRefuses.bundle (w .refuses)
+  by-naming s room (NamesRefused.bundle w) = NamesRefuses.bundle (refused-bundle w)
   by-naming s room (NamesRefused.number r e h) = NamesRefuses.number r e h
   by-naming s room (NamesRefused.room r e h l w) = NamesRefuses.tooLong r e h l w
 
@@ -211,7 +195,7 @@ module _ (b : List ℕ) (g : Bytes b) where
   auditing room (AuditRefuses.tooLong r e h) = AuditRefused.room r e h
 
   by-auditing : (room : ℕ) {m p : ℕ} → AuditRefused b room m p → AuditRefuses firstLayout b room m p
-  by-auditing room (AuditRefused.bundle w) = AuditRefuses.bundle (w .refuses)
+  by-auditing room (AuditRefused.bundle w) = AuditRefuses.bundle (refused-bundle w)
   by-auditing room (AuditRefused.room r e h) = AuditRefuses.tooLong r e h
 
   pub audit-refused : (room m p : ℕ) → (auditCall firstLayout b room ≡ refused m p) ↔ AuditRefused b room m p

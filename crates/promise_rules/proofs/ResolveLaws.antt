@@ -35,6 +35,15 @@ use Rattle.promise_rules.specs.Samples.{BorderAt, Formed}
 use Rattle.promise_rules.proofs.SampleLaws.{formed-rules, rules-formed, border-at, at-border}
 use Rattle.promise_rules.specs.Resolving.{Sampled, BaseOf, On, NamedBy, CopyEnds, CopyOf, Extraction, GoodSample}
 
+module _ (y : Layout) where
+  -- there is one base
+  pub base-one : (n k c d : ℕ) → BaseOf y n k c → BaseOf y n k d → c ≡ d
+  base-one n k c d u v = by-bool (c ≡? d) (λ t. eqb-true _ _ t) (λ t.
+      let z : c ≡ d → ⊥ = eqb-false _ _ t in
+      by-bool (c <? d)
+      (λ l. let l' : c < d = ltb-true _ _ l in let e = u .last d (v .sample) l' in let f = v .before in absurd (omega arith))
+      (λ l. let l' : d ≤ c = ltb-false _ _ l in let e = v .last c (u .sample) (omega arith) in let f = u .before in absurd (omega arith)))
+
 -- the sample named
 module _ (y : Layout) (rise : TimesRise y) where
   sampled : (m k : ℕ) → m ∈ samplesIn y k → Sampled y m k
@@ -48,14 +57,6 @@ module _ (y : Layout) (rise : TimesRise y) where
       let b = base-last y rise n k h in
       let t = base-times y rise n k h in
       record { sample = sampled (baseSample y n k) k (b .there); before = t .0; last = λ m s l. t .1 m (in-samples m k s) l }
-
-  -- there is one base
-  base-one : (n k c d : ℕ) → BaseOf y n k c → BaseOf y n k d → c ≡ d
-  base-one n k c d u v = by-bool (c ≡? d) (λ t. eqb-true _ _ t) (λ t.
-      let z : c ≡ d → ⊥ = eqb-false _ _ t in
-      by-bool (c <? d)
-      (λ l. let l' : c < d = ltb-true _ _ l in let e = u .last d (v .sample) l' in let f = v .before in absurd (omega arith))
-      (λ l. let l' : d ≤ c = ltb-false _ _ l in let e = v .last c (u .sample) (omega arith) in let f = u .before in absurd (omega arith)))
 
   in-range : (m k : ℕ) → Sampled y m k → (before y k < m) × (m ≤ upTo y k)
   in-range m k s =
@@ -131,7 +132,7 @@ module _ (y : Layout) (rise : TimesRise y) where
         let h : 0 < base y n track = by-number (base y n track)
         (λ z. let q = later-without y rise n track z (w .base) (in-samples (w .base) track (c .sample)) in let f = c .before in absurd (omega arith))
         (λ j z. omega arith) in
-        let d : w .base ≡ baseSample y n track = base-one n track (w .base) (baseSample y n track) c (base-of n track h) in
+        let d : w .base ≡ baseSample y n track = base-one y n track (w .base) (baseSample y n track) c (base-of n track h) in
         let e = steps-on h m s (subst (λ (j : ℕ). On offset j m) d (w .steps)) in
         let t = s .some in
         (name-good y n index offset (omega arith), e)
@@ -146,7 +147,7 @@ module _ (z : Sample) (o n : ℕ) where
       (λ a. rw (t, a) (CopyEnds.unit (eqb-true _ _ t) (eqb-false _ _ a))))
       (λ t. rw t (CopyEnds.span (pos-of-ne-zero (eqb-false _ _ t))))
 
-  ends-copy : (e : ℕ) → CopyEnds z o n e → copyEnd z o n ≡ e
+  pub ends-copy : (e : ℕ) → CopyEnds z o n e → copyEnd z o n ≡ e
   unfolding copyEnd
   ends-copy e (CopyEnds.unit h t) = rw (eq-eqb n 0 h, ne-eqb (type z o) 30 t)
   ends-copy e (CopyEnds.aggregator h t) = rw (eq-eqb n 0 h, eq-eqb (type z o) 30 t)

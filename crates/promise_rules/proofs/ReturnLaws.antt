@@ -11,7 +11,7 @@ use Rattle.words.specs.Refusals.{Answer, refused, ok, Verdict}
 use Rattle.words.specs.RefusalNumbers.{fieldsFitNoRecord, recordRefusals, bundleRefusals, formRefusals, extractorRefusals, sampleRefusals, refusalNumbers}
 use Rattle.words.specs.Lists.{_∈_, some}
 use Rattle.words.specs.Bytes.{Bytes, part}
-use Rattle.words.specs.Buffers.{within, leaves, overwrite}
+use Rattle.words.specs.Buffers.{within, leaves, overwrite, Wrote}
 use Rattle.words.proofs.Tests.{by-bool, by-number}
 use Rattle.words.proofs.Refusals.{ok-refused, refused-same, NoneOr, none-or-if, none-or-orElse, none-or-some}
 use Rattle.words.proofs.Lists.{has-from}
@@ -25,17 +25,24 @@ use Rattle.record_writer.specs.Write.{writeRecord}
 use Rattle.record_numbers.specs.Numbers.{numbersOf, asNumbers, readNumbers, _at_, flagMost, numbersFault, fieldsFrom, writeNumbersAs, writeNumbers}
 use Rattle.record_numbers.specs.Indices.{numberCount, completeRepresentation, trailer, trailerNone, trailerPresent}
 use Rattle.record_numbers.proofs.Promise as numbered
+use Rattle.units.specs.Units.{Sample}
+use Rattle.samples.proofs.Laws.{check-refusals}
 use Rattle.bundles.specs.Recordings.{Recording}
 use Rattle.bundles.proofs.Promises.{refusals-within}
 use Rattle.bundles.specs.Readers.{firstLayout}
+use Rattle.resolution_rules.specs.Resolving.{sampleOf}
 use Rattle.resolution_rules.specs.Calls.{BundlePart, placeCall}
 use Rattle.tally.specs.declared.Tally.{Tally}
 use Rattle.audit_rules.specs.Auditing.{tallyCall}
 use Rattle.puddockle.specs.Returns.{Returned, ReturnedOutput, ReturnedPart, ReturnedTally}
-use Rattle.promise_rules.specs.Records.{ReadRefused, WriteRefused}
-use Rattle.promise_rules.specs.Refused.{CheckRefused, SampleRefused, ResolveRefused, UnitRefused, NamesRefused, AuditRefused}
-use Rattle.promise_rules.specs.Returns.{OutputAnswer, VerdictAnswer}
+use Rattle.promise_rules.specs.Records.{WriteRefused}
+use Rattle.promise_rules.specs.SampleFaults.{FormRefused}
+use Rattle.promise_rules.specs.BundleFaults.{BundleRefused}
+use Rattle.promise_rules.specs.Refused.{CheckRefused, ExtractorFault, SampleRefused, ResolveRefused, UnitRefused, NamesRefused, AuditRefused}
+use Rattle.promise_rules.specs.Returns.{OutputAnswer, VerdictAnswer, OutputGiven, NumbersGiven, VerdictGiven, PartGiven, TallyGiven}
 use Rattle.promise_rules.proofs.RecordLaws as records
+use Rattle.promise_rules.proofs.SampleFaultLaws.{by-form}
+use Rattle.promise_rules.proofs.BundleFaultLaws.{by-bundle}
 use Rattle.promise_rules.proofs.RefusedLaws as refusals
 use Rattle.promise_rules.proofs.CheckLaws as checks
 
@@ -52,52 +59,64 @@ of-sample k = Memᴰ·append-right bundleRefusals (Memᴰ·append-left _ k)
 of-form : {m : ℕ} → m ∈ formRefusals → m ∈ refusalNumbers
 of-form k = of-sample (Memᴰ·append-left extractorRefusals k)
 
-of-extractor : {m : ℕ} → m ∈ extractorRefusals → m ∈ refusalNumbers
-of-extractor k = of-sample (Memᴰ·append-right formRefusals k)
-
 of-record : {m : ℕ} → m ∈ recordRefusals → m ∈ refusalNumbers
 of-record k = of-bundle (Memᴰ·append-right (1 ∷ 2 ∷ 3 ∷ 4 ∷ 5 ∷ 6 ∷ 7 ∷ []) k)
 
 -- by each call
+form-number : (x : Sample) {m p : ℕ} → FormRefused x m p → m ∈ refusalNumbers
+form-number x {m} {p} w = of-form (check-refusals x m p (by-form x w) .0)
+
+extractor-number : {r : Recording} {n p m : ℕ} → ExtractorFault r n p m → m ∈ refusalNumbers
+unfolding some
+extractor-number (ExtractorFault.index h) = in-table 23 refl
+extractor-number (ExtractorFault.name h l z) = in-table 24 refl
+extractor-number (ExtractorFault.form k w z) = in-table 25 refl
+extractor-number (ExtractorFault.start k w f z) = in-table 26 refl
+extractor-number (ExtractorFault.end k e w f s c z) = in-table 27 refl
+extractor-number (ExtractorFault.chain k e q w f s c d u a l t) = in-table 28 refl
+
 sample-number : {r : Recording} {n m p : ℕ} → SampleRefused r n m p → m ∈ refusalNumbers
-sample-number (SampleRefused.form h l w) = of-form (w .number)
-sample-number (SampleRefused.extractor h l w) = of-extractor (w .number)
+sample-number {r} {n} (SampleRefused.form h l w) = form-number (sampleOf r n) w
+sample-number (SampleRefused.extractor h l w) = extractor-number (w .fault)
 
-resolve-number : {b : List ℕ} {n room m p : ℕ} → ResolveRefused b n room m p → m ∈ refusalNumbers
-unfolding some
-resolve-number (ResolveRefused.bundle w) = of-bundle (w .number)
-resolve-number (ResolveRefused.number r e h) = in-table 30 refl
-resolve-number (ResolveRefused.sample r e w) = sample-number w
-resolve-number (ResolveRefused.room r us e w h) = in-table 29 refl
+bundle-number : (b : List ℕ) → Bytes b → {m p : ℕ} → BundleRefused b m p → m ∈ refusalNumbers
+bundle-number b g {m} {p} w = of-bundle (refusals-within b m p (by-bundle b g w) .number)
 
-unit-number : {b : List ℕ} {n k m p : ℕ} → UnitRefused b n k m p → m ∈ refusalNumbers
+resolve-number : (b : List ℕ) → Bytes b → {n room m p : ℕ} → ResolveRefused b n room m p → m ∈ refusalNumbers
 unfolding some
-unit-number (UnitRefused.bundle w) = of-bundle (w .number)
-unit-number (UnitRefused.number r e h) = in-table 30 refl
-unit-number (UnitRefused.sample r e w) = sample-number w
-unit-number (UnitRefused.unit r us e w h) = in-table 30 refl
+resolve-number b g (ResolveRefused.bundle w) = bundle-number b g w
+resolve-number b g (ResolveRefused.number r e h) = in-table 30 refl
+resolve-number b g (ResolveRefused.sample r e w) = sample-number w
+resolve-number b g (ResolveRefused.room r us e w h) = in-table 29 refl
 
-names-number : {b : List ℕ} {s room m p : ℕ} → NamesRefused b s room m p → m ∈ refusalNumbers
+unit-number : (b : List ℕ) → Bytes b → {n k m p : ℕ} → UnitRefused b n k m p → m ∈ refusalNumbers
 unfolding some
-names-number (NamesRefused.bundle w) = of-bundle (w .number)
-names-number (NamesRefused.number r e h) = in-table 30 refl
-names-number (NamesRefused.room r e h l w) = in-table 29 refl
+unit-number b g (UnitRefused.bundle w) = bundle-number b g w
+unit-number b g (UnitRefused.number r e h) = in-table 30 refl
+unit-number b g (UnitRefused.sample r e w) = sample-number w
+unit-number b g (UnitRefused.unit r us e w h) = in-table 30 refl
 
-audit-number : {b : List ℕ} {room m p : ℕ} → AuditRefused b room m p → m ∈ refusalNumbers
+names-number : (b : List ℕ) → Bytes b → {s room m p : ℕ} → NamesRefused b s room m p → m ∈ refusalNumbers
 unfolding some
-audit-number (AuditRefused.bundle w) = of-bundle (w .number)
-audit-number (AuditRefused.room r e h) = in-table 29 refl
+names-number b g (NamesRefused.bundle w) = bundle-number b g w
+names-number b g (NamesRefused.number r e h) = in-table 30 refl
+names-number b g (NamesRefused.room r e h l w) = in-table 29 refl
+
+audit-number : (b : List ℕ) → Bytes b → {room m p : ℕ} → AuditRefused b room m p → m ∈ refusalNumbers
+unfolding some
+audit-number b g (AuditRefused.bundle w) = bundle-number b g w
+audit-number b g (AuditRefused.room r e h) = in-table 29 refl
 
 check-number : {kind l : ℕ} {s : List ℕ} {m p : ℕ} → CheckRefused kind l s m p → m ∈ refusalNumbers
 unfolding some
 check-number (CheckRefused.kind a c) = in-table 4 refl
 check-number (CheckRefused.size h u) = in-table 11 refl
-check-number (CheckRefused.form x g w) = of-form (w .number)
+check-number (CheckRefused.form x g w) = form-number x w
 
-read-number : {kind : ℕ} {s : List ℕ} {m p : ℕ} → ReadRefused kind s m p → m ∈ refusalNumbers
+read-number : {m : ℕ} → (m ≡ 4) ⊎ (m ∈ recordRefusals) → m ∈ refusalNumbers
 unfolding some
-read-number (ReadRefused.kind a c) = in-table 4 refl
-read-number (ReadRefused.bytes n k h z) = of-record k
+read-number (inl e) = rw e (in-table 4 refl)
+read-number (inr k) = of-record k
 
 write-number : {kind : ℕ} {f : _} {a c x : List ℕ} {room m p : ℕ} → WriteRefused kind f a c x room m p → m ∈ refusalNumbers
 unfolding some
@@ -108,7 +127,7 @@ write-number (WriteRefused.room s w h) = in-table 29 refl
 -- records as numbers
 read-within : (kind : ℕ) (s : List ℕ) (room : ℕ) (a : Answer Record) → readRecord kind s ≡ a → {m p : ℕ} → within room (asNumbers a) ≡ refused m p → m ∈ refusalNumbers
 unfolding some
-read-within kind s room (refused n q) r {m} {p} e = subst (λ (k : ℕ). k ∈ refusalNumbers) (refused-same e .0) (read-number (records.read-refused kind s n q r))
+read-within kind s room (refused n q) r {m} {p} e = subst (λ (k : ℕ). k ∈ refusalNumbers) (refused-same e .0) (read-number (records.read-number kind s r))
 read-within kind s room (ok x) r {m} {p} e = by-bool (room <? length (numbersOf x))
     (λ t. subst (λ (k : ℕ). k ∈ refusalNumbers) (refused-same (rw t at e) .0) (in-table 29 refl))
     (λ t. ok-refused (sym (rw t at e)))
@@ -117,21 +136,21 @@ read-numbers : (kind : ℕ) (s : List ℕ) (room : ℕ) {m p : ℕ} → readNumb
 unfolding readNumbers
 read-numbers kind s room e = read-within kind s room (readRecord kind s) refl e
 
-fault-31 : (k : Kind) (ns : List ℕ) → NoneOr (31 ∷ []) (numbersFault k ns)
+pub fault-31 : (k : Kind) (ns : List ℕ) → NoneOr (31 ∷ []) (numbersFault k ns)
 unfolding numbersFault some
 fault-31 k ns = none-or-orElse (31 ∷ []) _ _ (none-or-if (31 ∷ []) fieldsFitNoRecord (length ns <? numberCount) (has-from _ _ refl))
     (none-or-orElse (31 ∷ []) _ _ (none-or-if (31 ∷ []) fieldsFitNoRecord (flagMost k <? ns at completeRepresentation) (has-from _ _ refl))
     (none-or-if (31 ∷ []) fieldsFitNoRecord (not ((ns at trailer ≡? trailerNone) || (ns at trailer ≡? trailerPresent))) (has-from _ _ refl)))
 
-write-known : (kind : ℕ) (k : Kind) (ns a c x : List ℕ) (room : ℕ) → kindOf kind ≡ Known k → numbersFault k ns ≡ 0 → writeNumbers kind ns a c x room ≡ writeRecord kind (fieldsFrom k ns) a c x room
+pub write-known : (kind : ℕ) (k : Kind) (ns a c x : List ℕ) (room : ℕ) → kindOf kind ≡ Known k → numbersFault k ns ≡ 0 → writeNumbers kind ns a c x room ≡ writeRecord kind (fieldsFrom k ns) a c x room
 unfolding writeNumbers writeNumbersAs writeRecord
 write-known kind k ns a c x room q e = rw (q, e)
 
-write-fault : (kind : ℕ) (k : Kind) (ns a c x : List ℕ) (room n : ℕ) → kindOf kind ≡ Known k → numbersFault k ns ≡ suc n → writeNumbers kind ns a c x room ≡ refused (suc n) 0
+pub write-fault : (kind : ℕ) (k : Kind) (ns a c x : List ℕ) (room n : ℕ) → kindOf kind ≡ Known k → numbersFault k ns ≡ suc n → writeNumbers kind ns a c x room ≡ refused (suc n) 0
 unfolding writeNumbers writeNumbersAs
 write-fault kind k ns a c x room n q e = rw (q, e)
 
-write-unknown : (kind : ℕ) (ns a c x : List ℕ) (room : ℕ) → kindOf kind ≡ Unknown → writeNumbers kind ns a c x room ≡ refused 4 0
+pub write-unknown : (kind : ℕ) (ns a c x : List ℕ) (room : ℕ) → kindOf kind ≡ Unknown → writeNumbers kind ns a c x room ≡ refused 4 0
 unfolding writeNumbers
 write-unknown kind ns a c x room q = rw q
 
@@ -144,11 +163,11 @@ write-by kind ns a c x room (Known k) q {m} {p} e = by-number (numbersFault k ns
     subst (λ (j : ℕ). j ∈ refusalNumbers) (refused-same (sym (write-fault kind k ns a c x room n q z) ∙ e) .0) (Memᴰ·append-right bundleRefusals (Memᴰ·append-right sampleRefusals (Memᴰ·append-right (29 ∷ 30 ∷ []) w))))
 write-by kind ns a c x room Unknown q {m} {p} e = subst (λ (j : ℕ). j ∈ refusalNumbers) (refused-same (sym (write-unknown kind ns a c x room q) ∙ e) .0) (in-table 4 refl)
 
-output-number : {a : Answer (List ℕ)} → OutputAnswer a → (m p : ℕ) → a ≡ refused m p → m ∈ refusalNumbers
-output-number (OutputAnswer.write kind ns a c x room) m p e = write-by kind ns a c x room (kindOf kind) refl e
-output-number (OutputAnswer.resolve b g n room) m p e = resolve-number (refusals.resolve-refused b g n room m p .0 e)
-output-number (OutputAnswer.names b g s room) m p e = names-number (refusals.names-refused b g s room m p .0 e)
-output-number (OutputAnswer.audit b g room) m p e = audit-number (refusals.audit-refused b g room m p .0 e)
+output-number : (o : List ℕ) {a : Answer (List ℕ)} → OutputAnswer o a → (m p : ℕ) → a ≡ refused m p → m ∈ refusalNumbers
+output-number o (OutputAnswer.write kind ns a c x) m p e = write-by kind ns a c x (length o) (kindOf kind) refl e
+output-number o (OutputAnswer.resolve b g n) m p e = resolve-number b g (refusals.resolve-refused b g n (length o) m p .0 e)
+output-number o (OutputAnswer.names b g s) m p e = names-number b g (refusals.names-refused b g s (length o) m p .0 e)
+output-number o (OutputAnswer.audit b g) m p e = audit-number b g (refusals.audit-refused b g (length o) m p .0 e)
 
 verdict-number : {a : Verdict} → VerdictAnswer a → (m p : ℕ) → a ≡ refused m p → m ∈ refusalNumbers
 verdict-number (VerdictAnswer.bundle b) m p e = of-bundle (refusals-within b m p e .number)
@@ -157,31 +176,30 @@ verdict-number (VerdictAnswer.sample kind l s) m p e = check-number (checks.chec
 -- what was returned, by the answer
 output-by :
     (a : Answer (List ℕ)) → ((m q : ℕ) → a ≡ refused m q → m ∈ refusalNumbers) → {n p c : ℕ} {o o' : List ℕ} → ReturnedOutput n p c o o' a →
-    ((n ≡ 0) × (p ≡ 0) × ((out : List ℕ) × (a ≡ ok out) × (c ≡ length out) × (o' ≡ out ++ drop (length out) o)))
-    ⊎ ((n ∈ refusalNumbers) × (a ≡ refused n p) × (c ≡ 0) × (o' ≡ o))
+    OutputGiven a o n p c o'
 unfolding overwrite
-output-by (refused m q) h w = let e = w .returned .number in let f = w .returned .place in inr (rw e (h m q refl), rw (e, f), w .count, w .buffer)
-output-by (ok out) h w = inl (w .returned .number, w .returned .place, (out, refl, w .count, w .buffer))
+output-by (refused m q) h w =
+    let e = w .returned .number in let f = w .returned .place in let g = w .count in let k = w .buffer in
+    rw (e, f, g, k) (OutputGiven.refuses (h m q refl) refl)
+output-by (ok out) h w =
+    let e = w .returned .number in let f = w .returned .place in let g = w .count in let k = w .buffer in
+    rw (e, f, g, k) (OutputGiven.accepted out refl)
 
 pub output-returned :
-    {a : Answer (List ℕ)} → OutputAnswer a → {n p c : ℕ} {o o' : List ℕ} → ReturnedOutput n p c o o' a →
-    ((n ≡ 0) × (p ≡ 0) × ((out : List ℕ) × (a ≡ ok out) × (c ≡ length out) × (o' ≡ out ++ drop (length out) o)))
-    ⊎ ((n ∈ refusalNumbers) × (a ≡ refused n p) × (c ≡ 0) × (o' ≡ o))
-output-returned {a = a} w r = output-by a (output-number w) r
+    {o : List ℕ} {a : Answer (List ℕ)} → OutputAnswer o a → {n p c : ℕ} {o' : List ℕ} → ReturnedOutput n p c o o' a → OutputGiven a o n p c o'
+output-returned {o = o} {a = a} w r = output-by a (output-number o w) r
 
 read-by :
     (a : Answer (List ℕ)) → ((m q : ℕ) → a ≡ refused m q → m ∈ refusalNumbers) → {n p : ℕ} {o o' : List ℕ} → Returned n p a → o' ≡ leaves o a →
-    ((n ≡ 0) × (p ≡ 0) × ((ns : List ℕ) × (a ≡ ok ns) × (o' ≡ ns ++ drop (length ns) o)))
-    ⊎ ((n ∈ refusalNumbers) × (a ≡ refused n p) × (o' ≡ o))
+    NumbersGiven a o n p o'
 unfolding overwrite
-read-by (refused m q) h w k = let e = w .number in let f = w .place in inr (rw e (h m q refl), rw (e, f), k)
-read-by (ok ns) h w k = inl (w .number, w .place, (ns, refl, k))
+read-by (refused m q) h w k = let e = w .number in let f = w .place in rw (e, f, k) (NumbersGiven.refuses (h m q refl) refl)
+read-by (ok ns) h w k = let e = w .number in let f = w .place in rw (e, f, k) (NumbersGiven.accepted ns refl)
 
 pub read-returned :
     (kind : ℕ) (s : List ℕ) {n p : ℕ} {o o' : List ℕ} →
     Returned n p (readNumbers kind s (length o)) → o' ≡ leaves o (readNumbers kind s (length o)) →
-    ((n ≡ 0) × (p ≡ 0) × ((ns : List ℕ) × (readNumbers kind s (length o) ≡ ok ns) × (o' ≡ ns ++ drop (length ns) o)))
-    ⊎ ((n ∈ refusalNumbers) × (readNumbers kind s (length o) ≡ refused n p) × (o' ≡ o))
+    NumbersGiven (readNumbers kind s (length o)) o n p o'
 read-returned kind s {o = o} w k = read-by (readNumbers kind s (length o)) (λ m q e. read-numbers kind s (length o) e) w k
 
 -- a record read and written again
@@ -195,38 +213,39 @@ written-back kind s ns room g e {n} {p} {c} {o} {o'} l w =
     let v : ReturnedOutput n p c o o' (ok s) = subst (ReturnedOutput n p c o o') f w in
     (v .returned .number, v .count, v .buffer)
 
-verdict-by :
-    (a : Verdict) → ((m q : ℕ) → a ≡ refused m q → m ∈ refusalNumbers) → {n p : ℕ} → Returned n p a →
-    ((n ≡ 0) × (p ≡ 0) × (a ≡ ok tt)) ⊎ ((n ∈ refusalNumbers) × (a ≡ refused n p))
-verdict-by (refused m q) h w = let e = w .number in let f = w .place in inr (rw e (h m q refl), rw (e, f))
-verdict-by (ok u) h w = inl (w .number, w .place, refl)
+verdict-by : (a : Verdict) → ((m q : ℕ) → a ≡ refused m q → m ∈ refusalNumbers) → {n p : ℕ} → Returned n p a → VerdictGiven a n p
+verdict-by (refused m q) h w = let e = w .number in let f = w .place in rw (e, f) (VerdictGiven.refuses (h m q refl) refl)
+verdict-by (ok u) h w = let e = w .number in let f = w .place in rw (e, f) (VerdictGiven.accepted refl)
 
-pub verdict-returned :
-    {a : Verdict} → VerdictAnswer a → {n p : ℕ} → Returned n p a →
-    ((n ≡ 0) × (p ≡ 0) × (a ≡ ok tt)) ⊎ ((n ∈ refusalNumbers) × (a ≡ refused n p))
+pub verdict-returned : {a : Verdict} → VerdictAnswer a → {n p : ℕ} → Returned n p a → VerdictGiven a n p
 verdict-returned {a = a} w r = verdict-by a (verdict-number w) r
 
 part-by :
     (a : Answer BundlePart) → ((m q : ℕ) → a ≡ refused m q → m ∈ refusalNumbers) → {n p start size : ℕ} → ReturnedPart n p start size a →
-    ((n ≡ 0) × (p ≡ 0) × (a ≡ ok (record { start = start; size = size }))) ⊎ ((n ∈ refusalNumbers) × (a ≡ refused n p) × (start ≡ 0) × (size ≡ 0))
-part-by (refused m q) h w = let e = w .returned .number in let f = w .returned .place in inr (rw e (h m q refl), rw (e, f), w .starts, w .sizes)
-part-by (ok u) h w = let e = w .starts in let f = w .sizes in inl (w .returned .number, w .returned .place, rw (e, f))
+    PartGiven a n p start size
+part-by (refused m q) h w =
+    let e = w .returned .number in let f = w .returned .place in let g = w .starts in let k = w .sizes in
+    rw (e, f, g, k) (PartGiven.refuses (h m q refl) refl)
+part-by (ok u) h w =
+    let e = w .returned .number in let f = w .returned .place in let g = w .starts in let k = w .sizes in
+    rw (e, f, g, k) (PartGiven.accepted (u .start) (u .size) refl)
 
 pub part-returned :
     (b : List ℕ) → Bytes b → (sample unit : ℕ) {n p start size : ℕ} → ReturnedPart n p start size (placeCall firstLayout b sample unit) →
-    ((n ≡ 0) × (p ≡ 0) × (placeCall firstLayout b sample unit ≡ ok (record { start = start; size = size })))
-    ⊎ ((n ∈ refusalNumbers) × (placeCall firstLayout b sample unit ≡ refused n p) × (start ≡ 0) × (size ≡ 0))
+    PartGiven (placeCall firstLayout b sample unit) n p start size
 part-returned b g sample unit r =
-    part-by (placeCall firstLayout b sample unit) (λ m q e. unit-number (refusals.place-refused b g sample unit m q .0 e)) r
+    part-by (placeCall firstLayout b sample unit) (λ m q e. unit-number b g (refusals.place-refused b g sample unit m q .0 e)) r
 
-tally-by :
-    (a : Answer Tally) {x y z : ℕ} → ReturnedTally x y z a →
-    (a ≡ ok (record { passed = x; empty = y; refused = z })) ⊎ ((m : ℕ) × (q : ℕ) × (a ≡ refused m q) × (x ≡ 0) × (y ≡ 0) × (z ≡ 0))
-tally-by (refused m q) w = inr (m, q, refl, w .passed, w .empty, w .refused)
-tally-by (ok t) w = let e = w .passed in let f = w .empty in let h = w .refused in inl (rw (e, f, h))
+tally-by : (a : Answer Tally) {x y z : ℕ} → ReturnedTally x y z a → TallyGiven a x y z
+tally-by (refused m q) w = let e = w .passed in let f = w .empty in let h = w .refused in rw (e, f, h) (TallyGiven.refuses {n = m} {p = q} refl)
+tally-by (ok t) w =
+    let e = w .passed in let f = w .empty in let h = w .refused in rw (e, f, h) (TallyGiven.accepted (t .passed) (t .empty) (t .refused) refl)
 
 pub tally-returned :
-    (b : List ℕ) (room : ℕ) {x y z : ℕ} → ReturnedTally x y z (tallyCall firstLayout b room) →
-    (tallyCall firstLayout b room ≡ ok (record { passed = x; empty = y; refused = z }))
-    ⊎ ((m : ℕ) × (q : ℕ) × (tallyCall firstLayout b room ≡ refused m q) × (x ≡ 0) × (y ≡ 0) × (z ≡ 0))
+    (b : List ℕ) (room : ℕ) {x y z : ℕ} → ReturnedTally x y z (tallyCall firstLayout b room) → TallyGiven (tallyCall firstLayout b room) x y z
 tally-returned b room r = tally-by (tallyCall firstLayout b room) r
+
+-- what a call that wrote leaves
+pub answer-leaves : {out out₁ x : List ℕ} {a : Answer ℕ} → Wrote out out₁ a (ok x) → (a ≡ ok (length x)) × (out₁ ≡ x ++ drop (length x) out)
+unfolding overwrite
+answer-leaves w = (w .answer, w .buffer)

@@ -1,42 +1,39 @@
 -- The proofs of what Demands says of samples. Assumes nothing.
-use Prim.Native.Nat.{ℕ, _+_, _*_, _≤_, _<_}
-use mathlib.Core.Path.{_≡_, refl, ap, sym, _∙_}
-use mathlib.Core.Bool.{Bool, true, false, _&&_, _||_}
-use mathlib.Core.List.{List, [], _∷_, List·Memᴰ·head, List·Memᴰ·tail, List·Memᴰ·not-nil, List·Memᴰ·cases-cons}
-use mathlib.Core.Logic.{_⊎_, inl, inr, ⊎-elim, _↔_}
+use Prim.Native.Nat.{ℕ, _+_, _≤_, _<_}
+use mathlib.Core.Path.{_≡_, refl, sym, _∙_}
+use mathlib.Core.Bool.{true, false}
+use mathlib.Core.List.{[], _∷_, List·Memᴰ·head, List·Memᴰ·tail, List·Memᴰ·not-nil, List·Memᴰ·cases-cons}
+use mathlib.Core.Logic.{inl, inr, ⊎-elim, _↔_}
 use native.Mathlib.Omega.{arith}
-use borrow.Author.Tests.{eqb-true, eqb-false, ne-eqb, eq-eqb, leb-true, le-leb, lt-leb}
-use lib.ListN.{length}
+use borrow.Author.Tests.{eqb-true, eqb-false, ne-eqb, eq-eqb, leb-true, le-leb}
 use Rattle.words.specs.Tests.{_≤?_, _≡?_}
-use Rattle.words.specs.Refusals.{ok}
-use Rattle.words.specs.Lists.{_∈_, has}
+use Rattle.words.specs.Refusals.{ok, first}
+use Rattle.words.specs.Lists.{_∈_}
 use Rattle.words.proofs.Tests.{by-bool, true-false}
+use Rattle.words.proofs.Refusals.{and-ok, at-ok, at-none, first-ok, first-all, by-verdict, ok-refused}
 use Rattle.words.proofs.Lists.{has-from, some-mem}
 use Rattle.numbers.specs.Kinds.{isAvc}
 use Rattle.numbers.specs.declared.Kind.{Kind}
 use Rattle.numbers.specs.declared.Kind.the-variants.{Avc, Svc}
-use Rattle.units.specs.Units.{Sample, L, end, size, firstByte, type, next, isAggregator, isExtractor, leastSize, topUnits, border}
-use Rattle.units.specs.Aggregators.{isSlice, included, additionalBytes, coverEnd}
+use Rattle.units.specs.Units.{Sample, L, end, size, type, next, isAggregator, leastSize, topUnits, border}
+use Rattle.units.specs.Aggregators.{isSlice, included, coverEnd, coverFault}
 use Rattle.units.specs.Rules.{Whole, Included}
-use Rattle.samples.specs.Check.{check}
-use Rattle.samples.specs.Rules.{Rules}
-use Rattle.samples.proofs.Laws.{rules, rules-check}
-use Rattle.promise_rules.specs.Samples.{UnitAt, BorderAt, IncludedAt, Formed}
-
-not-true-false : (b : Bool) → (b ≡ true → ⊥) → b ≡ false
-not-true-false true h = absurd (h refl)
-not-true-false false h = refl
+use Rattle.units.proofs.Units.{extractor-size, extractor-none, included-rules, included-none}
+use Rattle.units.proofs.Covers.{cover-good, cover-border, cover-clear}
+use Rattle.samples.specs.Check.{contentVerdict, topVerdict, contentsVerdict, check}
+use Rattle.samples.proofs.Walks.{includedJudge, top-whole, whole-top, content-included, content-cover, content-other}
+use Rattle.promise_rules.specs.Samples.{UnitAt, BorderAt, IncludedAt, CoverAt, ContentAt, Formed}
 
 module _ (x : Sample) where
   -- a unit
-  least-header : (t n : ℕ) → leastSize x t ≤ n → t ∈ (14 ∷ 20 ∷ 31 ∷ []) → 4 ≤ n
+  pub least-header : (t n : ℕ) → leastSize x t ≤ n → t ∈ (14 ∷ 20 ∷ 31 ∷ []) → 4 ≤ n
   least-header t n h m = ⊎-elim (λ e. rw e at h)
       (λ m1. ⊎-elim (λ e. rw e at h)
       (λ m2. ⊎-elim (λ e. rw e at h) (λ l. absurd (List·Memᴰ·not-nil l)) (List·Memᴰ·cases-cons m2))
       (List·Memᴰ·cases-cons m1))
       (List·Memᴰ·cases-cons m)
 
-  least-aggregator : (t n : ℕ) → leastSize x t ≤ n → t ≡ 30 → 4 + L x ≤ n
+  pub least-aggregator : (t n : ℕ) → leastSize x t ≤ n → t ≡ 30 → 4 + L x ≤ n
   least-aggregator t n h e = rw e at h
 
   least : (t n : ℕ) → 0 < n → (t ∈ (14 ∷ 20 ∷ 31 ∷ []) → 4 ≤ n) → (t ≡ 30 → 4 + L x ≤ n) → leastSize x t ≤ n
@@ -50,7 +47,7 @@ module _ (x : Sample) where
       (λ d. rw (q, a, c, d) (h (List·Memᴰ·tail (List·Memᴰ·tail (List·Memᴰ·head (eqb-true _ _ d))))))
       (λ d. rw (q, a, c, d) s))))
 
-  unit-at : (e p : ℕ) → Whole x e p → UnitAt x e p
+  pub unit-at : (e p : ℕ) → Whole x e p → UnitAt x e p
   unit-at e p w =
       record {
         field = w .room;
@@ -61,7 +58,7 @@ module _ (x : Sample) where
         aggregator = least-aggregator (type x p) (size x p) (w .least);
       }
 
-  whole-at : (e p : ℕ) → UnitAt x e p → Whole x e p
+  pub whole-at : (e p : ℕ) → UnitAt x e p → Whole x e p
   whole-at e p w =
       record {
         room = w .field;
@@ -80,11 +77,11 @@ module _ (x : Sample) where
   at-border q (inl e) = rw (eq-eqb q (end x) e)
   at-border q (inr m) = rw (some-mem (λ n. q ≡? n) (topUnits x) m (eq-eqb q q refl)) (by-bool (q ≡? end x) (λ t. rw t) (λ t. rw t))
 
-  is-avc : (k : Kind) → isAvc k ≡ true → k ≡ Avc
+  pub is-avc : (k : Kind) → isAvc k ≡ true → k ≡ Avc
   is-avc Avc e = refl
   is-avc Svc e = true-false false e refl
 
-  included-at : (e q : ℕ) → Included x e q → IncludedAt x e q
+  pub included-at : (e q : ℕ) → Included x e q → IncludedAt x e q
   included-at e q w =
       record {
         unit = unit-at e q (w .unit);
@@ -93,12 +90,12 @@ module _ (x : Sample) where
         extractor = λ t. w .extractor (eq-eqb _ _ t);
       }
 
-  slice-none : (t : ℕ) → (1 ≤ t → t ≤ 5 → ⊥) → isSlice t ≡ false
+  pub slice-none : (t : ℕ) → (1 ≤ t → t ≤ 5 → ⊥) → isSlice t ≡ false
   slice-none t h = by-bool (1 ≤? t)
       (λ a. by-bool (t ≤? 5) (λ b. absurd (h (leb-true _ _ a) (leb-true _ _ b))) (λ b. rw (a, b)))
       (λ a. rw a)
 
-  at-included : (e q : ℕ) → IncludedAt x e q → Included x e q
+  pub at-included : (e q : ℕ) → IncludedAt x e q → Included x e q
   at-included e q w =
       record {
         unit = whole-at e q (w .unit);
@@ -107,26 +104,56 @@ module _ (x : Sample) where
         extractor = λ t. w .extractor (eqb-true _ _ t);
       }
 
+  -- 21
+  pub cover-at : (p : ℕ) → coverFault x p ≡ 0 → CoverAt x p
+  cover-at p e = record { ends = border-at (coverEnd x p) (cover-border x p e); clear = λ q m a b. eqb-false _ _ (cover-clear x p e q m a b) }
+
+  pub at-cover : (p : ℕ) → CoverAt x p → coverFault x p ≡ 0
+  at-cover p w = cover-good x p (at-border (coverEnd x p) (w .ends)) (λ q m a b. ne-eqb _ _ (w .clear q m a b))
+
+  -- what stands in a top-level unit
+  pub included-all : (p : ℕ) → ((q : ℕ) → q ∈ included x p → IncludedAt x (next x p) q) → first (includedJudge x (next x p)) (included x p) ≡ ok tt
+  included-all p h = first-all (includedJudge x (next x p)) (included x p) (λ q m. at-none q (included-none x (next x p) q (at-included (next x p) q (h q m))))
+
+  pub all-included : (p : ℕ) → first (includedJudge x (next x p)) (included x p) ≡ ok tt → (q : ℕ) → q ∈ included x p → IncludedAt x (next x p) q
+  all-included p e q m =
+      included-at (next x p) q (included-rules x (next x p) q (at-ok _ q (first-ok (includedJudge x (next x p)) (included x p) e m)))
+
+  pub content-at : (p : ℕ) → contentVerdict x p ≡ ok tt → ContentAt x p
+  content-at p e = by-bool (isAggregator x p)
+      (λ t. let k : type x p ≡ 30 = eqb-true _ _ t in by-verdict (first (includedJudge x (next x p)) (included x p))
+      (λ a b c. ok-refused (sym (content-included x p t c) ∙ e))
+      (λ c. record {
+        inside = λ u. all-included p c;
+        covers = λ u. cover-at p (at-ok _ p (sym (content-cover x p t c) ∙ e));
+        extractor = λ u. absurd (omega arith);
+      }))
+      (λ t. record {
+        inside = λ u. true-false _ (eq-eqb _ _ u) t;
+        covers = λ u. true-false _ (eq-eqb _ _ u) t;
+        extractor = λ u. extractor-size x p (at-ok _ p (sym (content-other x p t) ∙ e)) (eq-eqb _ _ u);
+      })
+
+  pub at-content : (p : ℕ) → ContentAt x p → contentVerdict x p ≡ ok tt
+  at-content p w = by-bool (isAggregator x p)
+      (λ t. let k = eqb-true _ _ t in content-cover x p t (included-all p (w .inside k)) ∙ at-none p (at-cover p (w .covers k)))
+      (λ t. content-other x p t ∙ at-none p (extractor-none x p (λ u. w .extractor (eqb-true _ _ u))))
+
+  pub tops-at : topVerdict x ≡ ok tt → (p : ℕ) → p ∈ topUnits x → UnitAt x (end x) p
+  tops-at v p m = unit-at (end x) p (top-whole x v p m)
+
+  pub at-tops : ((p : ℕ) → p ∈ topUnits x → UnitAt x (end x) p) → topVerdict x ≡ ok tt
+  at-tops h = whole-top x (λ p m. whole-at (end x) p (h p m))
+
   pub formed-rules : check x ≡ ok tt → Formed x
+  unfolding check
   formed-rules e =
-      let r = rules x e in
-      record {
-        tops = λ p m. unit-at (end x) p (r .tops p m);
-        inside = λ p q m t k. included-at (next x p) q (r .inside p q m (eq-eqb _ _ t) k);
-        covers = λ p m t. border-at (coverEnd x p) (r .borders p m (eq-eqb _ _ t));
-        clear = λ p q m t k a b. eqb-false _ _ (r .clear p m (eq-eqb _ _ t) q k a b);
-        extractors = λ p m t. r .extractors p m (eq-eqb _ _ t);
-      }
+      let v = and-ok (topVerdict x) (contentsVerdict x) e in
+      record { tops = tops-at (v .0); contents = λ p m. content-at p (first-ok (contentVerdict x) (topUnits x) (v .1) m) }
 
   pub rules-formed : Formed x → check x ≡ ok tt
-  rules-formed f =
-      rules-check x (record {
-        tops = λ p m. whole-at (end x) p (f .tops p m);
-        inside = λ p q m t k. at-included (next x p) q (f .inside p q m (eqb-true _ _ t) k);
-        borders = λ p m t. at-border (coverEnd x p) (f .covers p m (eqb-true _ _ t));
-        clear = λ p m t q k a b. ne-eqb _ _ (f .clear p q m (eqb-true _ _ t) k a b);
-        extractors = λ p m t. f .extractors p m (eqb-true _ _ t);
-      })
+  unfolding check
+  rules-formed f = rw (at-tops (f .tops)) (first-all (contentVerdict x) (topUnits x) (λ p m. at-content p (f .contents p m)))
 
   pub formed-exactly : (check x ≡ ok tt) ↔ Formed x
   formed-exactly = (formed-rules, rules-formed)

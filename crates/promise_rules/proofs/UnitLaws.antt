@@ -1,51 +1,59 @@
 -- The proofs of what Demands says of units: their fields, where they lie, where they stand in a bundle. Assumes nothing.
-use Prim.Native.Nat.{ℕ, zero, suc, _+_, _-_, _*_, _≤_, _<_}
+use Prim.Native.Nat.{ℕ, zero, suc, _+_, _-_, _*_, _/_, _%_, _≤_, _<_}
 use mathlib.Core.Path.{_≡_, refl, ap, sym, _∙_, subst}
 use mathlib.Core.List.{List, [], _∷_, _++_, map}
-use mathlib.Core.Logic.{inl, inr, ⊎-elim, _↔_}
+use mathlib.Core.Logic.{inl, inr, ⊎-elim}
 use native.Mathlib.Omega.{arith}
-use borrow.Author.Tests.{eqb-true, eq-eqb}
+use borrow.Author.Tests.{leb-true, leb-false, eqb-true, eq-eqb}
 use lib.ListN.{length, getD, take, length-map}
 use lib.Seq.{take-append-seam}
-use Rattle.words.specs.Refusals.{refused, ok}
+use Rattle.words.specs.Tests.{_≤?_}
+use Rattle.words.specs.Refusals.{ok}
 use Rattle.words.specs.Lists.{_∈_, nth, upto, sum}
-use Rattle.words.specs.Bytes.{Bytes, byteAt, big, part}
-use Rattle.words.proofs.Lists.{nth-mem, Rising}
+use Rattle.words.specs.Bytes.{Bytes, byteAt, big, bytes, part}
+use Rattle.words.proofs.Tests.{by-bool}
+use Rattle.words.proofs.Lists.{nth-mem, upto-mem, Rising}
 use Rattle.words.proofs.Rows.{getD-mem, upto-length, upto-split, nth-upto}
 use Rattle.words.proofs.Entries.{map-append, entries-length}
 use Rattle.words.proofs.Joined.{nth-map}
-use Rattle.words.proofs.Refusals.{by-verdict, ok-refused, refused-along}
-use Rattle.units.specs.Units.{Sample, L, size, type, next, end, topUnits}
+use Rattle.units.specs.Units.{Sample, L, size, type, next, end, places, topUnits}
 use Rattle.units.specs.Aggregators.{included, units}
 use Rattle.units.specs.Rules.{Tiles}
-use Rattle.units.proofs.Walks.{units-top, units-included, units-from, units-rise}
+use Rattle.units.proofs.Units.{next-after}
+use Rattle.units.proofs.Walks.{places-end, places-step, units-top, units-included, units-from, units-rise}
 use Rattle.samples.proofs.Laws.{top-tile, check-top, included-tile}
 use Rattle.bundles.specs.Recordings.{Recording, Entry, noTrack, noEntry, sampleCount, trackOf, contentOf}
 use Rattle.bundles.specs.Readers.{firstLayout}
 use Rattle.bundles.specs.Tracks.{trackOn, tracks, referencesAt}
 use Rattle.bundles.specs.References.{lengthSizeOn, samplesAt}
 use Rattle.bundles.specs.Samples.{lengths, byteCountAt}
-use Rattle.bundles.specs.Bundles.{bundleVerdict, meaning, contentAt}
+use Rattle.bundles.specs.Bundles.{contentAt}
 use Rattle.bundles.proofs.Promises.{samples-tile, samples-all}
 use Rattle.resolution_rules.specs.Resolving.{sampleOf, Span}
 use Rattle.resolution_rules.specs.Calls.{noSpan, placedBy, placeCall}
 use Rattle.resolution_rules.proofs.Good.{good-rules}
-use Rattle.resolution_rules.proofs.Exactly.{delivered-plain, delivered-there}
+use Rattle.resolution_rules.proofs.Exactly.{delivered-there}
 use Rattle.resolution_rules.proofs.Readers.{firstLayout-sound}
 use Rattle.resolution_rules.proofs.Calls as calls
 use Rattle.promise_rules.specs.Samples.{Formed}
 use Rattle.promise_rules.specs.Bundles.{three, four, entry, trackPlaces, TrackAt, BundleOf, TrackMeans, Means}
-use Rattle.promise_rules.specs.Units.{FieldsAt, Laid, UnitsOf, sampleStart, SampleMeans, PlacedAt}
-use Rattle.promise_rules.specs.Resolving.{Resolved}
-use Rattle.promise_rules.specs.Refused.{BundleRefused}
+use Rattle.promise_rules.specs.Units.{Walk, FieldsAt, Laid, UnitsOf, sampleStart, SampleMeans, PlacedAt}
+use Rattle.promise_rules.specs.Resolving.{Resolved, StandsAt}
 use Rattle.promise_rules.proofs.SampleLaws.{rules-formed}
 use Rattle.promise_rules.proofs.BundleLaws.{track-means, means-exactly}
-use Rattle.promise_rules.proofs.CallLaws.{good-exactly, delivers-only, unit-gives}
-use Rattle.promise_rules.proofs.RefusedLaws.{bundle-refused}
+use Rattle.promise_rules.proofs.CallLaws.{good-exactly, delivers-only, unit-gives, unit-stands}
 
 module _ (x : Sample) where
+  walk : (n a e : ℕ) → e - a ≤ n → Walk x a e (places x a e)
+  unfolding size
+  walk zero a e h = let l : e ≤ a = omega arith in rw (places-end x a e l) (Walk.end l)
+  walk (suc n) a e h = by-bool (e ≤? a)
+      (λ t. rw (places-end x a e (leb-true _ _ t)) (Walk.end (leb-true _ _ t)))
+      (λ t. let l : a < e = leb-false _ _ t in let g = next-after x a in
+      rw (places-step x a e l) (Walk.unit l (walk n (next x a) e (omega arith))))
+
   pub fields-at : (p : ℕ) → FieldsAt x p
-  unfolding size type
+  unfolding size type topUnits
   fields-at p =
       let five : p + L x + 4 + 1 ≡ p + L x + 5 = omega arith in
       let six : p + L x + 4 + 2 ≡ p + L x + 6 = omega arith in
@@ -59,6 +67,8 @@ module _ (x : Sample) where
         after = refl;
         additional = refl;
         inner = refl;
+        tops = walk (length (x .content)) 0 (length (x .content)) (omega arith);
+        inside = walk (next x p) (p + L x + 4 + L x) (next x p) (omega arith);
         index = refl;
         samples = ap (λ (k : ℕ). byteAt (x .content) k) five;
         offset = ap (λ (k : ℕ). big (x .content) k (L x)) six;
@@ -153,7 +163,7 @@ module _ (b : List ℕ) (g : Bytes b) (r : Recording) (accepted : firstLayout .m
       let c = count-is in
       let e = entry-is n h l in
       let t : trackOf (r .layout) n ≡ big b (entry b n) 1 = ap (λ (w : Entry). w .track) e in
-      let there = says .0 .sample n h (omega arith) .track in
+      let there = says .0 .samples .each n (upto-mem all n h (omega arith)) .track in
       record {
         track = t;
         time = ap (λ (w : Entry). w .time) e;
@@ -173,21 +183,17 @@ module _ (b : List ℕ) (g : Bytes b) (r : Recording) (accepted : firstLayout .m
       let e = delivers-only b g r accepted n some there us (w .delivery) in
       let u = nth us k noSpan in
       let m : u ∈ us = nth-mem us k noSpan h l in
-      let f = delivered-plain r n (good-rules r n good) u (rw (← e) m) in
       let t = delivered-there r n (good-rules r n good) some there u (rw (← e) m) in
       record {
         there = ap (placedBy (contentAt b)) (unit-gives b g r accepted n some there us w k h l)
             ∙ ap (λ (a : ℕ). ok (record { start = a + u .start; size = u .size })) (start-is (u .sample) (t .0) (t .1));
-        inside = f .inside;
+        stands = subst (λ (a : ℕ). StandsAt b r n u (a + u .start) (u .size)) (start-is (u .sample) (t .0) (t .1)) (unit-stands b g r accepted n some there us w k h l);
         lent = rw (← e) at (calls.unit-part firstLayout firstLayout-sound b r accepted n some there good k h (rw (← e) l));
       }
 
--- L of a track is that of its record
-pub track-size :
-    (b : List ℕ) → Bytes b → (k : ℕ) → 0 < k → k ≤ big b 0 1 → (t : TrackAt b (nth (trackPlaces b) k 0)) →
-    lengthSizeOn b k ≡ t .fields .«length_size»
-unfolding tracks
-track-size b g k h l t =
-    let c : k ≤ length (trackPlaces b) = rw (entries-length (λ p. p + 3 + big b (p + 1) 2) (big b 0 1) 1) l in
-    rw (nth-map (trackOn b) (trackPlaces b) k 0 noTrack h c)
-    (track-means b g (nth (trackPlaces b) k 0) t .size (t .fields) (t .sequences) (t .pictures) (t .extensions) (t .valid))
+-- numbers are big-endian
+pub big-endian :
+    (s : List ℕ) (p v n : ℕ) →
+    (big s p 0 ≡ 0) × (big s p (suc n) ≡ big s p n * 256 + byteAt s (p + n)) × (bytes 0 v ≡ []) × (bytes (suc n) v ≡ bytes n (v / 256) ++ (v % 256 ∷ []))
+unfolding big bytes
+big-endian s p v n = (refl, refl, refl, refl)

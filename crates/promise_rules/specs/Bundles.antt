@@ -5,6 +5,9 @@
 --   entry b n               where the entry of sample n starts
 --   CountAt b p n least most    a count of n bytes at p is there, from least to most
 --   TrackAt, ReferenceAt, EntryAt    an entry of each section follows the rules
+--   TrackSize b k l         the record of track k states the length size l
+--   TrackCount, ReferenceCount, SampleCount    the counts of the sections one to three
+--   TracksOf, ReferencesOf, SamplesOf, BytesOf    the rules of a section hold
 --   BundleOf b              all rules of the bundle hold
 use Prim.Native.Nat.{ℕ, _+_, _-_, _*_, _≤_, _<_}
 use mathlib.Core.Path.{_≡_}
@@ -18,7 +21,6 @@ use Rattle.record_rules.specs.declared.Fields.{Fields}
 use Rattle.numbers.specs.Sizes.{inBytes}
 use Rattle.numbers.specs.declared.Kind.the-variants.{Avc, Svc}
 use Rattle.bundles.specs.Recordings.{Track, Recording, noTrack}
-use Rattle.bundles.specs.References.{lengthSizeOn}
 use Rattle.promise_rules.specs.Records.{RecordOf}
 
 module _ (b : List ℕ) where
@@ -58,13 +60,18 @@ module _ (b : List ℕ) where
     pub extensions : List ℕ
     pub valid : RecordOf fields sequences pictures extensions (byteAt b p) (part b (p + 3) (big b (p + 1) 2))
 
+  -- L of track k is l: its record states it
+  pub record TrackSize (k l : ℕ) : Type 0 where
+    pub track : TrackAt (nth trackPlaces k 0)
+    pub size : track .fields .«length_size» ≡ l
+
   -- both tracks exist, differ, and have the same L
   pub record ReferenceAt (p : ℕ) : Type 0 where
     pub inside : p + 2 ≤ length b
     pub from : (0 < big b p 1) × (big b p 1 ≤ big b 0 1)
     pub to : (0 < big b (p + 1) 1) × (big b (p + 1) 1 ≤ big b 0 1)
     pub apart : big b p 1 ≡ big b (p + 1) 1 → ⊥
-    pub same : lengthSizeOn b (big b p 1) ≡ lengthSizeOn b (big b (p + 1) 1)
+    pub same : (l : ℕ) × TrackSize (big b p 1) l × TrackSize (big b (p + 1) 1) l
 
   -- its track exists; after the entry before it the track never falls, and in the same track the time rises
   pub record EntryAt (n : ℕ) : Type 0 where
@@ -73,17 +80,43 @@ module _ (b : List ℕ) where
     pub order : 1 < n → big b (entry (n - 1)) 1 ≤ big b (entry n) 1
     pub times : 1 < n → big b (entry (n - 1)) 1 ≡ big b (entry n) 1 → big b (entry (n - 1) + 1) 8 < big b (entry n + 1) 8
 
+  -- the counts: 1 to 16 tracks, at most 64 references, at most 4,096 samples
+  abbrev pub TrackCount : Type 0
+  TrackCount = CountAt 0 1 1 16
+
+  abbrev pub ReferenceCount : Type 0
+  ReferenceCount = CountAt two 1 0 64
+
+  abbrev pub SampleCount : Type 0
+  SampleCount = CountAt three 2 0 4096
+
+  -- the sum of the samples' lengths
+  abbrev pub total : ℕ
+  total = sum (map (λ n. big b (entry n + 9) 4) (upto (big b three 2)))
+
+  pub record TracksOf : Type 0 where
+    pub count : TrackCount
+    pub each : (p : ℕ) → p ∈ trackPlaces → TrackAt p
+
+  pub record ReferencesOf : Type 0 where
+    pub count : ReferenceCount
+    pub each : (p : ℕ) → p ∈ referencePlaces → ReferenceAt p
+
+  pub record SamplesOf : Type 0 where
+    pub count : SampleCount
+    pub each : (n : ℕ) → n ∈ upto (big b three 2) → EntryAt n
+
+  -- the fourth count is the sum of the lengths, and the bundle ends after so many bytes
+  pub record BytesOf : Type 0 where
+    pub count : big b four 4 ≡ total
+    pub end : four + 4 + big b four 4 ≡ length b
+
   pub record BundleOf : Type 0 where
     pub short : length b ≤ 16777216
-    pub tracks : CountAt 0 1 1 16
-    pub track : (p : ℕ) → p ∈ trackPlaces → TrackAt p
-    pub references : CountAt two 1 0 64
-    pub reference : (p : ℕ) → p ∈ referencePlaces → ReferenceAt p
-    pub samples : CountAt three 2 0 4096
-    pub sample : (n : ℕ) → 0 < n → n ≤ big b three 2 → EntryAt n
-    -- the fourth count is the sum of the lengths, and the bundle ends after so many bytes
-    pub count : big b four 4 ≡ sum (map (λ n. big b (entry n + 9) 4) (upto (big b three 2)))
-    pub end : four + 4 + big b four 4 ≡ length b
+    pub tracks : TracksOf
+    pub references : ReferencesOf
+    pub samples : SamplesOf
+    pub bytes : BytesOf
 
 -- What an accepted bundle means.
 --

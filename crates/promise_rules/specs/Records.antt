@@ -1,7 +1,8 @@
 -- A configuration record in plain facts, with the numbers of document 01's table 'Configuration records'.
 --
 --   SetAt types s p            a set stands at p: a unit of one of the types after its 2-byte length
---   Sets types s n p           from p on s is n such sets, one after the other, and nothing else
+--   SetsTo types s n p q       from p on n such sets, one after the other, that end at q
+--   Sets types s n p           from p on s is n such sets, and nothing else
 --   Shared f pictures          what both kinds of record have
 --   Trailed t                  the numbers of a trailer fit their bits
 --   RecordOf f sequences pictures extensions kind s    the fields f and their sets are valid, and s is the record that they spell
@@ -24,9 +25,12 @@ pub record SetAt (types s : List ℕ) (p : ℕ) : Type 0 where
   pub top : byteAt s (p + 2) < 128
   pub type : (byteAt s (p + 2) % 32) ∈ types
 
+abbrev pub SetsTo : List ℕ → List ℕ → ℕ → ℕ → ℕ → Type 0
+SetsTo types s zero p q = p ≡ q
+SetsTo types s (suc n) p q = SetAt types s p × SetsTo types s n (p + 2 + big s p 2) q
+
 abbrev pub Sets : List ℕ → List ℕ → ℕ → ℕ → Type 0
-Sets types s zero p = p ≡ length s
-Sets types s (suc n) p = SetAt types s p × Sets types s n (p + 2 + big s p 2)
+Sets types s n p = SetsTo types s n p (length s)
 
 -- the profiles with a trailer
 abbrev pub trailerProfiles : List ℕ
@@ -77,11 +81,3 @@ pub data WriteRefused (kind : ℕ) (f : Fields) (sequences pictures extensions :
   room :
       (s : List ℕ) → RecordOf f sequences pictures extensions kind s → room < length s →
       WriteRefused kind f sequences pictures extensions room 29 0
-
--- when reading is refused: an unknown kind, bytes that are no record
-pub data ReadRefused (kind : ℕ) (s : List ℕ) : ℕ → ℕ → Type 0 where
-  kind : (kind ≡ 0 → ⊥) → (kind ≡ 1 → ⊥) → ReadRefused kind s 4 0
-  bytes :
-      (n : ℕ) → n ∈ (8 ∷ 9 ∷ 10 ∷ 11 ∷ 12 ∷ 13 ∷ []) → (kind ≡ 0) ⊎ (kind ≡ 1) →
-      ((f : Fields) (sequences pictures extensions : List ℕ) → RecordOf f sequences pictures extensions kind s → ⊥) →
-      ReadRefused kind s n 0

@@ -1,7 +1,5 @@
 -- With which number, and where, a call is refused. One case a kind of refusal.
 --
---   BundleRefused b m p           the bundle: 1 to 13, at a place in it or at its end
---   FormRefused x m p             a sample that is not well formed: 14 to 22, at the length field of a unit
 --   CheckRefused kind l s m p     a sample checked outside a bundle: the kind, L, the sample
 --   ExtractorFault r n p m        the extractor at p of sample n breaks a rule: 23 to 28
 --   ExtractorRefused r n m p      sample n, well formed: 23 to 28, at its first extractor that is refused
@@ -16,34 +14,20 @@ use mathlib.Core.Path.{_≡_}
 use mathlib.Core.List.{List, [], _∷_}
 use mathlib.Core.Logic.{_⊎_}
 use lib.ListN.{length}
-use Rattle.words.specs.Refusals.{refused, ok}
+use Rattle.words.specs.Refusals.{ok}
 use Rattle.words.specs.Tests.{_≡?_}
 use Rattle.words.specs.Lists.{_∈_, each, keep}
 use Rattle.units.specs.Units.{Sample, type, topUnits}
 use Rattle.units.specs.Extractors.{trackRefIndex, sampleOffset, dataOffset, dataLength}
 use Rattle.units.specs.Aggregators.{units}
-use Rattle.samples.specs.Check.{check}
-use Rattle.bundles.specs.Recordings.{Recording, sampleCount, trackOf, contentOf}
+use Rattle.bundles.specs.Recordings.{Recording, sampleCount, trackOf}
 use Rattle.bundles.specs.Readers.{firstLayout}
-use Rattle.resolution_rules.specs.Resolving.{sampleOf, Span, judged}
+use Rattle.resolution_rules.specs.Resolving.{sampleOf, Span}
 use Rattle.naming_list_rules.specs.Naming.{namingList}
 use Rattle.promise_rules.specs.Samples.{BorderAt, Formed, Given}
-use Rattle.promise_rules.specs.Bundles.{BundleOf}
+use Rattle.promise_rules.specs.SampleFaults.{FormRefused}
+use Rattle.promise_rules.specs.BundleFaults.{BundleRefused}
 use Rattle.promise_rules.specs.Resolving.{NamedBy, CopyEnds, Extraction, Resolved, afterLength}
-
-pub record BundleRefused (b : List ℕ) (m p : ℕ) : Type 0 where
-  pub refuses : firstLayout .means b ≡ refused m p
-  pub broken : BundleOf b → ⊥
-  pub number : m ∈ (1 ∷ 2 ∷ 3 ∷ 4 ∷ 5 ∷ 6 ∷ 7 ∷ 8 ∷ 9 ∷ 10 ∷ 11 ∷ 12 ∷ 13 ∷ [])
-  pub place : p ≤ length b
-
--- the unit is one of the sample, top-level or included
-pub record FormRefused (x : Sample) (m p : ℕ) : Type 0 where
-  pub refuses : check x ≡ refused m p
-  pub broken : Formed x → ⊥
-  pub number : m ∈ (14 ∷ 15 ∷ 16 ∷ 17 ∷ 18 ∷ 19 ∷ 20 ∷ 21 ∷ 22 ∷ [])
-  pub unit : p ∈ units x
-  pub place : p < length (x .content)
 
 pub data CheckRefused (kind l : ℕ) (s : List ℕ) : ℕ → ℕ → Type 0 where
   kind : (kind ≡ 0 → ⊥) → (kind ≡ 1 → ⊥) → CheckRefused kind l s 4 0
@@ -82,16 +66,12 @@ module _ (r : Recording) (n p : ℕ) where
 
 -- every extractor before it names a sample and copies units of it, by the rules
 pub record ExtractorRefused (r : Recording) (n m p : ℕ) : Type 0 where
-  pub refuses : judged r n ≡ refused m p
   pub formed : Formed (sampleOf r n)
-  pub number : m ∈ (23 ∷ 24 ∷ 25 ∷ 26 ∷ 27 ∷ 28 ∷ [])
-  pub fault : ExtractorFault r n p m
   pub unit : p ∈ units (sampleOf r n)
   pub extractor : type (sampleOf r n) p ≡ 31
-  pub place : p < length (contentOf r n)
-  pub broken : (k : ℕ) (qs : List ℕ) → Extraction r n p k qs → ⊥
   pub earlier :
       (q : ℕ) → q ∈ units (sampleOf r n) → type (sampleOf r n) q ≡ 31 → q < p → (k : ℕ) × (qs : List ℕ) × Extraction r n q k qs
+  pub fault : ExtractorFault r n p m
 
 pub data SampleRefused (r : Recording) (n m p : ℕ) : Type 0 where
   form : 0 < n → n ≤ sampleCount (r .layout) → FormRefused (sampleOf r n) m p → SampleRefused r n m p

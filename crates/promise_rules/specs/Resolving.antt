@@ -10,6 +10,7 @@
 --   Extraction r n p m qs    none of 23 to 28: the extractor names sample m, and stands for its units qs
 --   GoodSample r n           none of 14 to 28
 --   NamesIt r s n p          the extractor at p of sample n, which is well formed, names sample s
+--   LinkedTo r n p k c       its linked track is k, and its base there is sample c
 use Prim.Native.Nat.{ℕ, _+_, _≤_, _<_}
 use mathlib.Core.Path.{_≡_}
 use mathlib.Core.Bool.{not, _&&_}
@@ -82,25 +83,25 @@ module _ (r : Recording) (n : ℕ) where
     pub extracts :
         (p : ℕ) → p ∈ units (sampleOf r n) → type (sampleOf r n) p ≡ 31 → (m : ℕ) × (qs : List ℕ) × Extraction p m qs
 
---   unitIn r m q          the unit at q of sample m, as it is delivered: its sample, its start after the length field, its size
---   Delivery r n ps us    the units at places ps of sample n deliver us, in order: an aggregator's header is dropped, an
+--   deliveredUnit r m q          the unit at q of sample m, as it is delivered: its sample, its start after the length field, its size
+--   Delivers r n ps us    the units at places ps of sample n deliver us, in order: an aggregator's header is dropped, an
 --                         extractor replaced by the units that it copies, any other unit delivered as it stands
 --   afterLength r u       a delivered unit as it is written
 --   Resolved r n us       sample n is good and delivers us
 --   StandsAt b r n u start size    where a delivered unit stands in the bundle
-abbrev pub unitIn : Recording → ℕ → ℕ → Span
-unitIn r m q = record { sample = m; start = q + L (sampleOf r m); size = size (sampleOf r m) q }
+abbrev pub deliveredUnit : Recording → ℕ → ℕ → Span
+deliveredUnit r m q = record { sample = m; start = q + L (sampleOf r m); size = size (sampleOf r m) q }
 
-pub data Delivery (r : Recording) (n : ℕ) : List ℕ → List Span → Type 0 where
-  none : Delivery r n [] []
+pub data Delivers (r : Recording) (n : ℕ) : List ℕ → List Span → Type 0 where
+  none : Delivers r n [] []
   unit :
       (p : ℕ) {ps : List ℕ} {us : List Span} → (type (sampleOf r n) p ≡ 30 → ⊥) → (type (sampleOf r n) p ≡ 31 → ⊥) →
-      Delivery r n ps us → Delivery r n (p ∷ ps) (unitIn r n p ∷ us)
+      Delivers r n ps us → Delivers r n (p ∷ ps) (deliveredUnit r n p ∷ us)
   aggregator :
-      (p : ℕ) {ps : List ℕ} {us : List Span} → type (sampleOf r n) p ≡ 30 → Delivery r n ps us → Delivery r n (p ∷ ps) us
+      (p : ℕ) {ps : List ℕ} {us : List Span} → type (sampleOf r n) p ≡ 30 → Delivers r n ps us → Delivers r n (p ∷ ps) us
   extractor :
       (p m : ℕ) (qs : List ℕ) {ps : List ℕ} {us : List Span} → type (sampleOf r n) p ≡ 31 → Extraction r n p m qs →
-      Delivery r n ps us → Delivery r n (p ∷ ps) (map (unitIn r m) qs ++ us)
+      Delivers r n ps us → Delivers r n (p ∷ ps) (map (deliveredUnit r m) qs ++ us)
 
 -- a delivered unit after its length in 4 bytes
 abbrev pub afterLength : Recording → Span → List ℕ
@@ -111,7 +112,7 @@ pub record Resolved (r : Recording) (n : ℕ) (us : List Span) : Type 0 where
   pub some : 0 < n
   pub there : n ≤ sampleCount (r .layout)
   pub good : GoodSample r n
-  pub delivery : Delivery r n (units (sampleOf r n)) us
+  pub delivery : Delivers r n (units (sampleOf r n)) us
 
 -- where a delivered unit u of sample n stands in the bundle b: in the own sample, or in one that an extractor of it names
 pub record StandsAt (b : List ℕ) (r : Recording) (n : ℕ) (u : Span) (start size : ℕ) : Type 0 where
@@ -129,3 +130,16 @@ pub record NamesIt (r : Recording) (s n p : ℕ) : Type 0 where
   pub unit : p ∈ units (sampleOf r n)
   pub extractor : type (sampleOf r n) p ≡ 31
   pub names : NamedBy (r .layout) n (trackRefIndex (sampleOf r n) p) (sampleOffset (sampleOf r n) p) s
+
+-- the extractor at p of sample n, which is well formed: a reference leads to track k, and c is the base there
+pub record LinkedTo (r : Recording) (n p k c : ℕ) : Type 0 where
+  pub some : 0 < n
+  pub there : n ≤ sampleCount (r .layout)
+  pub formed : Formed (sampleOf r n)
+  pub unit : p ∈ units (sampleOf r n)
+  pub extractor : type (sampleOf r n) p ≡ 31
+  pub first : 0 < trackRefIndex (sampleOf r n) p
+  pub last : trackRefIndex (sampleOf r n) p ≤ length (keep (λ f. (f .from) ≡? trackOf (r .layout) n) (r .layout .references))
+  pub reference :
+      nth (keep (λ f. (f .from) ≡? trackOf (r .layout) n) (r .layout .references)) (trackRefIndex (sampleOf r n) p) noReference .to ≡ k
+  pub base : BaseOf (r .layout) n k c

@@ -1,27 +1,61 @@
 -- The answers that the C functions give back (crates/puddockle/specs/Returns says how), one case a function.
 --
---   OutputAnswer a     of a function that writes bytes to an output buffer and returns their count
+--   OutputAnswer o a   of a function that writes bytes to an output buffer, which was o, and returns their count
 --   VerdictAnswer a    of a function that only checks
+--
+-- and what a caller gets for an answer a: the number returned, 0 exactly if accepted; the place; and
+--
+--   OutputGiven a o n p c o'       the count, and the output buffer, which was o, as o'
+--   NumbersGiven a o n p o'        the numbers of a record, over the start of a lent array
+--   VerdictGiven a n p             nothing besides
+--   PartGiven a n p start size     a part of the bundle
+--   TallyGiven a x y z             the three numbers of a tally
 use Prim.Native.Nat.{ℕ}
-use mathlib.Core.List.{List}
-use Rattle.words.specs.Refusals.{Answer, Verdict}
+use mathlib.Core.Path.{_≡_}
+use mathlib.Core.List.{List, _++_}
+use lib.ListN.{length, drop}
+use Rattle.words.specs.RefusalNumbers.{refusalNumbers}
+use Rattle.words.specs.Refusals.{Answer, refused, ok, Verdict}
+use Rattle.words.specs.Lists.{_∈_}
 use Rattle.words.specs.Bytes.{Bytes}
 use Rattle.record_numbers.specs.Numbers.{writeNumbers}
 use Rattle.samples.specs.Check.{checkAlone}
 use Rattle.bundles.specs.Bundles.{bundleVerdict}
 use Rattle.bundles.specs.Readers.{firstLayout}
-use Rattle.resolution_rules.specs.Calls.{resolveCall}
+use Rattle.resolution_rules.specs.Calls.{BundlePart, resolveCall}
 use Rattle.naming_list_rules.specs.Naming.{namesCall}
+use Rattle.tally.specs.declared.Tally.{Tally}
 use Rattle.audit_rules.specs.Auditing.{auditCall}
 
-pub data OutputAnswer : Answer (List ℕ) → Type 0 where
+pub data OutputAnswer (o : List ℕ) : Answer (List ℕ) → Type 0 where
   write :
-      (kind : ℕ) (numbers sequences pictures extensions : List ℕ) (room : ℕ) →
-      OutputAnswer (writeNumbers kind numbers sequences pictures extensions room)
-  resolve : (b : List ℕ) → Bytes b → (n room : ℕ) → OutputAnswer (resolveCall firstLayout b n room)
-  names : (b : List ℕ) → Bytes b → (s room : ℕ) → OutputAnswer (namesCall firstLayout b s room)
-  audit : (b : List ℕ) → Bytes b → (room : ℕ) → OutputAnswer (auditCall firstLayout b room)
+      (kind : ℕ) (numbers sequences pictures extensions : List ℕ) →
+      OutputAnswer o (writeNumbers kind numbers sequences pictures extensions (length o))
+  resolve : (b : List ℕ) → Bytes b → (n : ℕ) → OutputAnswer o (resolveCall firstLayout b n (length o))
+  names : (b : List ℕ) → Bytes b → (s : ℕ) → OutputAnswer o (namesCall firstLayout b s (length o))
+  audit : (b : List ℕ) → Bytes b → OutputAnswer o (auditCall firstLayout b (length o))
 
 pub data VerdictAnswer : Verdict → Type 0 where
   bundle : (b : List ℕ) → VerdictAnswer (bundleVerdict b)
   sample : (kind l : ℕ) (s : List ℕ) → VerdictAnswer (checkAlone kind l s)
+
+-- accepted: 0 at 0, and what was answered; refused: a number of the table and its place, every other number 0, every buffer as it was
+pub data OutputGiven (a : Answer (List ℕ)) (o : List ℕ) : ℕ → ℕ → ℕ → List ℕ → Type 0 where
+  accepted : (out : List ℕ) → a ≡ ok out → OutputGiven a o 0 0 (length out) (out ++ drop (length out) o)
+  refuses : {n p : ℕ} → n ∈ refusalNumbers → a ≡ refused n p → OutputGiven a o n p 0 o
+
+pub data NumbersGiven (a : Answer (List ℕ)) (o : List ℕ) : ℕ → ℕ → List ℕ → Type 0 where
+  accepted : (ns : List ℕ) → a ≡ ok ns → NumbersGiven a o 0 0 (ns ++ drop (length ns) o)
+  refuses : {n p : ℕ} → n ∈ refusalNumbers → a ≡ refused n p → NumbersGiven a o n p o
+
+pub data VerdictGiven (a : Verdict) : ℕ → ℕ → Type 0 where
+  accepted : a ≡ ok tt → VerdictGiven a 0 0
+  refuses : {n p : ℕ} → n ∈ refusalNumbers → a ≡ refused n p → VerdictGiven a n p
+
+pub data PartGiven (a : Answer BundlePart) : ℕ → ℕ → ℕ → ℕ → Type 0 where
+  accepted : (start size : ℕ) → a ≡ ok (record { start = start; size = size }) → PartGiven a 0 0 start size
+  refuses : {n p : ℕ} → n ∈ refusalNumbers → a ≡ refused n p → PartGiven a n p 0 0
+
+pub data TallyGiven (a : Answer Tally) : ℕ → ℕ → ℕ → Type 0 where
+  accepted : (x y z : ℕ) → a ≡ ok (record { passed = x; empty = y; refused = z }) → TallyGiven a x y z
+  refuses : {n p : ℕ} → a ≡ refused n p → TallyGiven a 0 0 0

@@ -4,6 +4,8 @@
 --   UnitAt x e p     the unit at p is whole, in what ends at e
 --   BorderAt x q     q is the start of a top-level unit, or the end of the sample
 --   IncludedAt x e q the unit at q may be included in an aggregator that ends at e
+--   CoverAt x p      what the aggregator at p covers follows the rules
+--   ContentAt x p    so does what stands in the top-level unit at p
 --   Formed x         the sample is well formed
 --   Given k l s x    x is what a call outside a bundle is given: a kind, 0 for AVC or 1 for SVC; L, 1, 2 or 4; the bytes
 use Prim.Native.Nat.{ℕ, _+_, _*_, _≤_, _<_}
@@ -38,16 +40,20 @@ module _ (x : Sample) where
     pub slice : x .kind ≡ Avc → 1 ≤ type x q → type x q ≤ 5 → ⊥
     pub extractor : type x q ≡ 31 → size x q ≡ 6 + 2 * L x
 
+  -- 21: additional_bytes end on a border, and cover no aggregator
+  pub record CoverAt (p : ℕ) : Type 0 where
+    pub ends : BorderAt (next x p + additionalBytes x p)
+    pub clear : (q : ℕ) → q ∈ topUnits x → next x p ≤ q → q < next x p + additionalBytes x p → type x q ≡ 30 → ⊥
+
+  pub record ContentAt (p : ℕ) : Type 0 where
+    pub inside : type x p ≡ 30 → (q : ℕ) → q ∈ included x p → IncludedAt (next x p) q
+    pub covers : type x p ≡ 30 → CoverAt p
+    -- 22
+    pub extractor : type x p ≡ 31 → size x p ≡ 6 + 2 * L x
+
   pub record Formed : Type 0 where
     pub tops : (p : ℕ) → p ∈ topUnits x → UnitAt (length (x .content)) p
-    pub inside : (p q : ℕ) → p ∈ topUnits x → type x p ≡ 30 → q ∈ included x p → IncludedAt (next x p) q
-    -- 21: additional_bytes end on a border, and cover no aggregator
-    pub covers : (p : ℕ) → p ∈ topUnits x → type x p ≡ 30 → BorderAt (next x p + additionalBytes x p)
-    pub clear :
-        (p q : ℕ) → p ∈ topUnits x → type x p ≡ 30 → q ∈ topUnits x → next x p ≤ q → q < next x p + additionalBytes x p →
-        type x q ≡ 30 → ⊥
-    -- 22
-    pub extractors : (p : ℕ) → p ∈ topUnits x → type x p ≡ 31 → size x p ≡ 6 + 2 * L x
+    pub contents : (p : ℕ) → p ∈ topUnits x → ContentAt p
 
 pub record Given (k l : ℕ) (s : List ℕ) (x : Sample) : Type 0 where
   pub kind : ((k ≡ 0) × (x .kind ≡ Avc)) ⊎ ((k ≡ 1) × (x .kind ≡ Svc))

@@ -1,5 +1,6 @@
 -- What the words for units mean, in bytes and numbers (01, 'Units in a sample', 'The bundle'). A byte past the end reads as 0.
 --
+--   Walk x a e ps    a walk from unit to unit, from a up to e, whole or not, meets units at ps
 --   FieldsAt x p     the fields of the unit at p of sample x
 --   Laid x a e ps    the units ps lie without gap or overlap from a to e
 --   UnitsOf x        the units of a well-formed sample: all of it, in order
@@ -22,12 +23,18 @@ use Rattle.bundles.specs.Readers.{firstLayout}
 use Rattle.resolution_rules.specs.Resolving.{sampleOf, Span}
 use Rattle.resolution_rules.specs.Calls.{unitCall, placeCall, unitPart}
 use Rattle.promise_rules.specs.Bundles.{four, entry, trackPlaces, TrackMeans}
+use Rattle.promise_rules.specs.Resolving.{StandsAt}
 
 -- the kind and L that a sample is read with
 abbrev pub trackAs : Sample → Track
 trackAs x = record { kind = x .kind; lengthSize = x .lengthSize }
 
 module _ (x : Sample) where
+  -- each starts where the one before ends, the first at a, as long as that is before e
+  pub data Walk : ℕ → ℕ → List ℕ → Type 0 where
+    end : {a e : ℕ} → e ≤ a → Walk a e []
+    unit : {p e : ℕ} {ps : List ℕ} → p < e → Walk (p + L x + big (x .content) p (L x)) e ps → Walk p e (p ∷ ps)
+
   pub record FieldsAt (p : ℕ) : Type 0 where
     -- L is 1, 2 or 4; a unit is its length in L bytes, then so many bytes; its type is the low five bits of the first
     pub one : x .lengthSize ≡ One → L x ≡ 1
@@ -40,6 +47,9 @@ module _ (x : Sample) where
     -- an aggregator: after a header of 4 bytes additional_bytes in L bytes, then the included units
     pub additional : additionalBytes x p ≡ big (x .content) (p + L x + 4) (L x)
     pub inner : includedStart x p ≡ p + L x + 4 + L x
+    -- where units stand, in any bytes: the top-level ones; those included in an aggregator at p
+    pub tops : Walk 0 (length (x .content)) (topUnits x)
+    pub inside : Walk (p + L x + 4 + L x) (p + L x + big (x .content) p (L x)) (included x p)
     -- an extractor: after the header track_ref_index and sample_offset in a byte each, data_offset and data_length in L
     pub index : trackRefIndex x p ≡ byteAt (x .content) (p + L x + 4)
     pub samples : sampleOffset x p ≡ byteAt (x .content) (p + L x + 5)
@@ -81,5 +91,5 @@ pub record SampleMeans (b : List ℕ) (r : Recording) (n : ℕ) : Type 0 where
 -- what the calls for the kth unit that sample n delivers, u, give: where it stands, in its sample; its bytes
 pub record PlacedAt (b : List ℕ) (r : Recording) (n k : ℕ) (u : Span) : Type 0 where
   pub there : placeCall firstLayout b n k ≡ ok (record { start = sampleStart b (u .sample) + u .start; size = u .size })
-  pub inside : u .start + u .size ≤ length (contentOf r (u .sample))
+  pub stands : StandsAt b r n u (sampleStart b (u .sample) + u .start) (u .size)
   pub lent : unitPart firstLayout b (unitCall firstLayout b n k) ≡ part (contentOf r (u .sample)) (u .start) (u .size)

@@ -21,7 +21,7 @@ use Rattle.bundles.specs.Recordings.{referencesFrom, samplesIn}
 use Rattle.bundles.specs.Tracks.{sizeAt, trackFault, tracksVerdict, tracks, referencesAt}
 use Rattle.bundles.specs.References.{noSuchTrack, referenceFault, referencesVerdict, references, samplesAt}
 use Rattle.bundles.specs.Samples.{orderFault, entryFault, samplesVerdict, sampleEntries, lengths, byteCountAt}
-use Rattle.bundles.specs.Bundles.{endFault, bytesVerdict, bundleVerdict, layoutOf, recordingOf, meaning}
+use Rattle.bundles.specs.Bundles.{byteCountFault, bytesVerdict, bundleVerdict, layoutOf, recordingOf, meaning}
 use Rattle.bundles.specs.Readers.{firstLayout}
 use Rattle.links.specs.Links.{linkFault, linkedTrack, base, sampleNamed, nameFault}
 use Rattle.copies.specs.Copies.{copyEnd, copied, borderFault, copyFault}
@@ -165,8 +165,8 @@ unfolding table gives passes refuses fails recordVerdict bundle slice extractor 
     size type unitFault placesFrom topUnits border topBetween coverFault includedFault withIncluded units extractors
     insideVerdict coverVerdict contentVerdict check
     countFault referencesFrom samplesIn sizeAt trackFault tracksVerdict tracks referencesAt noSuchTrack referenceFault referencesVerdict
-    references samplesAt orderFault entryFault samplesVerdict sampleEntries lengths byteCountAt endFault bytesVerdict bundleVerdict layoutOf
-    recordingOf meaning
+    references samplesAt orderFault entryFault samplesVerdict sampleEntries lengths byteCountAt byteCountFault bytesVerdict bundleVerdict
+    layoutOf recordingOf meaning
     linkFault linkedTrack base sampleNamed nameFault
     copyEnd copied borderFault copyFault
     sampleOf named nameFaultAt copyFaultAt extractFault copiedAt deliveredAt delivered judged written output numberFault resolve

@@ -1,7 +1,7 @@
 // Bundles.
 ghost use Rattle.bundles.specs.Bundles.{bundleVerdict};
 ghost use Rattle.puddockle.specs.Returns.{Returned};
-use crate::refusal;
+use crate::answer;
 use bundles::Checked;
 
 #[no_mangle]
@@ -11,7 +11,7 @@ pub extern "C" fn puddockle_check_bundle(bundle: &[u8], place: &mut u64) -> u32
     *place = 0;
     let checked = bundles::check_bundle(bundle);
     match checked {
-        Checked::Refused(f) => refusal::refused(f, place),
+        Checked::Refused(f) => answer::refused(f, place),
         Checked::Accepted => 0,
     }
 }

@@ -1,7 +1,7 @@
 // The C interface: include/puddockle.h says what each function takes and gives.
+mod answer;
 mod bundle;
 mod numbered;
 mod record;
-mod refusal;
 mod report;
 mod sample;

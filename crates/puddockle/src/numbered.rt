@@ -4,10 +4,9 @@ ghost use Rattle.bundles.specs.Readers.{firstLayout};
 ghost use Rattle.resolution_rules.specs.Calls.{resolveCall, placeCall};
 ghost use Rattle.naming_list_rules.specs.Naming.{namesCall};
 ghost use Rattle.puddockle.specs.Returns.{ReturnedOutput, ReturnedPart};
-use crate::refusal;
+use crate::answer;
+use delivered_unit::UnitPlaced;
 use numbers::SampleNumber;
-use numbers::Written;
-use resolution::UnitPlaced;
 
 #[no_mangle]
 pub extern "C" fn puddockle_resolve(
@@ -20,16 +19,8 @@ pub extern "C" fn puddockle_resolve(
     ensures { λ r. ⌜ ReturnedOutput r (now (place .exit)) (now (count .exit)) (now (out .entry)) (now (out .exit))
         (resolveCall firstLayout (now (bundle .entry)) sample (length (now (out .entry)))) ⌝ }
 {
-    *place = 0;
-    *count = 0;
     let resolved = resolution::resolve(bundle, SampleNumber(sample as usize), out);
-    match resolved {
-        Written::Refused(f) => refusal::refused(f, place),
-        Written::Count(n) => {
-            *count = n as u64;
-            0
-        }
-    }
+    answer::written(resolved, place, count)
 }
 
 #[no_mangle]
@@ -46,9 +37,9 @@ pub extern "C" fn puddockle_unit(
     *place = 0;
     *start = 0;
     *size = 0;
-    let placed = resolution::unit_place(bundle, SampleNumber(sample as usize), unit as usize);
+    let placed = delivered_unit::unit_place(bundle, SampleNumber(sample as usize), unit as usize);
     match placed {
-        UnitPlaced::Refused(f) => refusal::refused(f, place),
+        UnitPlaced::Refused(f) => answer::refused(f, place),
         UnitPlaced::Part(u) => {
             let at = u.start;
             *start = at.0 as u64;
@@ -69,14 +60,6 @@ pub extern "C" fn puddockle_names(
     ensures { λ r. ⌜ ReturnedOutput r (now (place .exit)) (now (count .exit)) (now (out .entry)) (now (out .exit))
         (namesCall firstLayout (now (bundle .entry)) sample (length (now (out .entry)))) ⌝ }
 {
-    *place = 0;
-    *count = 0;
     let listed = naming_list::names(bundle, SampleNumber(sample as usize), out);
-    match listed {
-        Written::Refused(f) => refusal::refused(f, place),
-        Written::Count(size) => {
-            *count = size as u64;
-            0
-        }
-    }
+    answer::written(listed, place, count)
 }

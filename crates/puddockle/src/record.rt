@@ -4,8 +4,7 @@ ghost use lib.ListN.{length};
 ghost use Rattle.words.specs.Buffers.{leaves};
 ghost use Rattle.record_numbers.specs.Numbers.{readNumbers, writeNumbers};
 ghost use Rattle.puddockle.specs.Returns.{Returned, ReturnedOutput};
-use crate::refusal;
-use numbers::Written;
+use crate::answer;
 
 #[no_mangle]
 pub extern "C" fn puddockle_read_record(
@@ -17,12 +16,9 @@ pub extern "C" fn puddockle_read_record(
     ensures { λ r. ⌜ Returned r (now (place .exit)) (readNumbers kind (now («record» .entry)) (length (now (fields .entry))))
         × (now (fields .exit) ≡ leaves (now (fields .entry)) (readNumbers kind (now («record» .entry)) (length (now (fields .entry))))) ⌝ }
 {
-    *place = 0;
+    let mut count: u64 = 0;
     let numbered = record_numbers::read(kind, record, fields);
-    match numbered {
-        Written::Refused(f) => refusal::refused(f, place),
-        Written::Count(_) => 0,
-    }
+    answer::written(numbered, place, &mut count)
 }
 
 #[no_mangle]
@@ -39,14 +35,6 @@ pub extern "C" fn puddockle_write_record(
     ensures { λ r. ⌜ ReturnedOutput r (now (place .exit)) (now (count .exit)) (now (out .entry)) (now (out .exit))
         (writeNumbers kind (now (fields .entry)) (now (sequence .entry)) (now (picture .entry)) (now (extension .entry)) (length (now (out .entry)))) ⌝ }
 {
-    *place = 0;
-    *count = 0;
     let written = record_numbers::write(kind, fields, sequence, picture, extension, out);
-    match written {
-        Written::Refused(f) => refusal::refused(f, place),
-        Written::Count(n) => {
-            *count = n as u64;
-            0
-        }
-    }
+    answer::written(written, place, count)
 }

@@ -3,7 +3,7 @@ ghost use lib.ListN.{length};
 ghost use Rattle.bundles.specs.Readers.{firstLayout};
 ghost use Rattle.audit_rules.specs.Auditing.{auditCall, tallyCall};
 ghost use Rattle.puddockle.specs.Returns.{ReturnedOutput, ReturnedTally};
-use crate::refusal;
+use crate::answer;
 use audit::Audited;
 
 #[no_mangle]
@@ -27,7 +27,7 @@ pub extern "C" fn puddockle_audit(
     *refused = 0;
     let audited = audit::audit(bundle, lines);
     match audited {
-        Audited::Refused(f) => refusal::refused(f, place),
+        Audited::Refused(f) => answer::refused(f, place),
         Audited::Done(report) => {
             let tally = report.tally;
             *count = report.count as u64;

@@ -1,7 +1,7 @@
 // One sample outside a bundle.
 ghost use Rattle.samples.specs.Check.{checkAlone};
 ghost use Rattle.puddockle.specs.Returns.{Returned};
-use crate::refusal;
+use crate::answer;
 use samples::Checked;
 
 #[no_mangle]
@@ -16,7 +16,7 @@ pub extern "C" fn puddockle_check_sample(
     *place = 0;
     let checked = samples::check(kind, length_size, sample);
     match checked {
-        Checked::Refused(f) => refusal::refused(f, place),
+        Checked::Refused(f) => answer::refused(f, place),
         Checked::WellFormed => 0,
     }
 }

@@ -21,7 +21,7 @@ use Rattle.numbers.specs.declared.Kind.{Kind}
 use Rattle.sets.specs.Sets.{setsFault, setsEnd, exactly}
 use Rattle.sets.specs.declared.SetTypes.{SetTypes}
 use Rattle.sets.proofs.Laws.{sets-inside}
-use Rattle.record_rules.specs.Layout.{Sound, recordLayout, byteOf, fixedIn, valueIn, pictureTypes, flagIn, flagsByte, missing, byteFault}
+use Rattle.record_rules.specs.Layout.{SoundShape, recordLayout, byteOf, fixedIn, valueIn, pictureTypes, flagIn, flagsByte, missing, byteFault}
 use Rattle.record_rules.specs.Trailers.{extensionTypes, chromaShape, depthShape, hasTrailer, valuesFault, highBytes, highOf, ending, endingOf}
 use Rattle.record_rules.specs.Read.{lengthSize, headFault, sequenceCount, sequencesFault, sequencesEnd, pictureCount, picturesFault, picturesEnd, followFault, trailerOf, extensionsAt, recordEnd, recordFault, fieldsOf, recordOf}
 use Rattle.record_rules.specs.Fields.{flagsOf, recordBytes, placed}
@@ -40,11 +40,11 @@ byte-fits : (s : List ℕ) (h : Shape) (p : ℕ) → p < length s → fixedIn h 
 unfolding byteFault
 byte-fits s h p l e = rw (lt-leb (length s) p l, eq-eqb (fixedIn h (byteAt s p)) (h .fixed) e)
 
-made : (s : List ℕ) (h : Shape) (p v : ℕ) → Sound h → p < length s → v < h .low → byteAt s p % h .unit ≡ byteOf h v → byteFault s h p ≡ 0
+made : (s : List ℕ) (h : Shape) (p v : ℕ) → SoundShape h → p < length s → v < h .low → byteAt s p % h .unit ≡ byteOf h v → byteFault s h p ≡ 0
 made s h p v g l m e = byte-fits s h p l (fixed-back h g v m (byteAt s p) e)
 
 -- the same without flags
-plain : (s : List ℕ) (h : Shape) (p v : ℕ) → Sound h → v < h .low → byteAt s p ≡ byteOf h v → byteAt s p % h .unit ≡ byteOf h v
+plain : (s : List ℕ) (h : Shape) (p v : ℕ) → SoundShape h → v < h .low → byteAt s p ≡ byteOf h v → byteAt s p % h .unit ≡ byteOf h v
 plain s h p v g m e = rw e (plain-rest h g v m)
 
 -- sets b that stand in s at p, and end where b ends

@@ -20,10 +20,10 @@ use Rattle.words.specs.Tests.{_≡?_}
 use Rattle.words.proofs.Tests.{by-bool, true-false}
 use Rattle.numbers.specs.declared.Kind.{Kind}
 use Rattle.numbers.specs.declared.Kind.the-variants.{Avc, Svc}
-use Rattle.record_rules.specs.Layout.{Sound, recordLayout, byteOf, fixedIn, valueIn, bit, flagOf, flagFits, flagIn, flagsByte, flagsFit}
+use Rattle.record_rules.specs.Layout.{SoundShape, recordLayout, byteOf, fixedIn, valueIn, bit, flagOf, flagFits, flagIn, flagsByte, flagsFit}
 use Rattle.record_rules.specs.Trailers.{chromaShape, depthShape}
 use Rattle.record_rules.specs.declared.Shape.{Shape}
-use Rattle.record_rules.specs.declared.Layout.{Layout}
+use Rattle.record_rules.specs.declared.RecordLayout.{RecordLayout}
 use Rattle.record_rules.specs.declared.Flag.{Flag}
 use Rattle.record_rules.specs.declared.Flag.the-variants.{Absent, Clear, Set}
 
@@ -36,7 +36,7 @@ byte-rest h b e =
 pub plain-byte : (h : Shape) (b : ℕ) → h .unit ≡ 256 → b < 256 → fixedIn h b ≡ h .fixed → byteOf h (valueIn h b) ≡ b
 plain-byte h b u l e = byte-rest h b e ∙ rw u (mod-eq-of-lt l)
 
-module _ (h : Shape) (g : Sound h) (v : ℕ) (l : v < h .low) where
+module _ (h : Shape) (g : SoundShape h) (v : ℕ) (l : v < h .low) where
   pub byte-below : byteOf h v < h .unit
   byte-below = omega (arith, g .fixed)
 
@@ -54,26 +54,26 @@ module _ (h : Shape) (g : Sound h) (v : ℕ) (l : v < h .low) where
     pub value-back : valueIn h b ≡ v
     value-back = ap (λ (x : ℕ). x % h .low) rest ∙ mul-add-mod-self-right (h .fixed) (h .low) v ∙ mod-eq-of-lt l
 
-pub value-below : (h : Shape) (b : ℕ) → Sound h → valueIn h b < h .low
+pub value-below : (h : Shape) (b : ℕ) → SoundShape h → valueIn h b < h .low
 value-below h b g = mod-lt _ (g .low)
 
-pub value-byte : (h : Shape) (b : ℕ) → Sound h → valueIn h b < 256
+pub value-byte : (h : Shape) (b : ℕ) → SoundShape h → valueIn h b < 256
 value-byte h b g = omega (arith, value-below h b g, g .fixed, g .byte)
 
-sound : (h : Shape) → 0 < h .unit → 0 < h .low → h .fixed * h .low + h .low ≤ h .unit → h .unit ≤ 256 → Sound h
+sound : (h : Shape) → 0 < h .unit → 0 < h .low → h .fixed * h .low + h .low ≤ h .unit → h .unit ≤ 256 → SoundShape h
 sound h a b c d = record { unit = a; low = b; fixed = c; byte = d }
 
-pub sound-chroma : Sound chromaShape
+pub sound-chroma : SoundShape chromaShape
 sound-chroma = sound chromaShape (lit< tt) (lit< tt) (lit≤ tt) (lit≤ tt)
 
-pub sound-depth : Sound depthShape
+pub sound-depth : SoundShape depthShape
 sound-depth = sound depthShape (lit< tt) (lit< tt) (lit≤ tt) (lit≤ tt)
 
 -- What holds of each kind's row: its shapes are sound, a length size is at most 4, and no flags stand before the number of sequence sets.
-pub record Row (l : Layout) : Type 0 where
-  pub «length_size» : Sound (l .«length_size»)
+pub record Row (l : RecordLayout) : Type 0 where
+  pub «length_size» : SoundShape (l .«length_size»)
   pub low : l .«length_size» .low ≡ 4
-  pub count : Sound (l .count)
+  pub count : SoundShape (l .count)
   pub unit : l .count .unit ≡ 256
 
 pub row : (k : Kind) → Row (recordLayout k)

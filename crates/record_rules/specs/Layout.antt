@@ -6,7 +6,7 @@
 --   n ones v bits, n zeros v bits              a byte of n fixed bits and a value of v bits; what stands above them are flags
 --   fixedIn h b, valueIn h b                   the fixed bits and the value of the byte b by the shape h
 --   byteOf h v, isByte v                       the byte of a value, without flags; whether a number fits a byte
---   Sound h                                    what holds of every shape
+--   SoundShape h                                    what holds of every shape
 --   recordLayout k                             the row of kind k
 --   pictureTypes                               the types of picture sets
 --   bit f, flagOf has n, flagFits has f        a flag as a bit, as it is read, and whether it fits
@@ -24,9 +24,10 @@ use Rattle.words.specs.Refusals.{_if_, _orElse_}
 use Rattle.words.specs.Bytes.{byteAt}
 use Rattle.numbers.specs.declared.Kind.{Kind}
 use Rattle.numbers.specs.declared.Kind.the-variants.{Avc, Svc}
+use Rattle.sets.specs.Sets.{sequenceSetType, subsetSetType, pictureSetType}
 use Rattle.sets.specs.declared.SetTypes.{SetTypes}
 use Rattle.record_rules.specs.declared.Shape.{Shape}
-use Rattle.record_rules.specs.declared.Layout.{Layout}
+use Rattle.record_rules.specs.declared.RecordLayout.{RecordLayout}
 use Rattle.record_rules.specs.declared.Flag.{Flag}
 use Rattle.record_rules.specs.declared.Flag.the-variants.{Absent, Clear, Set}
 
@@ -80,7 +81,7 @@ abbrev pub isByte : ℕ → Bool
 isByte v = v <? 2 ^ 8
 
 -- fixed bits and value lie below the flags
-pub record Sound (h : Shape) : Type 0 where
+pub record SoundShape (h : Shape) : Type 0 where
   pub unit : 0 < h .unit
   pub low : 0 < h .low
   pub fixed : h .fixed * h .low + h .low ≤ h .unit
@@ -88,13 +89,13 @@ pub record Sound (h : Shape) : Type 0 where
 
 -- What the kinds differ in: the byte of the length size less one and how many flags it begins with, the byte of the number of sequence
 -- sets, the types of these, and whether the high profiles have a trailer.
-abbrev pub recordLayout : Kind → Layout
+abbrev pub recordLayout : Kind → RecordLayout
 recordLayout Avc =
     record {
       flags = 0;
       «length_size» = 6 ones 2 bits;
       count = 3 ones 5 bits;
-      sequence = record { one = 7; other = 7 };
+      sequence = record { one = sequenceSetType; other = sequenceSetType };
       trailer = true;
     }
 recordLayout Svc =
@@ -102,12 +103,12 @@ recordLayout Svc =
       flags = 1;
       «length_size» = 5 ones 2 bits;
       count = 1 zeros 7 bits;
-      sequence = record { one = 7; other = 15 };
+      sequence = record { one = sequenceSetType; other = subsetSetType };
       trailer = false;
     }
 
 abbrev pub pictureTypes : SetTypes
-pictureTypes = record { one = 8; other = 8 }
+pictureTypes = record { one = pictureSetType; other = pictureSetType }
 
 -- A flag: as a bit; as it is read from one, where a record has it; and whether it is given exactly where a record has it.
 abbrev pub bit : Flag → ℕ

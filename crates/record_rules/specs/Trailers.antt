@@ -15,6 +15,7 @@ use Rattle.words.specs.Tests.{_<?_, _≡?_, pick, all}
 use Rattle.words.specs.Refusals.{_orElse_}
 use Rattle.words.specs.Bytes.{byteAt}
 use Rattle.numbers.specs.declared.Kind.{Kind}
+use Rattle.sets.specs.Sets.{extensionSetType}
 use Rattle.sets.specs.declared.SetTypes.{SetTypes}
 use Rattle.record_rules.specs.Layout.{recordLayout, profileAt, _ones_bits, valueIn, byteOf, isByte, missing, byteFault}
 use Rattle.record_rules.specs.declared.Shape.{Shape}
@@ -37,7 +38,7 @@ abbrev pub depthShape : Shape
 depthShape = 5 ones 3 bits
 
 abbrev pub extensionTypes : SetTypes
-extensionTypes = record { one = 13; other = 13 }
+extensionTypes = record { one = extensionSetType; other = extensionSetType }
 
 abbrev pub highBytes : High → List ℕ
 highBytes t = byteOf chromaShape (t .format) ∷ byteOf depthShape (t .luma) ∷ byteOf depthShape (t .chroma) ∷ t .extensions ∷ []

@@ -2,7 +2,7 @@
 ghost use mathlib.Core.Path.{_≡_};
 ghost use Rattle.record_rules.specs.Layout.{recordLayout};
 ghost use Rattle.record_rules.specs.Trailers.{hasTrailer};
-use crate::Layout;
+use crate::RecordLayout;
 use crate::Shape;
 use numbers::Kind;
 use sets::SetTypes;
@@ -33,9 +33,15 @@ pub const BAD_SIZE: usize = 3;
 // What complete_representation, the first flag, counts in its byte.
 pub const COMPLETE: u8 = 128;
 
-pub const PICTURE_TYPES: SetTypes = SetTypes { one: 8, other: 8 };
+pub const PICTURE_TYPES: SetTypes = SetTypes {
+    one: sets::PICTURE_SET,
+    other: sets::PICTURE_SET,
+};
 
-pub const EXTENSION_TYPES: SetTypes = SetTypes { one: 13, other: 13 };
+pub const EXTENSION_TYPES: SetTypes = SetTypes {
+    one: sets::EXTENSION_SET,
+    other: sets::EXTENSION_SET,
+};
 
 // The byte of a trailer with its chroma_format.
 pub const CHROMA: Shape = Shape {
@@ -52,11 +58,11 @@ pub const DEPTH: Shape = Shape {
 };
 
 // The row of a kind.
-pub fn record_layout(k: Kind) -> Layout
+pub fn record_layout(k: Kind) -> RecordLayout
     ensures { λ r. ⌜ r ≡ recordLayout k ⌝ }
 {
     match k {
-        Kind::Avc => Layout {
+        Kind::Avc => RecordLayout {
             flags: 0,
             length_size: Shape {
                 unit: 256,
@@ -68,10 +74,13 @@ pub fn record_layout(k: Kind) -> Layout
                 fixed: 7,
                 low: 32,
             },
-            sequence: SetTypes { one: 7, other: 7 },
+            sequence: SetTypes {
+                one: sets::SEQUENCE_SET,
+                other: sets::SEQUENCE_SET,
+            },
             trailer: true,
         },
-        Kind::Svc => Layout {
+        Kind::Svc => RecordLayout {
             flags: 1,
             length_size: Shape {
                 unit: 128,
@@ -83,7 +92,10 @@ pub fn record_layout(k: Kind) -> Layout
                 fixed: 0,
                 low: 128,
             },
-            sequence: SetTypes { one: 7, other: 15 },
+            sequence: SetTypes {
+                one: sets::SEQUENCE_SET,
+                other: sets::SUBSET_SET,
+            },
             trailer: false,
         },
     }

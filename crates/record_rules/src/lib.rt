@@ -16,7 +16,7 @@ pub struct Shape {
 }
 
 // What the kinds of record differ in: a kind is one row.
-pub struct Layout {
+pub struct RecordLayout {
     // how many flags stand at the top of the byte with the length size
     pub flags: usize,
     // the byte with the length size less one

@@ -5,7 +5,7 @@ ghost use lib.ListN.{length};
 ghost use Rattle.words.specs.Refusals.{_orElse_};
 ghost use Rattle.words.specs.Bytes.{byteAt};
 ghost use Rattle.sets.specs.Sets.{setsFault, setsEnd};
-ghost use Rattle.record_rules.specs.Layout.{Sound, recordLayout, valueIn, flagOf, pictureTypes, missing, byteFault};
+ghost use Rattle.record_rules.specs.Layout.{SoundShape, recordLayout, valueIn, flagOf, pictureTypes, missing, byteFault};
 ghost use Rattle.record_rules.specs.Trailers.{extensionTypes, valuesFault, highOf};
 ghost use Rattle.record_rules.specs.Read.{headFault, sequencesFault, sequencesEnd, picturesEnd, fieldsOf, trailerOf};
 ghost use Rattle.records.specs.Steps.{Walked, Followed};
@@ -22,7 +22,7 @@ use sets::Walk;
 
 // The value of a byte.
 pub(crate) fn value_in(h: Shape, b: u8) -> usize
-    requires { ⌜ Sound h ⌝ }
+    requires { ⌜ SoundShape h ⌝ }
     ensures { λ r. ⌜ r ≡ valueIn h b ⌝ }
 {
     b as usize % h.unit % h.low
@@ -30,7 +30,7 @@ pub(crate) fn value_in(h: Shape, b: u8) -> usize
 
 // A byte that must be there, with its fixed bits: its refusal, or 0.
 pub(crate) fn byte_fault(s: &[u8], h: Shape, at: usize) -> u8
-    requires { ⌜ Sound h ⌝ }
+    requires { ⌜ SoundShape h ⌝ }
     ensures { λ r. ⌜ r ≡ byteFault (now (s .entry)) h at ⌝ }
 {
     if s.len() <= at {

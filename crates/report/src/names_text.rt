@@ -1,9 +1,9 @@
 // The naming list of a sample as text.
-ghost use mathlib.Core.Path.{_≡_};
-ghost use Rattle.report.specs.Input.{front};
 use crate::text;
 use numbers::SampleNumber;
 use numbers::Written;
+use program_input::buffers;
+use program_input::limit;
 
 // An entry, as `sample 2 at 0`.
 fn print_entry(entry: &[u8]) {
@@ -29,28 +29,18 @@ fn print_list(list: &[u8]) {
     }
 }
 
-// The first n bytes; all where there are fewer.
-fn first(s: &[u8], n: usize) -> &[u8]
-    ensures { λ r. ⌜ now r ≡ front (now (s .entry)) n ⌝ }
-{
-    if s.len() < n {
-        return s;
-    }
-    &s[0..n]
-}
-
 // What was answered, with the list in the buffer that was lent.
-fn print_listed(listed: Written, list: &[u8; 65536]) {
+fn print_listed(listed: Written, list: &[u8; limit::MOST]) {
     match listed {
         Written::Refused(r) => text::refused(r),
-        Written::Count(n) => print_list(first(list, n)),
+        Written::Count(n) => print_list(buffers::first(list, n)),
     }
 }
 
 // Prints a line for each extractor that names sample s, or a refusal. The room is enough for a bundle of 65,536 bytes: an extractor takes at
 // least 9 of them, and its entry 6.
 pub fn print_names(b: &[u8], s: SampleNumber) {
-    let mut list = [0u8; 65536];
+    let mut list = [0u8; limit::MOST];
     let listed = naming_list::names(b, s, &mut list);
     print_listed(listed, &list);
 }

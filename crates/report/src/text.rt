@@ -36,3 +36,8 @@ pub(crate) fn refused(r: Refusal) {
     }
     refusal(r);
 }
+
+// Says that the input is more than the programs take.
+pub fn print_too_big() {
+    text(b"bundle too big for this program\n");
+}

@@ -28,7 +28,7 @@ fn put_unit(out: &mut [u8], at: usize, b: &[u8], t: &[u64], u: Span) -> usize
     ensures { λ r. ⌜ (r ≡ length (written (recordingIn (now (b .entry)) (now (t .entry))) (spanFor u)))
         × (now (out .exit) ≡ put (now (out .entry)) at (written (recordingIn (now (b .entry)) (now (t .entry))) (spanFor u))) ⌝ }
 {
-    let z = tables::sample_bytes(b, t, u.sample);
+    let z = sample_tables::sample_bytes(b, t, u.sample);
     let size = u.size;
     let start = u.start.0;
     let end = start + size;
@@ -91,7 +91,7 @@ pub(crate) fn resolve_sample(b: &[u8], t: &[u64], n: SampleNumber, out: &mut [u8
                 return refused(refusals::OUTPUT_TOO_LONG);
             }
             let k = delivery::track_of(t, n);
-            let x = tables::sample_bytes(b, t, n);
+            let x = sample_tables::sample_bytes(b, t, n);
             write_units(out, b, t, n, k, x);
             Written::Count(size)
         }

@@ -6,6 +6,7 @@
 --   numberFault count n            30
 --   onSample r n a                 30 for the sample number n, else a
 --   onGood r n a                   30, then 14 to 28 of sample n, else a
+--   onUnit r n k a                 the same, then 30 for the number k of a delivered unit, else a
 --   onMeaning, onBundle            1 to 13 of a bundle by a reader, else what is said of its recording
 --   resolve r n                    sample n resolved
 --   resolveUnit r n k              the kth unit that sample n delivers
@@ -18,9 +19,9 @@
 use Prim.Native.Nat.{ℕ, _+_}
 use mathlib.Core.List.{List, [], _++_}
 use lib.ListN.{length}
-use Rattle.words.specs.Tests.{_<?_, _≡?_}
+use Rattle.words.specs.Tests.{outOf}
 use Rattle.words.specs.RefusalNumbers.{noSuchNumber}
-use Rattle.words.specs.Refusals.{_if_, _orElse_, Answer, refused, ok, _andThen_, _atPlace_}
+use Rattle.words.specs.Refusals.{_if_, Answer, refused, ok, _andThen_, _atPlace_}
 use Rattle.words.specs.Lists.{each, nth}
 use Rattle.words.specs.Bytes.{bytes, part}
 use Rattle.words.specs.Buffers.{within}
@@ -41,17 +42,18 @@ module _ (r : Recording) where
 
 -- 30: a number 0 or past the last
 unfoldable pub numberFault : ℕ → ℕ → ℕ
-numberFault count n =
-    noSuchNumber if n ≡? 0 orElse
-    noSuchNumber if count <? n
+numberFault count n = noSuchNumber if outOf count n
 
--- On a recording: 30 first; 30, then 14 to 28.
+-- On a recording: 30 first; 30, then 14 to 28; 30 again, for the number of a unit.
 module _ {A : Type 0} (r : Recording) (n : ℕ) where
   abbrev pub onSample : Answer A → Answer A
   onSample a = numberFault (sampleCount (r .layout)) n atPlace 0 andThen a
 
   abbrev pub onGood : Answer A → Answer A
   onGood a = onSample (judged r n andThen a)
+
+  abbrev pub onUnit : ℕ → Answer A → Answer A
+  onUnit k a = onGood (numberFault (length (delivered r n)) k atPlace 0 andThen a)
 
 -- On a bundle: 1 to 13 first.
 abbrev pub onMeaning : {A : Type 0} → Answer Recording → (Recording → Answer A) → Answer A
@@ -70,7 +72,7 @@ module _ (r : Recording) (n : ℕ) where
   resolve = onGood r n (ok (output r (delivered r n)))
 
   unfoldable pub resolveUnit : ℕ → Answer Span
-  resolveUnit k = onGood r n (numberFault (length (delivered r n)) k atPlace 0 andThen ok (nth (delivered r n) k noSpan))
+  resolveUnit k = onUnit r n k (ok (nth (delivered r n) k noSpan))
 
 -- A part of the bundle: where it starts, and its size.
 pub record BundlePart : Type 0 where

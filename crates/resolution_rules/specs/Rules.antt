@@ -12,7 +12,7 @@
 --   Resolves, ResolveRefuses    when resolving a sample answers, and when it is refused
 --   UnitRefuses          when one delivered unit is refused
 --   CallResolves, CallRefuses, UnitCallRefuses    the same by a bundle and a reader
-use Prim.Native.Nat.{ℕ, _+_, _%_, _≤_, _<_}
+use Prim.Native.Nat.{ℕ, _+_, _≤_, _<_}
 use mathlib.Core.Path.{_≡_}
 use mathlib.Core.List.{List, [], _∷_, _++_}
 use mathlib.Core.Bool.{true, false, _&&_}
@@ -23,6 +23,7 @@ use Rattle.words.specs.Refusals.{refused, ok}
 use Rattle.words.specs.RefusalNumbers.{sampleRefusals, outputTooLong, noSuchNumber}
 use Rattle.words.specs.Lists.{keep, _∈_}
 use Rattle.words.specs.Bytes.{byteAt}
+use Rattle.numbers.specs.Headers.{nalType}
 use Rattle.units.specs.Units.{L, size, aggregatorType, extractorType, isAggregator, isExtractor}
 use Rattle.units.specs.Extractors.{trackRefIndex, dataOffset, dataLength}
 use Rattle.units.specs.Aggregators.{units, extractors}
@@ -97,7 +98,7 @@ pub record Plain (r : Recording) (u : Span) : Type 0 where
   pub aggregator : isAggregator (sampleOf r (u .sample)) place ≡ false
   pub extractor : isExtractor (sampleOf r (u .sample)) place ≡ false
   -- the same of its own bytes
-  pub type : (byteAt (spanBytes r u) 0 % 32 ≡ aggregatorType → ⊥) × (byteAt (spanBytes r u) 0 % 32 ≡ extractorType → ⊥)
+  pub type : (nalType (byteAt (spanBytes r u) 0) ≡ aggregatorType → ⊥) × (nalType (byteAt (spanBytes r u) 0) ≡ extractorType → ⊥)
 
 -- resolving sample n of the recording r, with room for the output
 module _ (r : Recording) (n room : ℕ) where

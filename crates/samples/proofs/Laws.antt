@@ -10,7 +10,7 @@
 --   included-inside         an included unit lies in its aggregator and is no aggregator
 --   covered-border, covered-clear, covered-inside    what an aggregator covers ends on a border, holds no aggregator and lies in the sample
 --   unit-whole, unit-inside, units-rise    each unit is whole and lies in the sample; places of units rise
---   unit-step, aggregator-step, extractor-step    the total steps give the units, aggregators and extractors of a well-formed sample
+--   extractor-step          the total step gives the extractors of a well-formed sample
 --   check-refusals          a refusal of the check is 14 to 22, at a place in the sample
 --   alone-refusals          outside a bundle it is 4 or 11 at 0 besides
 use Prim.Native.Nat.{ℕ, _≤_, _<_}
@@ -34,16 +34,14 @@ use Rattle.numbers.specs.declared.MaybeLengthSize.{MaybeLengthSize}
 use Rattle.numbers.specs.declared.MaybeLengthSize.the-variants as sizes
 use Rattle.units.specs.Units.{aggregatorType, extractorType, Sample, end, size, type, next, isAggregator, isExtractor, unitFault, placesFrom, topUnits, border}
 use Rattle.units.specs.Aggregators.{includedStart, included, coverEnd, coverFault, units, extractors}
-use Rattle.units.specs.Steps.{unitOf, aggregatorOf, extractorOf, unitAt, aggregatorAt, extractorAt}
-use Rattle.units.specs.declared.MaybeUnit.the-variants as unit
-use Rattle.units.specs.declared.MaybeAggregator.the-variants as aggregator
+use Rattle.units.specs.Steps.{extractorOf, extractorAt}
 use Rattle.units.specs.declared.MaybeExtractor.the-variants as extractor
 use Rattle.units.specs.Rules.{Whole, Clear, Tiles}
 use Rattle.units.proofs.Units.{whole-end, whole-wider, whole-aggregator, extractor-size, extractor-none, included-rules, included-none}
 use Rattle.units.proofs.Walks.{in-places, in-top, units-from, places-tile, border-past}
 use Rattle.units.proofs.Walks as walks
 use Rattle.units.proofs.Covers.{cover-good, cover-border, cover-clear}
-use Rattle.units.proofs.Steps.{unit-there, aggregator-there, extractor-there}
+use Rattle.units.proofs.Steps.{extractor-there}
 use Rattle.samples.specs.Check.{insideVerdict, coverVerdict, contentVerdict, topVerdict, contentsVerdict, check, wellFormed, checkOf, checkAlone}
 use Rattle.samples.specs.Rules.{Rules, SampleRefusal, AloneRefusal}
 use Rattle.samples.proofs.Refusals.{unit-form, sample-refusal, content-refusal}
@@ -125,9 +123,6 @@ module _ (x : Sample) where
           (λ h. true-false _ covered-border (border-past x (coverEnd x p) (ltb-true _ _ h)))
           (λ h. ltb-false _ _ h)
 
-      pub aggregator-step : aggregatorAt x (end x) p ≡ aggregator.Aggregator (aggregatorOf x p)
-      aggregator-step = aggregator-there x (end x) p (rules e .tops p m) t covered-inside
-
     found : (p : ℕ) → List·Memᴰ p (units x) → (Whole x (end x) p) × (isExtractor x p ≡ true → size x p ≡ extractorSize (x .lengthSize))
     found p m =
         let r = rules e in
@@ -140,9 +135,6 @@ module _ (x : Sample) where
 
     pub unit-inside : (p : ℕ) → List·Memᴰ p (units x) → (p < end x) × (next x p ≤ end x)
     unit-inside p m = whole-end x (end x) p (unit-whole p m)
-
-    pub unit-step : (p : ℕ) → List·Memᴰ p (units x) → unitAt x (end x) p ≡ unit.Unit (unitOf x p)
-    unit-step p m = unit-there x (end x) p (unit-whole p m)
 
     pub extractor-step : (p : ℕ) → List·Memᴰ p (extractors x) → extractorAt x (end x) p ≡ extractor.Extractor (extractorOf x p)
     unfolding extractors

@@ -1,5 +1,6 @@
 -- Parameter sets in bytes s, each a unit after its 2-byte length (5.2.4.1; 01, 'Configuration records').
 --
+--   sequenceSetType, subsetSetType, pictureSetType, extensionSetType    types of sets (Table A.1)
 --   setLengthSize         how many bytes the length before a set has
 --   setEnd s p            where the set at p ends
 --   setsEnd s n p         where n sets from p on end
@@ -10,17 +11,31 @@
 --   exactly s n           s is n sets, cut by their lengths, and nothing else
 --   setsFit types s n     the same, and none of them is refused
 --   walkOf types s n p    what a walk over the sets answers
-use Prim.Native.Nat.{ℕ, _+_, _%_, _^_}
+use Prim.Native.Nat.{ℕ, _+_}
 use mathlib.Core.List.{List}
 use mathlib.Core.Bool.{Bool, true, false, _||_, _&&_, not}
 use lib.ListN.{length}
-use Rattle.words.specs.Tests.{_<?_, _≤?_, _≡?_, pick}
+use Rattle.words.specs.Tests.{_<?_, _≡?_, pick}
 use Rattle.words.specs.RefusalNumbers.{recordCut, badSet}
 use Rattle.words.specs.Refusals.{_if_, _orElse_, firstOf}
 use Rattle.words.specs.Walks.{entries, skip}
 use Rattle.words.specs.Bytes.{byteAt, big}
+use Rattle.numbers.specs.Headers.{forbiddenBit, nalType}
 use Rattle.sets.specs.declared.SetTypes.{SetTypes}
 use Rattle.sets.specs.declared.Walk.{Walk}
+
+-- sequence, subset sequence and picture parameter sets, and sequence parameter set extensions
+abbrev pub sequenceSetType : ℕ
+sequenceSetType = 7
+
+abbrev pub subsetSetType : ℕ
+subsetSetType = 15
+
+abbrev pub pictureSetType : ℕ
+pictureSetType = 8
+
+abbrev pub extensionSetType : ℕ
+extensionSetType = 13
 
 abbrev pub oneOf : SetTypes → ℕ → Bool
 oneOf types t = (t ≡? types .one) || (t ≡? types .other)
@@ -48,8 +63,8 @@ setFault types s p =
     recordCut if length s <? p + setLengthSize orElse
     badSet if big s p setLengthSize ≡? 0 orElse
     recordCut if length s <? setEnd s p orElse
-    badSet if 2 ^ 7 ≤? headerAt s p orElse
-    badSet if not (oneOf types (headerAt s p % 2 ^ 5))
+    badSet if forbiddenBit (headerAt s p) orElse
+    badSet if not (oneOf types (nalType (headerAt s p)))
 
 abbrev pub setsFault : SetTypes → List ℕ → ℕ → ℕ → ℕ
 setsFault types s n p = firstOf (setFault types s) (entries (setEnd s) n p)

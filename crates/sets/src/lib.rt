@@ -8,6 +8,15 @@ use numbers::refusals;
 // The bytes of the length before a set.
 pub const SET_LENGTH_SIZE: usize = 2;
 
+// The types of sets: sequence, subset sequence and picture parameter sets, and sequence parameter set extensions.
+pub const SEQUENCE_SET: u8 = 7;
+
+pub const SUBSET_SET: u8 = 15;
+
+pub const PICTURE_SET: u8 = 8;
+
+pub const EXTENSION_SET: u8 = 13;
+
 // The one or two unit types that a set may have.
 pub struct SetTypes {
     pub one: u8,
@@ -38,13 +47,13 @@ fn set_fault(types: SetTypes, s: &[u8], at: usize) -> u8
         return refusals::RECORD_CUT;
     }
     let h = s[at + SET_LENGTH_SIZE];
-    if 128 <= h {
+    if numbers::FORBIDDEN_BIT <= h {
         return refusals::BAD_SET;
     }
-    if h % 32 == types.one {
+    if h % numbers::NAL_TYPES == types.one {
         return 0;
     }
-    if h % 32 == types.other {
+    if h % numbers::NAL_TYPES == types.other {
         return 0;
     }
     refusals::BAD_SET

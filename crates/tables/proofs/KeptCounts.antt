@@ -18,7 +18,7 @@ use Rattle.words.specs.Lists.{upto, lastThat}
 use Rattle.words.proofs.Tests.{by-bool}
 use Rattle.words.proofs.Lists.{map-cong, upto-from}
 use Rattle.bundles.specs.Recordings.{Layout, Recording}
-use Rattle.tables.specs.Tables.{columns, countsRow, trackRow, referenceRow, sampleRow, tracksColumn, referencesColumn, samplesColumn, kindColumn, sizeColumn, beforeColumn, fromColumn, toColumn, timeColumn, startColumn, lengthColumn, keptCountColumn, cell, trackTotal, referenceTotal, sampleTotal, trackIn, referenceIn, beforeIn, ownerIn, entryIn, layoutIn, contentIn, recordingIn, sampleCell, keptCountIn, withKeptCount}
+use Rattle.tables.specs.Tables.{columns, countsRow, trackRow, referenceRow, sampleRow, tracksColumn, referencesColumn, samplesColumn, kindColumn, sizeColumn, beforeColumn, fromColumn, toColumn, timeColumn, startColumn, lengthColumn, keptCountColumn, cell, trackTotal, referenceTotal, sampleTotal, trackIn, referenceIn, beforeIn, ownerIn, sampleEntryIn, layoutIn, contentIn, recordingIn, sampleCell, keptCountIn, withKeptCount}
 use Rattle.words.proofs.Rows.{lastThat-cong}
 
 pub set-beyond : (l : List ℕ) (i a : ℕ) → length l ≤ i → set l i a ≡ l
@@ -58,7 +58,7 @@ module _ (t : List ℕ) (n v : ℕ) where
         sample-total,
         map-cong (trackIn marked) (trackIn t) (upto (trackTotal t)) (λ k m. rw (other (trackRow k) kindColumn (omega arith), other (trackRow k) sizeColumn (omega arith))),
         map-cong (referenceIn marked) (referenceIn t) (upto (referenceTotal t)) (λ i m. rw (other (referenceRow i) fromColumn (omega arith), other (referenceRow i) toColumn (omega arith))),
-        map-cong (entryIn marked) (entryIn t) (upto (sampleTotal t)) (λ m q. rw (owner-same m, other (sampleRow m) timeColumn (omega arith))),
+        map-cong (sampleEntryIn marked) (sampleEntryIn t) (upto (sampleTotal t)) (λ m q. rw (owner-same m, other (sampleRow m) timeColumn (omega arith))),
       )
 
   marked-recording : (b : List ℕ) → recordingIn b marked ≡ recordingIn b t

@@ -18,7 +18,7 @@ use Rattle.words.specs.Lists.{nth, upto}
 use Rattle.words.proofs.Tests.{by-bool}
 use Rattle.bundles.specs.Limits.{sampleMost}
 use Rattle.bundles.specs.Recordings.{Layout, Recording, noTrack, noEntry, sampleCount, contentOf}
-use Rattle.tables.specs.Tables.{atMost, countsRow, samplesColumn, cell, trackTotal, referenceTotal, sampleTotal, trackIn, referenceIn, entryIn, contentIn, layoutIn, recordingIn}
+use Rattle.tables.specs.Tables.{atMost, countsRow, samplesColumn, cell, trackTotal, referenceTotal, sampleTotal, trackIn, referenceIn, sampleEntryIn, contentIn, layoutIn, recordingIn}
 use Rattle.words.proofs.Rows.{upto-length, nth-upto, nth-past, nth-none}
 
 pub total-fits : (most n : ℕ) → n ≤ most → atMost most n ≡ n
@@ -38,7 +38,7 @@ module _ (t : List ℕ) where
 
   pub samples-count : sampleCount (layoutIn t) ≡ sampleTotal t
   unfolding layoutIn
-  samples-count = length-map (upto (sampleTotal t)) (entryIn t) ∙ upto-length (sampleTotal t)
+  samples-count = length-map (upto (sampleTotal t)) (sampleEntryIn t) ∙ upto-length (sampleTotal t)
 
   pub samples-most : sampleCount (layoutIn t) ≤ sampleMost
   samples-most = rw samples-count (by-bool (leb (cell t countsRow samplesColumn) sampleMost) (λ q. rw q (leb-true (cell t countsRow samplesColumn) sampleMost q)) (λ q. rw q (omega arith)))
@@ -54,16 +54,16 @@ module _ (t : List ℕ) where
   unfolding layoutIn
   track-past k h = nth-past (trackIn t) (trackTotal t) k noTrack h
 
-  pub entry-here : (n : ℕ) → 0 < n → n ≤ sampleTotal t → nth (layoutIn t .entries) n noEntry ≡ entryIn t n
+  pub entry-here : (n : ℕ) → 0 < n → n ≤ sampleTotal t → nth (layoutIn t .entries) n noEntry ≡ sampleEntryIn t n
   unfolding layoutIn
-  entry-here n h l = nth-upto (entryIn t) (sampleTotal t) n noEntry h l
+  entry-here n h l = nth-upto (sampleEntryIn t) (sampleTotal t) n noEntry h l
 
   pub entry-none : (n : ℕ) → n ≡ 0 → nth (layoutIn t .entries) n noEntry ≡ noEntry
   entry-none n e = rw e (nth-none (layoutIn t .entries) noEntry)
 
   pub entry-past : (n : ℕ) → sampleTotal t < n → nth (layoutIn t .entries) n noEntry ≡ noEntry
   unfolding layoutIn
-  entry-past n h = nth-past (entryIn t) (sampleTotal t) n noEntry h
+  entry-past n h = nth-past (sampleEntryIn t) (sampleTotal t) n noEntry h
 
 module _ (b t : List ℕ) where
   pub content-here : (n : ℕ) → 0 < n → n ≤ sampleTotal t → contentOf (recordingIn b t) n ≡ contentIn b t n

@@ -7,7 +7,7 @@ use mathlib.Core.Path.{_≡_, refl, sym}
 use borrow.Author.Tests.{eqb-true}
 use lib.Dec.{eqb}
 use Rattle.words.proofs.Tests.{by-bool}
-use Rattle.numbers.specs.Kinds.{kindOf}
+use Rattle.numbers.specs.Kinds.{numberOfKind, kindOf}
 use Rattle.numbers.specs.Sizes.{inBytes, lengthSizeOf}
 use Rattle.numbers.specs.declared.Kind.{Kind}
 use Rattle.numbers.specs.declared.Kind.the-variants.{Avc, Svc}
@@ -16,7 +16,6 @@ use Rattle.numbers.specs.declared.MaybeKind.the-variants.{Known, Unknown}
 use Rattle.numbers.specs.declared.LengthSize.{LengthSize}
 use Rattle.numbers.specs.declared.LengthSize.the-variants.{One, Two, Four}
 use Rattle.bundles.specs.Tracks.{knownKind, knownSize}
-use Rattle.tables.specs.Tables.{numberOfKind}
 
 pub kind-back : (k : Kind) → kindOf (numberOfKind k) ≡ Known k
 kind-back Avc = refl

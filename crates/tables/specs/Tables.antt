@@ -23,8 +23,6 @@ use Rattle.words.specs.Lists.{upto, lastThat}
 use Rattle.words.specs.Bytes.{part}
 use Rattle.numbers.specs.Kinds.{kindOf}
 use Rattle.numbers.specs.Sizes.{lengthSizeOf}
-use Rattle.numbers.specs.declared.Kind.{Kind}
-use Rattle.numbers.specs.declared.Kind.the-variants.{Avc, Svc}
 use Rattle.bundles.specs.Limits.{trackMost, referenceMost, sampleMost}
 use Rattle.bundles.specs.Recordings.{Track, Reference, Entry, Layout, Recording}
 use Rattle.bundles.specs.Tracks.{knownKind, knownSize}
@@ -66,10 +64,6 @@ abbrev pub samplesColumn : ℕ
 samplesColumn = 2
 
 -- of a track; its kind by its number, and `before` is how many samples the tracks before it have
-abbrev pub numberOfKind : Kind → ℕ
-numberOfKind Avc = 0
-numberOfKind Svc = 1
-
 abbrev pub kindColumn : ℕ
 kindColumn = 0
 
@@ -136,15 +130,15 @@ module _ (t : List ℕ) where
   abbrev pub ownerIn : ℕ → ℕ
   ownerIn n = lastThat (λ k. beforeIn k <? n) (upto trackTotal)
 
-  abbrev pub entryIn : ℕ → Entry
-  entryIn n = record { track = ownerIn n; time = cell (sampleRow n) timeColumn }
+  abbrev pub sampleEntryIn : ℕ → Entry
+  sampleEntryIn n = record { track = ownerIn n; time = cell (sampleRow n) timeColumn }
 
   unfoldable pub layoutIn : Layout
   layoutIn =
       record {
         tracks = map trackIn (upto trackTotal);
         references = map referenceIn (upto referenceTotal);
-        entries = map entryIn (upto sampleTotal);
+        entries = map sampleEntryIn (upto sampleTotal);
       }
 
   -- The samples of track k end where a later track's start: the least `before` of the tracks from k + 1 to m.

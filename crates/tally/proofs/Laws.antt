@@ -12,11 +12,12 @@ use mathlib.Core.Bool.{Bool, true, false}
 use mathlib.Core.List.{List, [], _∷_, _++_}
 use native.Mathlib.Omega.{arith}
 use lib.ListN.{length}
+use Rattle.words.specs.Bytes.{largest}
 use Rattle.words.specs.Tests.{pick}
 use Rattle.words.specs.Lists.{keep}
 use Rattle.words.proofs.Tests.{tests}
 use Rattle.words.proofs.Rows.{keep-more}
-use Rattle.tally.specs.Tallies.{isPassed, isEmpty, isRefused, tallied, largest, oneMore, raisedBy}
+use Rattle.tally.specs.Tallies.{isPassed, isEmpty, isRefused, tallied, oneMore, raisedBy}
 use Rattle.tally.specs.declared.Tally.{Tally}
 use Rattle.tally.specs.declared.Outcome.{Outcome}
 use Rattle.tally.specs.declared.Outcome.the-variants.{Passed, Empty, Refused}

@@ -2,13 +2,13 @@
 --
 --   isPassed, isEmpty, isRefused    what an outcome is
 --   tallied os                      the tally of outcomes
---   largest                         the largest number of 8 bytes
 --   oneMore n                       n + 1, but the largest number of 8 bytes stays
 --   raisedBy o t                    a tally raised by one outcome
 use Prim.Native.Nat.{ℕ, _+_}
 use mathlib.Core.List.{List}
 use mathlib.Core.Bool.{Bool, true, false}
 use lib.ListN.{length}
+use Rattle.words.specs.Bytes.{largest}
 use Rattle.words.specs.Tests.{_<?_, pick}
 use Rattle.words.specs.Lists.{keep}
 use Rattle.tally.specs.declared.Tally.{Tally}
@@ -33,10 +33,6 @@ isRefused Refused = true
 -- How many outcomes of each kind there are.
 unfoldable pub tallied : List Outcome → Tally
 tallied os = record { passed = length (keep isPassed os); empty = length (keep isEmpty os); refused = length (keep isRefused os) }
-
--- the largest number of 8 bytes
-abbrev pub largest : ℕ
-largest = 18446744073709551615
 
 unfoldable pub oneMore : ℕ → ℕ
 oneMore n = pick (n <? largest) (n + 1) n

@@ -67,12 +67,3 @@ pub fn raise(t: &mut Tally, o: Outcome)
 {
     *t = raised(*t, o);
 }
-
-// From a tally by value to one by value, by way of a loan.
-pub fn raised_lent(t: Tally, o: Outcome) -> Tally
-    ensures { λ u. ⌜ u ≡ raisedBy o t ⌝ }
-{
-    let mut u = t;
-    raise(&mut u, o);
-    u
-}

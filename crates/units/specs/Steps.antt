@@ -1,23 +1,18 @@
 -- What the total functions for walks give, at any place p of any bytes, in what ends at e. At the units of a well-formed sample
 -- `Nothing` does not come.
 --
---   unitAt e p          the unit at p, if it has none of 14 to 18
---   aggregatorAt e p    the parts of the aggregator at p, if it is one, has none of 14 to 18, and what it covers ends within e
---   extractorAt e p     the fields of the extractor at p, if it is one and has none of 14 to 18 and 22
+--   place p             p as the code has it
+--   unitOf p            the unit at p
+--   extractorOf p       the fields of the extractor at p
+--   extractorAt e p     the same, if it is one and has none of 14 to 18 and 22
 use Prim.Native.Nat.{ℕ, _+_}
-use Rattle.words.specs.Tests.{_≡?_, _<?_, pick}
+use Rattle.words.specs.Tests.{_≡?_, pick}
 use Rattle.numbers.specs.declared.ByteOffset.{ByteOffset}
-use Rattle.units.specs.Units.{Sample, L, size, type, next, isAggregator, isExtractor, unitFault}
+use Rattle.units.specs.Units.{Sample, L, size, type, next, isExtractor, unitFault}
 use Rattle.units.specs.Extractors.{trackRefIndex, sampleOffset, dataOffset, dataLength, extractorFault}
-use Rattle.units.specs.Aggregators.{includedStart, additionalBytes, coverEnd}
 use Rattle.units.specs.declared.NalUnit.{NalUnit}
-use Rattle.units.specs.declared.Aggregator.{Aggregator}
 use Rattle.units.specs.declared.Extractor.{Extractor}
-use Rattle.units.specs.declared.MaybeUnit as U
-use Rattle.units.specs.declared.MaybeAggregator as A
 use Rattle.units.specs.declared.MaybeExtractor as E
-use Rattle.units.specs.declared.MaybeUnit.the-variants as unit
-use Rattle.units.specs.declared.MaybeAggregator.the-variants as aggregator
 use Rattle.units.specs.declared.MaybeExtractor.the-variants as extractor
 
 abbrev pub place : ℕ → ByteOffset
@@ -27,14 +22,6 @@ module _ (x : Sample) where
   abbrev pub unitOf : ℕ → NalUnit
   unitOf p = record { start = place (p + L x); size = size x p; «nal_type» = type x p; next = place (next x p) }
 
-  abbrev pub aggregatorOf : ℕ → Aggregator
-  aggregatorOf p = record {
-    included = place (includedStart x p);
-    end = place (next x p);
-    «additional_bytes» = additionalBytes x p;
-    «cover_end» = place (coverEnd x p);
-  }
-
   abbrev pub extractorOf : ℕ → Extractor
   extractorOf p = record {
     «track_ref_index» = trackRefIndex x p;
@@ -42,17 +29,6 @@ module _ (x : Sample) where
     «data_offset» = place (dataOffset x p);
     «data_length» = dataLength x p;
   }
-
-  unfoldable pub unitAt : ℕ → ℕ → U.MaybeUnit
-  unitAt e p = pick (unitFault x e p ≡? 0) (unit.Unit (unitOf p)) unit.Nothing
-
-  unfoldable pub aggregatorAt : ℕ → ℕ → A.MaybeAggregator
-  aggregatorAt e p =
-      pick (unitFault x e p ≡? 0)
-      (pick (isAggregator x p)
-      (pick (e <? coverEnd x p) aggregator.Nothing (aggregator.Aggregator (aggregatorOf p)))
-      aggregator.Nothing)
-      aggregator.Nothing
 
   unfoldable pub extractorAt : ℕ → ℕ → E.MaybeExtractor
   extractorAt e p =

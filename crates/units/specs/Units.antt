@@ -11,7 +11,7 @@
 --   topUnits                 the top-level units
 --   border q                 q is a top-level border
 --   topBetween a b           the top-level units from a up to b
-use Prim.Native.Nat.{ℕ, zero, suc, _+_, _-_, _%_}
+use Prim.Native.Nat.{ℕ, zero, suc, _+_, _-_}
 use mathlib.Core.List.{List, [], _∷_}
 use mathlib.Core.Bool.{Bool, _||_, _&&_}
 use lib.ListN.{length}
@@ -21,6 +21,7 @@ use Rattle.words.specs.RefusalNumbers.{lengthFieldCut, unitTooLong, emptyUnit, 
 use Rattle.words.specs.Lists.{keep, has}
 use Rattle.words.specs.Bytes.{byteAt, big}
 use Rattle.numbers.specs.Sizes.{inBytes, headerSize, leastAggregator}
+use Rattle.numbers.specs.Headers.{forbiddenBit, nalType}
 use Rattle.numbers.specs.declared.Kind.{Kind}
 use Rattle.numbers.specs.declared.LengthSize.{LengthSize}
 use Rattle.units.specs.declared.Track.{Track}
@@ -55,7 +56,7 @@ module _ (x : Sample) where
   abbrev pub end : ℕ
   end = length (x .content)
 
-  -- The unit at a place: its size, its first byte, its type, which is the low five bits of that byte, and where the next unit starts.
+  -- The unit at a place: its size, its first byte, its type, and where the next unit starts.
   unfoldable pub size : ℕ → ℕ
   size p = big (x .content) p L
 
@@ -63,7 +64,7 @@ module _ (x : Sample) where
   firstByte p = byteAt (x .content) (p + L)
 
   unfoldable pub type : ℕ → ℕ
-  type p = firstByte p % 32
+  type p = nalType (firstByte p)
 
   abbrev pub next : ℕ → ℕ
   next p = p + L + size p
@@ -87,7 +88,7 @@ module _ (x : Sample) where
       lengthFieldCut if e <? p + L orElse
       unitTooLong if e <? next p orElse
       emptyUnit if size p ≡? 0 orElse
-      topBitSet if 128 ≤? firstByte p orElse
+      topBitSet if forbiddenBit (firstByte p) orElse
       unitTooShort if size p <? leastSize (type p)
 
   -- The places of units from p up to e, each right after the one before: at most e - p of them, since L is at least 1.

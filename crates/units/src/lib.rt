@@ -34,24 +34,6 @@ pub struct NalUnit {
     pub next: ByteOffset,
 }
 
-pub enum MaybeUnit {
-    Unit(NalUnit),
-    Nothing,
-}
-
-// An aggregator: where its included units start and end, its additional_bytes, and where what they cover ends.
-pub struct Aggregator {
-    pub included: ByteOffset,
-    pub end: ByteOffset,
-    pub additional_bytes: usize,
-    pub cover_end: ByteOffset,
-}
-
-pub enum MaybeAggregator {
-    Aggregator(Aggregator),
-    Nothing,
-}
-
 // The fields of an extractor. The sample_offset is the byte as it stands: 128 and more are negative.
 pub struct Extractor {
     pub track_ref_index: u8,
@@ -78,7 +60,7 @@ pub fn type_at(k: Track, s: &[u8], at: ByteOffset) -> u8
     if s.len() - p <= n {
         return 0;
     }
-    s[p + n] % 32
+    s[p + n] % numbers::NAL_TYPES
 }
 
 // The least size of a unit of a type.
@@ -123,10 +105,10 @@ pub fn unit_fault(k: Track, s: &[u8], at: ByteOffset, end: ByteOffset) -> u8
         return refusals::EMPTY_UNIT;
     }
     let head = numbers::byte(s, p + n);
-    if 128 <= head {
+    if numbers::FORBIDDEN_BIT <= head {
         return refusals::TOP_BIT_SET;
     }
-    if size < least_size(k, head % 32) {
+    if size < least_size(k, head % numbers::NAL_TYPES) {
         return refusals::UNIT_TOO_SHORT;
     }
     0

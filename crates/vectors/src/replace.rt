@@ -140,13 +140,13 @@ fn print_compared(b: &[u8], c: &[u8], total: usize, s: usize, list: &[u8]) {
 // Puts the given bytes in place of sample s in a copy of the bundle, which the table t was filled from, and compares.
 fn replace(b: &[u8], t: &[u64], s: usize, given: &[u8], list: &[u8]) {
     let mut buffer = [0u8; 65536];
-    let start = tables::sample_start(t, SampleNumber(s));
-    let x = tables::sample_bytes(b, t, SampleNumber(s));
+    let start = sample_tables::sample_start(t, SampleNumber(s));
+    let x = sample_tables::sample_bytes(b, t, SampleNumber(s));
     copy(b, start.0, x.len(), given, &mut buffer);
     print_compared(
         b,
         request::part(&buffer, 0, b.len()),
-        tables::sample_count(t),
+        sample_tables::sample_count(t),
         s,
         list,
     );

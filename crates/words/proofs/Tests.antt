@@ -6,13 +6,15 @@
 --   all-first                  tests that all hold: the first, and the others
 --   bool-same                  two tests that hold for the same
 --   true-false                 no test holds and does not
-use Prim.Native.Nat.{ℕ, zero, suc}
+--   within-count, count-within no number that is out of a count, both ways
+use Prim.Native.Nat.{ℕ, zero, suc, _≤_, _<_}
 use mathlib.Core.Path.{_≡_, refl, sym}
-use mathlib.Core.Bool.{Bool, true, false, _&&_}
+use mathlib.Core.Bool.{Bool, true, false, _&&_, _||_}
 use mathlib.Core.List.{List, [], _∷_}
 use native.Mathlib.Omega.{arith}
-use Rattle.words.specs.Tests.{all}
-use borrow.Author.Tests.{lt-ltb, le-ltb, le-leb, lt-leb, eq-eqb, ne-eqb}
+use native.Mathlib.Nat.{pos-of-ne-zero}
+use Rattle.words.specs.Tests.{_<?_, _≡?_, outOf, all}
+use borrow.Author.Tests.{lt-ltb, le-ltb, le-leb, lt-leb, eq-eqb, ne-eqb, eqb-false, ltb-false}
 
 pub ruleset tests = (lt-ltb, le-ltb, le-leb, lt-leb, eq-eqb, ne-eqb)
 
@@ -43,3 +45,14 @@ pub bool-same : (a b : Bool) → (a ≡ true → b ≡ true) → (b ≡ true →
 bool-same true b f g = sym (f refl)
 bool-same false true f g = g refl
 bool-same false false f g = refl
+
+or-none : (a b : Bool) → (a || b) ≡ false → (a ≡ false) × (b ≡ false)
+or-none true b e = true-false true refl e
+or-none false b e = (refl, e)
+
+pub count-within : (count n : ℕ) → outOf count n ≡ false → (0 < n) × (n ≤ count)
+count-within count n e =
+    let w = or-none (n ≡? 0) (count <? n) e in (pos-of-ne-zero (eqb-false _ _ (w .0)), ltb-false _ _ (w .1))
+
+pub within-count : (count n : ℕ) → 0 < n → n ≤ count → outOf count n ≡ false
+within-count count n h l = rw (ne-eqb n 0 (λ z. absurd (omega arith)), le-ltb count n l)

@@ -5,6 +5,7 @@
 --   big s p n          the big-endian number of n bytes at p
 --   wordAt s p n       the same, where it fits a word: 0 for more than 8 bytes
 --   bytes n v          v in n bytes, big-endian
+--   largest            the largest number of 8 bytes
 --   part s a n         the n elements from a on
 --   splice s a new     s with the elements from a on replaced by new
 --   cuts s ns a        the parts of lengths ns, one after the other from a on
@@ -25,6 +26,9 @@ big s p (suc n) = big s p n * 256 + byteAt s (p + n)
 
 abbrev pub wordAt : List ℕ → ℕ → ℕ → ℕ
 wordAt s p n = pick (n ≤? 8) (big s p n) 0
+
+abbrev pub largest : ℕ
+largest = 18446744073709551615
 
 unfoldable pub bytes : ℕ → ℕ → List ℕ
 bytes zero v = []

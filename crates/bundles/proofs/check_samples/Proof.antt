@@ -9,7 +9,7 @@ use Rattle.bundles.proofs.check_samples.Statement.{statement}
 use mathlib.Core.List.{map}
 use Rattle.words.specs.Lists.{sum, upto}
 use Rattle.bundles.specs.Limits.{sampleMost}
-use Rattle.bundles.specs.Fields.{sampleCountSize, entrySize}
+use Rattle.bundles.specs.Fields.{sampleCountSize, sampleEntrySize}
 use Rattle.bundles.specs.Samples.{entryAt, lengths, entryFault, samplesVerdict}
 use Rattle.bundles.proofs.Passing.{Passed, passed-start, passed-next, passed-refused, passed-end}
 use Rattle.bundles.proofs.Sections.{count-good, entry-good}
@@ -30,7 +30,7 @@ few : (c : tie.After-number Inv-loop μ-loop) → c .number .result ≤ sampleMo
 few c = rw (c .number .ensures) (count-good (c .before .before .before .before .args .b .now) (c .before .before .before .before .args .at) sampleCountSize 0 sampleMost (sym (c .before .before .count-fault .ensures) ∙ c .before .if1 .left) .few)
 
 -- the entry at hand
-inside : (c : tie.Else2 Inv-loop μ-loop) → c .before .before .before .loop .p + entrySize ≤ length (c .before .before .before .before .before .before .before .before .args .b .now)
+inside : (c : tie.Else2 Inv-loop μ-loop) → c .before .before .before .loop .p + sampleEntrySize ≤ length (c .before .before .before .before .before .before .before .before .args .b .now)
 inside c = rw (c .before .before .before .loop .inv .1) (entry-good (c .before .before .before .before .before .before .before .before .args .b .now) (c .before .before .before .loop .i + 1) (sym (c .before .entry-fault .ensures) ∙ c .if2 .left) .inside)
 
 count-fault-requires : tie.Need-count-fault-requires Inv-loop μ-loop

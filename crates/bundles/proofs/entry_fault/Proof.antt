@@ -6,13 +6,13 @@ use Prim.Native.Nat.{_+_, _-_, _≤_}
 use lib.ListN.{length}
 use Rattle.bundles.proofs.entry_fault.Statement.{statement}
 use borrow.Author.Tests.{ltb-false, eq-eqb, ne-eqb}
-use Rattle.bundles.specs.Fields.{entrySize}
+use Rattle.bundles.specs.Fields.{sampleEntrySize}
 use Rattle.bundles.specs.References.{noSuchTrack}
 use Rattle.bundles.specs.Samples.{entryAt, track, entryFault}
 use Rattle.bundles.proofs.entry_fault.Tie as tie
 
 -- the entry is there
-there : (c : tie.Else1) → c .before .before .before .args .at + entrySize ≤ length (c .before .before .before .args .b .now)
+there : (c : tie.Else1) → c .before .before .before .args .at + sampleEntrySize ≤ length (c .before .before .before .args .b .now)
 there c = ltb-false _ _ (sym (c .before .cut .ensures) ∙ c .if1 .left)
 
 -- whether its track exists
@@ -20,7 +20,7 @@ tracked : (c : tie.After-no-such-track) → c .no-such-track .result ≡ noSuchT
 tracked c = c .no-such-track .ensures ∙ ap (noSuchTrack (c .before .before .before .before .before .args .b .now)) (c .before .number .ensures)
 
 -- where the entry before it stands
-before : (c : tie.Else3) → entryAt (c .before .before .before .before .before .before .before .args .b .now) (c .before .before .before .before .before .before .before .args .n - 1) ≡ c .before .before .before .before .before .before .before .args .at - entrySize
+before : (c : tie.Else3) → entryAt (c .before .before .before .before .before .before .before .args .b .now) (c .before .before .before .before .before .before .before .args .n - 1) ≡ c .before .before .before .before .before .before .before .args .at - sampleEntrySize
 before c = omega (arith, c .before .before .before .before .before .before .before .pre .0, c .before .before .before .before .before .before .before .pre .1, c .if3 .left)
 
 cut-requires : tie.Need-cut-requires

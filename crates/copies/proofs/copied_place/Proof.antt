@@ -4,7 +4,7 @@ use mathlib.Core.Path.{_≡_, sym, _∙_}
 use lib.ListN.{length}
 use Rattle.copies.proofs.copied_place.Statement.{statement}
 use Rattle.copies.proofs.Copies.{copy-cut}
-use Rattle.copies.proofs.Answers.{good-formed, good-border, good-flat, place-good, place-refused}
+use Rattle.copies.proofs.Answers.{good-formed, good-border, good-flat, good-plain, place-good, place-refused}
 use Rattle.units.specs.Units.{sample}
 use Rattle.copies.specs.Copies.{copyFault}
 use Rattle.copies.proofs.copied_place.Tie as tie
@@ -22,7 +22,7 @@ copy-end-requires : tie.Need-copy-end-requires
 copy-end-requires c κs = (good-formed _ _ _ (good c), good-border _ _ _ (good c))
 
 place-among-requires : tie.Need-place-among-requires
-place-among-requires c κs = rw (c .copy-end .ensures) (copy-cut _ _ _ (good-border _ _ _ (good (c .before))) (good-formed _ _ _ (good (c .before))))
+place-among-requires c κs = rw (c .copy-end .ensures) (copy-cut _ _ _ (good-border _ _ _ (good (c .before))) (good-formed _ _ _ (good (c .before))), good-plain _ _ _ (good (c .before)))
 
 returns-2 : tie.Need-returns-2
 returns-2 c = c .place-among .ensures ∙ rw (c .before .copy-end .ensures, ← good-flat _ _ _ (good (c .before .before))) (sym (place-good _ _ _ (good (c .before .before)) _))

@@ -5,90 +5,86 @@ use mathlib.Core.Path.{_≡_, sym, _∙_}
 use Prim.Native.Nat.{ℕ, _-_}
 use Rattle.copies.proofs.place_among.Statement.{statement}
 use mathlib.Core.Bool.{true, false}
-use borrow.Author.Tests.{eq-eqb, ne-eqb}
 use Rattle.words.specs.Lists.{nth}
-use Rattle.units.specs.Units.{Sample, sample, next, isAggregator}
+use Rattle.units.specs.Units.{Sample, sample, isAggregator, isExtractor}
 use Rattle.units.specs.Aggregators.{includedStart}
+use Rattle.units.specs.Steps.{unitOf}
 use Rattle.units.proofs.Units.{next-after}
-use Rattle.copies.proofs.Flat.{Walking}
-use Rattle.copies.proofs.Rest.{walking-skip, walking-take, Finding, finding-start, finding-skip, finding-found, finding-take, finding-end}
+use Rattle.unit_steps.proofs.Items.{aggregator-is, extractor-is, unit-is}
+use Rattle.copies.proofs.Rest.{walking-never, Finding, finding-start, finding-skip, finding-never, finding-found, finding-take, finding-end}
 use Rattle.copies.proofs.place_among.Tie as tie
 
 abbrev Inv-loop : tie.InvT-loop
-Inv-loop k z from to i n left₀ q₀ left q = Finding (sample k z) from to i q left
+Inv-loop k z from to i left₀ q₀ left q = Finding (sample k z) from to i q left
 
 abbrev μ-loop : tie.MeasureT-loop
-μ-loop k z from to i n left₀ q₀ left q = to - q
+μ-loop k z from to i left₀ q₀ left q = to - q
 
 -- the sample, and the place of the unit at hand
 abbrev At : Type 0
-At = tie.In-loop Inv-loop μ-loop
+At = tie.After-item-at Inv-loop μ-loop
 
 abbrev X : At → Sample
 X c = sample (c .before .before .before .before .before .args .k) (c .before .before .before .before .before .args .z .now)
 
 abbrev P : At → ℕ
-P c = c .before .loop .q
+P c = c .before .before .loop .q
 
--- it is an aggregator, or another unit
-aggregator : (c : tie.Then2 Inv-loop μ-loop) → isAggregator (X (c .before .before)) (P (c .before .before)) ≡ true
-aggregator c = eq-eqb _ _ (sym (c .before .type-at .ensures) ∙ c .if2 .taken)
+-- it is an aggregator, or a unit
+aggregator : (c : tie.After-known-told Inv-loop μ-loop) → let a = c .before .before .before in (isAggregator (X a) (P a) ≡ true) × (c .before .item .given .0 .0 .0 ≡ includedStart (X a) (P a))
+aggregator c = aggregator-is _ _ (sym (c .before .before .before .item-at .ensures) ∙ c .before .item .given .1)
 
-other : (c : tie.Else2 Inv-loop μ-loop) → isAggregator (X (c .before .before)) (P (c .before .before)) ≡ false
-other c = ne-eqb _ _ (λ e. c .if2 .left (c .before .type-at .ensures ∙ e))
-
--- where the walk goes on
-skips : (c : tie.Then2 Inv-loop μ-loop) → Walking (X (c .before .before)) (c .before .before .before .before .before .before .before .args .to) (includedStart (X (c .before .before)) (P (c .before .before)))
-skips c = walking-skip _ _ _ (c .before .before .before .loop .inv .walking) (c .before .before .loop-test .taken) (aggregator c)
-
-takes : (c : tie.Else2 Inv-loop μ-loop) → Walking (X (c .before .before)) (c .before .before .before .before .before .before .before .args .to) (next (X (c .before .before)) (P (c .before .before)))
-takes c = walking-take _ _ _ (c .before .before .before .loop .inv .walking) (c .before .before .loop-test .taken) (other c)
+unit : (c : tie.After-known-told2 Inv-loop μ-loop) → let a = c .before .before .before in (isAggregator (X a) (P a) ≡ false) × (isExtractor (X a) (P a) ≡ false) × (c .before .item2 .given .0 .0 ≡ unitOf (X a) (P a))
+unit c = unit-is _ _ (sym (c .before .before .before .item-at .ensures) ∙ c .before .item2 .given .1)
 
 returns : tie.Need-returns Inv-loop μ-loop
 unfolding nth
 returns c = rw (c .if1 .taken)
 
-bytes-requires : tie.Need-bytes-requires Inv-loop μ-loop
-bytes-requires c κs = search needs
-
 loop-holds : tie.Need-loop-holds Inv-loop μ-loop
-loop-holds c = finding-start _ _ _ _ (c .before .before .before .pre) (c .before .if1 .left)
+loop-holds c = finding-start _ _ _ _ (c .before .before .pre .0) (c .before .before .pre .1) (c .if1 .left)
 
-type-at-requires : tie.Need-type-at-requires Inv-loop μ-loop
-type-at-requires c κs = search needs
+item-at-requires : tie.Need-item-at-requires Inv-loop μ-loop
+item-at-requires c κs = search needs
 
-add-q : tie.Need-add-q Inv-loop μ-loop
-add-q c = let w = skips c in omega arith
-
-add-q-2 : tie.Need-add-q-2 Inv-loop μ-loop
-add-q-2 c = let w = skips c in omega arith
-
-add-q-3 : tie.Need-add-q-3 Inv-loop μ-loop
-add-q-3 c = let w = skips c in omega arith
-
-loop-less : tie.Need-loop-less Inv-loop μ-loop
-loop-less c = let w = skips c in omega arith
-
-loop-again : tie.Need-loop-again Inv-loop μ-loop
-loop-again c = rw (c .before .before .before .before .bytes .ensures .0) (finding-skip _ _ _ _ _ _ (c .before .before .before .loop .inv) (c .before .before .loop-test .taken) (aggregator c))
-
-sub-left : tie.Need-sub-left Inv-loop μ-loop
-sub-left c = let h = c .before .before .before .loop .inv .some in omega arith
+enum-told : tie.Need-enum-told Inv-loop μ-loop
+enum-told c = search needs
 
 returns-2 : tie.Need-returns-2 Inv-loop μ-loop
-returns-2 c = finding-found _ _ _ _ _ _ (c .before .before .before .before .loop .inv) (c .before .before .before .loop-test .taken) (other (c .before)) (c .if3 .taken)
+returns-2 c = let a = c .before .before in walking-never _ _ _ (a .before .before .loop .inv .walking) (a .before .loop-test .taken) (sym (a .item-at .ensures) ∙ c .enum-told .given .1)
 
-next-at-requires : tie.Need-next-at-requires Inv-loop μ-loop
-next-at-requires c κs = let w = takes (c .before) in omega arith
-
-loop-less-2 : tie.Need-loop-less-2 Inv-loop μ-loop
-loop-less-2 c = let w = takes (c .before .before) in let e = c .next-at .ensures in let n = next-after (X (c .before .before .before .before)) (P (c .before .before .before .before)) in omega arith
-
-loop-again-2 : tie.Need-loop-again-2 Inv-loop μ-loop
-loop-again-2 c = rw (c .next-at .ensures) (finding-take _ _ _ _ _ _ (c .before .before .before .before .before .loop .inv) (c .before .before .before .before .loop-test .taken) (other (c .before .before)) (c .before .if3 .left))
+enum-told-2 : tie.Need-enum-told-2 Inv-loop μ-loop
+enum-told-2 c = search needs
 
 returns-3 : tie.Need-returns-3 Inv-loop μ-loop
-returns-3 c = finding-end _ _ _ _ _ _ (c .before .loop .inv) (c .loop-test .left)
+returns-3 c = let a = c .before .before in let w = extractor-is _ _ (sym (a .item-at .ensures) ∙ c .enum-told2 .given .1) in finding-never _ _ _ _ _ _ (a .before .before .loop .inv) (a .before .loop-test .taken) (w .0) (w .1)
+
+enum-known-item : tie.Need-enum-known-item Inv-loop μ-loop
+enum-known-item c = search needs
+
+loop-less : tie.Need-loop-less Inv-loop μ-loop
+loop-less c = let w = aggregator c in omega arith
+
+loop-again : tie.Need-loop-again Inv-loop μ-loop
+loop-again c = let a = c .before .before .before in rw (aggregator c .1) (finding-skip _ _ _ _ _ _ (a .before .before .loop .inv) (a .before .loop-test .taken) (aggregator c .0))
+
+enum-known-item-2 : tie.Need-enum-known-item-2 Inv-loop μ-loop
+enum-known-item-2 c = search needs
+
+sub-left : tie.Need-sub-left Inv-loop μ-loop
+sub-left c = let h = c .before .before .before .before .before .loop .inv .some in omega arith
+
+returns-4 : tie.Need-returns-4 Inv-loop μ-loop
+returns-4 c = let a = c .before .before .before .before in finding-found _ _ _ _ _ _ (a .before .before .loop .inv) (a .before .loop-test .taken) (unit (c .before) .0) (c .if2 .taken)
+
+loop-less-2 : tie.Need-loop-less-2 Inv-loop μ-loop
+loop-less-2 c = let n = next-after (X (c .before .before .before .before)) (P (c .before .before .before .before)) in rw (unit (c .before) .2) (omega arith)
+
+loop-again-2 : tie.Need-loop-again-2 Inv-loop μ-loop
+loop-again-2 c = let a = c .before .before .before .before in let w = unit (c .before) in rw (w .2) (finding-take _ _ _ _ _ _ (a .before .before .loop .inv) (a .before .loop-test .taken) (w .0) (w .1) (c .if2 .left))
+
+returns-5 : tie.Need-returns-5 Inv-loop μ-loop
+returns-5 c = finding-end _ _ _ _ _ _ (c .before .loop .inv) (c .loop-test .left)
 
 pub place-among-spec : {M : Type 1} → statement M
 place-among-spec =
@@ -97,17 +93,18 @@ place-among-spec =
     Inv-loop
     μ-loop
     returns
-    bytes-requires
     loop-holds
-    type-at-requires
-    add-q
-    add-q-2
-    add-q-3
+    item-at-requires
+    enum-told
+    returns-2
+    enum-told-2
+    returns-3
+    enum-known-item
     loop-less
     loop-again
+    enum-known-item-2
     sub-left
-    returns-2
-    next-at-requires
+    returns-4
     loop-less-2
     loop-again-2
-    returns-3)
+    returns-5)

@@ -1,9 +1,8 @@
 -- By what stands there. Assumes nothing.
 use borrow.Author.Needs.{needs}
-use mathlib.Core.Path.{_≡_, sym, ap, _∙_}
+use Rattle.delivery.specs.Steps.{copyStep}
 use Rattle.delivery.proofs.copy_step.Statement.{statement}
 use Rattle.delivery.proofs.copy_step.Tie as tie
-use Rattle.delivery.specs.Steps.{copyStep}
 
 item-at-requires : tie.Need-item-at-requires
 item-at-requires c κs = search needs
@@ -23,6 +22,9 @@ enum-told-2 c = search needs
 enum-known-item-2 : tie.Need-enum-known-item-2
 enum-known-item-2 c = search needs
 
+number-after-requires : tie.Need-number-after-requires
+number-after-requires c κs = search needs
+
 with-copy-at-requires-2 : tie.Need-with-copy-at-requires-2
 with-copy-at-requires-2 c κs = search needs
 
@@ -40,7 +42,7 @@ returns-3 c = rw (← c .before .before .item-at .ensures, c .enum-told2 .given 
 
 returns-4 : tie.Need-returns-4
 unfolding copyStep
-returns-4 c = rw (c .with-copy-at2 .ensures, ← c .before .before .before .before .before .item-at .ensures, c .before .before .before .item2 .given .1)
+returns-4 c = rw (c .with-copy-at2 .ensures, c .before .number-after .ensures, ← c .before .before .before .before .before .before .item-at .ensures, c .before .before .before .before .item2 .given .1)
 
 pub copy-step-spec : {M : Type 1} → statement M
 copy-step-spec =
@@ -52,6 +54,7 @@ copy-step-spec =
     with-copy-at-requires
     enum-told-2
     enum-known-item-2
+    number-after-requires
     with-copy-at-requires-2
     returns
     returns-2

@@ -7,7 +7,7 @@ use Prim.Native.Nat.{ℕ, _+_, _-_, _*_, _≤_, _<_}
 use lib.ListN.{length}
 use Rattle.filling.proofs.fill_samples.Statement.{statement}
 use Rattle.bundles.specs.Limits.{sampleMost}
-use Rattle.bundles.specs.Fields.{entrySize, byteCountSize}
+use Rattle.bundles.specs.Fields.{sampleEntrySize, byteCountSize}
 use Rattle.bundles.specs.Bundles.{recordingOf, contentAt}
 use Rattle.tables.specs.Tables.{sampleRow}
 use Rattle.bundles.specs.Samples.{entryCount, entryAt}
@@ -17,7 +17,7 @@ use Rattle.filling.proofs.Rows.{rows-none, rows-put, sample-row, entry-
 use Rattle.filling.proofs.fill_samples.Tie as tie
 
 abbrev Inv-loop : tie.InvT-loop
-Inv-loop b t₀ start n p₀ place₀ i₀ t p place i = (i ≤ n) × (p ≡ start + i * entrySize) × (place ≡ startOf b i) × (length t ≡ length t₀) × (t ≡ writeRows t₀ (sampleRow 1) (sampleCells (recordingOf b) (contentAt b)) i)
+Inv-loop b t₀ start n p₀ place₀ i₀ t p place i = (i ≤ n) × (p ≡ start + i * sampleEntrySize) × (place ≡ startOf b i) × (length t ≡ length t₀) × (t ≡ writeRows t₀ (sampleRow 1) (sampleCells (recordingOf b) (contentAt b)) i)
 
 abbrev μ-loop : tie.MeasureT-loop
 μ-loop b t₀ start n p₀ place₀ i₀ t p place i = n - i
@@ -33,14 +33,14 @@ few c = let f = all c .samples .count .few in (omega (arith, c .before .before .
 placed : (c : tie.In-loop Inv-loop μ-loop) → c .before .loop .p ≡ entryAt (c .before .before .before .before .args .b .now) (c .before .loop .i + 1)
 placed c = omega (arith, c .before .before .before .before .pre .1, c .before .loop .inv .1)
 
-inside : (c : tie.In-loop Inv-loop μ-loop) → c .before .loop .p + entrySize ≤ length (c .before .before .before .before .args .b .now)
+inside : (c : tie.In-loop Inv-loop μ-loop) → c .before .loop .p + sampleEntrySize ≤ length (c .before .before .before .before .args .b .now)
 inside c = entry-sound (c .before .before .before .before .args .b .now) (all c) (c .before .loop .i) (c .before .loop .p) (few c .1) (placed c)
 
 -- where the next sample's bytes start
 next : (c : tie.After-number2 Inv-loop μ-loop) → c .before .before .before .loop .place + c .number2 .result ≡ startOf (c .before .before .before .before .before .before .args .b .now) (c .before .before .before .loop .i + 1)
 next c = rw (c .before .before .before .loop .inv .2, c .number2 .ensures, placed (c .before .before)) (start-next (c .before .before .before .before .before .before .args .b .now) (c .before .before .before .loop .i) (few (c .before .before) .1))
 
-within : (c : tie.After-slice-known Inv-loop μ-loop) → c .before .before .args .start + c .before .before .args .n * entrySize ≤ length (c .before .before .args .b .now)
+within : (c : tie.After-slice-known Inv-loop μ-loop) → c .before .before .args .start + c .before .before .args .n * sampleEntrySize ≤ length (c .before .before .args .b .now)
 within c = rw (c .before .before .pre .1, c .before .before .pre .2) (entries-inside (c .before .before .args .b .now) (accepted (c .before .before .args .b .now) (c .before .before .pre .0)))
 
 mul-place : tie.Need-mul-place Inv-loop μ-loop
@@ -53,7 +53,7 @@ add-place-2 : tie.Need-add-place-2 Inv-loop μ-loop
 add-place-2 c =
     let h = start-inside (c .before .before .args .b .now) 0 (accepted (c .before .before .args .b .now) (c .before .before .pre .0)) (omega arith) in
     let s = start-first (c .before .before .args .b .now) in
-    let e : c .before .before .args .start + c .before .before .args .n * entrySize + byteCountSize ≤ length (c .before .before .args .b .now) = rw (c .before .before .pre .1, c .before .before .pre .2) (omega arith) in
+    let e : c .before .before .args .start + c .before .before .args .n * sampleEntrySize + byteCountSize ≤ length (c .before .before .args .b .now) = rw (c .before .before .pre .1, c .before .before .pre .2) (omega arith) in
     omega arith
 
 loop-holds : tie.Need-loop-holds Inv-loop μ-loop

@@ -4,7 +4,7 @@ use native.Mathlib.Omega.{arith}
 use mathlib.Core.Path.{_≡_, _∙_}
 use Prim.Native.Nat.{_+_, _-_, _*_, _≤_, _<_}
 use Rattle.filling.proofs.samples_before.Statement.{statement}
-use Rattle.bundles.specs.Fields.{entrySize}
+use Rattle.bundles.specs.Fields.{sampleEntrySize}
 use Rattle.bundles.specs.Bundles.{layoutOf}
 use Rattle.bundles.specs.Samples.{track, entriesAt, entryCount}
 use Rattle.bundles.proofs.Sections.{Accepted, accepted}
@@ -21,7 +21,7 @@ abbrev μ-loop : tie.MeasureT-loop
 all : (c : tie.In-loop Inv-loop μ-loop) → Accepted (c .before .before .before .args .b .now)
 all c = accepted (c .before .before .before .args .b .now) (c .before .before .before .pre .0)
 
-read : (c : tie.After-number Inv-loop μ-loop) → c .number .result ≡ track (c .before .before .before .before .args .b .now) (entriesAt (c .before .before .before .before .args .b .now) + c .before .before .loop .n * entrySize)
+read : (c : tie.After-number Inv-loop μ-loop) → c .number .result ≡ track (c .before .before .before .before .args .b .now) (entriesAt (c .before .before .before .before .args .b .now) + c .before .before .loop .n * sampleEntrySize)
 read c = rw (← c .before .before .before .before .pre .1) (c .number .ensures)
 
 fewer : (c : tie.In-loop Inv-loop μ-loop) → c .before .loop .n < entryCount (c .before .before .before .args .b .now)

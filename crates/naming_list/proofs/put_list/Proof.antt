@@ -14,7 +14,7 @@ use Rattle.tables.proofs.Layouts.{samples-most}
 use Rattle.resolution_rules.specs.Resolving.{sampleOf}
 use Rattle.delivery.proofs.Steps.{sample-from}
 use Rattle.delivery.proofs.Folds.{content-most}
-use Rattle.naming_list_rules.specs.Naming.{namersIn, entrySize}
+use Rattle.naming_list_rules.specs.Naming.{namersIn, listEntrySize}
 use Rattle.naming_list.specs.Steps.{namersFrom}
 use Rattle.naming_list.proofs.Namers.{namers-formed}
 use Rattle.naming_list.proofs.Listings.{namers-few, some-formed, Putting, putting-start, putting-length, putting-most, putting-none, putting-room, putting-some, putting-end}
@@ -56,7 +56,7 @@ number : (c : tie.After-slice-known2 Inv-loop μ-loop) → c .before .before .pu
 number c = c .before .before .put-namers .ensures .0 ∙ ap length (namers (c .before .before .before))
 
 -- the numbers are small
-few : (c : tie.In-loop Inv-loop μ-loop) → (c .before .loop .at ≤ c .before .loop .n * bundleMost * entrySize) × (length (namersIn (R c) (c .before .before .before .before .before .before .args .s .0) (c .before .loop .n + 1)) ≤ bundleMost)
+few : (c : tie.In-loop Inv-loop μ-loop) → (c .before .loop .at ≤ c .before .loop .n * bundleMost * listEntrySize) × (length (namersIn (R c) (c .before .before .before .before .before .before .args .s .0) (c .before .loop .n + 1)) ≤ bundleMost)
 few c =
     let a = c .before .before .before .before .before .before .args in
     let m = namers-few (R c) (a .s .0) (c .before .loop .n + 1) in

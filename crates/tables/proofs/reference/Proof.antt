@@ -39,7 +39,7 @@ add-cell-2 : tie.Need-add-cell-2 Inv-loop μ-loop
 add-cell-2 c = omega (arith, c .before .before .reference-total .ensures .1)
 
 cell-requires : tie.Need-cell-requires Inv-loop μ-loop
-cell-requires c κs = omega (arith, c .before .before .reference-total .ensures .1)
+cell-requires c κs = search needs
 
 one-more-requires : tie.Need-one-more-requires Inv-loop μ-loop
 one-more-requires c κs = omega (arith, c .before .before .before .reference-total .ensures .1)
@@ -51,7 +51,7 @@ add-cell-4 : tie.Need-add-cell-4 Inv-loop μ-loop
 add-cell-4 c = omega (arith, c .before .before .before .before .before .reference-total .ensures .1)
 
 cell-requires-2 : tie.Need-cell-requires-2 Inv-loop μ-loop
-cell-requires-2 c κs = omega (arith, c .before .before .before .before .before .reference-total .ensures .1)
+cell-requires-2 c κs = search needs
 
 returns-2 : tie.Need-returns-2 Inv-loop μ-loop
 returns-2 c =

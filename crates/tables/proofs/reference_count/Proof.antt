@@ -26,7 +26,7 @@ add-cell-2 : tie.Need-add-cell-2 Inv-loop μ-loop
 add-cell-2 c = omega (arith, c .before .before .reference-total .ensures .1)
 
 cell-requires : tie.Need-cell-requires Inv-loop μ-loop
-cell-requires c κs = omega (arith, c .before .before .reference-total .ensures .1)
+cell-requires c κs = search needs
 
 one-more-requires : tie.Need-one-more-requires Inv-loop μ-loop
 one-more-requires c κs = omega (arith, c .before .before .before .reference-total .ensures .1)

@@ -16,7 +16,7 @@ returns-2 : tie.Need-returns-2
 returns-2 c = let a = c .before .before .before .before .args in rw (track-past (a .t .now) (a .k .0) (omega (arith, c .before .track-total .ensures .0)))
 
 cell-requires : tie.Need-cell-requires
-cell-requires c κs = omega (arith, c .before .track-total .ensures .1)
+cell-requires c κs = search needs
 
 size-of-requires : tie.Need-size-of-requires
 size-of-requires c κs = search needs

@@ -80,18 +80,25 @@ module _ {M : Type 1} (𝓤 : URA M) (H : Heap 𝓤) (A : Atoms 𝓤) (W : Given
   abbrev Post : Val → SProp 𝓤
   Post = walkOf 𝓤 H A f.ended stayed (f.clauses 𝓤 H A at-mem run) .post (((κ, tt), (q, tt), tt, x, at), tt)
 
+  -- the outcome that `raised` is passed
+  abbrev passed : Outcome
+  passed = e
+
+  passed-is : Is O.the-row passed (ov passed)
+  passed-is = ge
+
   -- what `raised`'s triple binds outside
   abbrev to : Raised 𝓤 H A at-mem run .Ghost
-  to = ((tt, tt, tt, (h, (e, tt)), (tv h, (ov e, tt))), tt)
+  to = ((tt, tt, tt, (h, (passed, tt)), (tv h, (ov passed, tt))), tt)
 
   goes-call : Is T.the-row h (tv h) → ent 𝓤 (sem 𝓤 H A ftrue) (Raised 𝓤 H A at-mem run .pre to)
   goes-call gh =
-      qed W (‵ ftrue ∷ []) ∵ nothing ! $ owned ! O.the-row (Is O.the-row) (EL.makes O.the-type O′.the-plain 𝓤 H A) e _ ge $ fjoin ! $
+      qed W (‵ ftrue ∷ []) ∵ nothing ! $ owned ! O.the-row (Is O.the-row) (EL.makes O.the-type O′.the-plain 𝓤 H A) passed _ passed-is $ fjoin ! $
       owned ! T.the-row (Is T.the-row) (LL.makes T.the-type T′.the-plain 𝓤 H A) h _ gh $ fjoin ! $ move ! (1 ∷ 0 ∷ []) $ join ! $ frame ! $ done !
 
   -- of the callee's `ensured`, the clause alone
-  said : (r : Tally) → ent 𝓤 (ensured 𝓤 H A raised.ended (raised.clauses 𝓤 H A at-mem run) tt (h, (e, tt)) tt r) (fact 𝓤 (r ≡ raisedBy e h))
-  said r = exE 𝓤 _ (λ ws. snd∗ 𝓤 (sem 𝓤 H A (lasts raised.ended tt (h, (e, tt)) ws)) (fact 𝓤 (r ≡ raisedBy e h)))
+  said : (r : Tally) → ent 𝓤 (ensured 𝓤 H A raised.ended (raised.clauses 𝓤 H A at-mem run) tt (h, (passed, tt)) tt r) (fact 𝓤 (r ≡ raisedBy passed h))
+  said r = exE 𝓤 _ (λ ws. snd∗ 𝓤 (sem 𝓤 H A (lasts raised.ended tt (h, (passed, tt)) ws)) (fact 𝓤 (r ≡ raisedBy passed h)))
 
   exits : (r : Tally) → r ≡ raisedBy e h → ent 𝓤 (sep 𝓤 (A .obs γ (T.the-row .coded .code r)) (sep 𝓤 (A .bor κ (Body (mem T.the-row) b o γ)) (A .lft κ q))) (Post vunit)
   exits r eq =
@@ -114,8 +121,8 @@ module _ {M : Type 1} (𝓤 : URA M) (H : Heap 𝓤) (A : Atoms 𝓤) (W : Given
         assigns ! (of-opd ! (load ! (from ! (hop ! (look ! 11 refl) (stop !))) (look-raw ! 0 refl))) (from ! (stop !)) (init ! 5 refl (LL.lawful T.the-type T′.the-laws 𝓤 H A W .typed h (tv h) was .0)) $
         nothing ! $ use1 W (raw (Raised 𝓤 H A at-mem run .pre to)) (goes-call was) $
         calls-at ! fm (Raised 𝓤 H A at-mem run) known to (and-then ! (load ! (from ! (stop !)) (look ! 6 refl)) (and-then ! (load ! (from ! (stop !)) (look ! 10 refl)) (no-more !))) (λ w.
-        use1 W (later (some (λ (r : Tally). (‵ ftrue ⊛ ‵ (T.the-row .own r (w ∷ []))) ⊛ raw (ensured 𝓤 H A raised.ended (raised.clauses 𝓤 H A at-mem run) tt (h, (e, tt)) tt r)))) (id⊢ 𝓤 _) $ await ! tt $ pick ! (λ r.
-        split ! $ move ! (1 ∷ []) $ use1 W (raw (fact 𝓤 (r ≡ raisedBy e h))) (said r) $ heard ! (r ≡ raisedBy e h) (λ eq. split ! $ drop ! $
+        use1 W (later (some (λ (r : Tally). (‵ ftrue ⊛ ‵ (T.the-row .own r (w ∷ []))) ⊛ raw (ensured 𝓤 H A raised.ended (raised.clauses 𝓤 H A at-mem run) tt (h, (passed, tt)) tt r)))) (id⊢ 𝓤 _) $ await ! tt $ pick ! (λ r.
+        split ! $ move ! (1 ∷ []) $ use1 W (raw (fact 𝓤 (r ≡ raisedBy passed h))) (said r) $ heard ! (r ≡ raisedBy passed h) (λ eq. split ! $ drop ! $
         peeks ! T.the-row (Is T.the-row) (shows 𝓤 H A T.the-row) r (w ∷ []) (λ is.
         -- [what the result owns; the struct's cell; what a Tally owns; the open borrow; obs; auth; _4; …; room for _3; …; _2; …; _1; …; room for _0; …]
         land ! (from ! (stop !)) (init ! 8 refl (LL.lawful T.the-type T′.the-laws 𝓤 H A W .typed r _ is .0)) $

@@ -1,4 +1,0 @@
--- The code of resolving in the words of the crate resolution_rules.
---
---   Answers     what the answers of the code say
-pub mod Answers

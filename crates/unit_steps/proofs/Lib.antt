@@ -1,0 +1,4 @@
+-- Laws of what a walk over units meets.
+--
+--   Items    what stands at a place
+pub mod Items
