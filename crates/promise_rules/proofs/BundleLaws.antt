@@ -12,8 +12,8 @@ use Rattle.words.specs.Refusals.{_atPlace_, ok}
 use Rattle.words.specs.Lists.{_∈_, nth, upto}
 use Rattle.words.specs.Walks.{entries}
 use Rattle.words.specs.Bytes.{Bytes, byteAt, big}
-use Rattle.words.proofs.Tests.{by-bool, by-number}
-use Rattle.words.proofs.Refusals.{if-none, and-ok, at-ok, at-none, first-all, ok-same, ok-refused}
+use Rattle.words.proofs.Tests.{by-bool, by-number, within-count}
+use Rattle.words.proofs.Refusals.{if-none, and-ok, at-ok, at-none, first-all, ok-refused}
 use Rattle.words.proofs.Lists.{upto-from, nth-mem}
 use Rattle.words.proofs.Joined.{nth-map}
 use Rattle.words.proofs.Entries.{entries-length}
@@ -38,7 +38,7 @@ use Rattle.bundles.specs.Bundles.{byteCountFault, lengthVerdict, bytesVerdict, 
 use Rattle.bundles.proofs.Promises.{means, samples-tile}
 use Rattle.bundles.proofs.Sections as sections
 use Rattle.promise_rules.specs.Records.{RecordOf}
-use Rattle.promise_rules.proofs.RecordLaws.{accepted-exactly}
+use Rattle.promise_rules.proofs.RecordLaws.{found-as, accepted-exactly}
 use Rattle.promise_rules.specs.Bundles.{two, three, four, entry, trackPlaces, referencePlaces, total, CountAt, TrackAt, TrackSize, ReferenceAt, EntryAt, TracksOf, ReferencesOf, SamplesOf, BytesOf, BundleOf, TrackMeans, Means}
 use Rattle.promise_rules.proofs.CallLaws.{part-bytes}
 
@@ -107,12 +107,6 @@ module _ (b : List ℕ) where
   stated (RecordOf.avc h x l q g e n) = h .«length_size»
   stated (RecordOf.trailed t h x l q g e n y) = h .«length_size»
   stated (RecordOf.svc bit h x l q e n) = h .«length_size»
-
-  found-as : (kind : ℕ) (k : Kind) (s : List ℕ) {r : Record} → kindOf kind ≡ Known k → readRecord kind s ≡ ok r → recordOf k s ≡ r
-  unfolding readRecord readAs
-  found-as kind k s q e =
-      let h = rw q at e in
-      by-number (recordFault k s) (λ z. ok-same (rw z at h)) (λ m z. ok-refused (rw z at h))
 
   size-stated : (kind : ℕ) (s : List ℕ) → Bytes s → (m : MaybeKind) → kindOf kind ≡ m → (f : Fields) (a c x : List ℕ) → RecordOf f a c x kind s →
       lengthSize (knownKind m) s ≡ f .«length_size»
@@ -203,7 +197,7 @@ module _ (b : List ℕ) where
 
   exists : (k : ℕ) → (0 < k) × (k ≤ big b 0 1) → noSuchTrack b k ≡ false
   unfolding noSuchTrack
-  exists k h = let z = h .0 in rw (ne-eqb k 0 (λ e. absurd (omega arith)), le-ltb (big b 0 1) k (h .1))
+  exists k h = within-count (big b 0 1) k (h .0) (h .1)
 
   pub reference-none : Bytes b → (p : ℕ) → ReferenceAt b p → referenceFault b p ≡ 0
   unfolding referenceFault

@@ -23,7 +23,7 @@ use Rattle.bundles.specs.Recordings.{Recording, sampleCount, contentOf}
 use Rattle.bundles.specs.Readers.{firstLayout}
 use Rattle.links.specs.Order.{TimesRise}
 use Rattle.resolution_rules.specs.Resolving.{sampleOf, Span, own, named, nameFaultAt, copiedAt, deliveredAt, delivered, judged}
-use Rattle.resolution_rules.specs.Calls.{written, output, noSpan, resolveCall, unitCall, placedBy, placeCall}
+use Rattle.resolution_rules.specs.Calls.{written, output, noSpan, resolveCall, unitCall}
 use Rattle.resolution_rules.specs.Rules.{Resolves}
 use Rattle.resolution_rules.proofs.Good.{good-rules}
 use Rattle.resolution_rules.proofs.Delivered.{delivered-unit, delivered-aggregator, delivered-extractor}

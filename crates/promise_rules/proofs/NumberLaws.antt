@@ -1,11 +1,11 @@
 -- The proofs of what Demands says of where sets stand, and of records as numbers. Assumes nothing.
-use Prim.Native.Nat.{ℕ, zero, suc, _+_, _≤_, _<_}
+use Prim.Native.Nat.{ℕ, suc, _+_, _≤_, _<_}
 use mathlib.Core.Path.{_≡_, refl, ap, sym, _∙_, subst}
-use mathlib.Core.Bool.{Bool, true, false, not, _||_}
+use mathlib.Core.Bool.{Bool, true, false, _||_}
 use mathlib.Core.List.{List, [], _∷_, List·Memᴰ·not-nil, List·Memᴰ·cases-cons}
 use mathlib.Core.Logic.{_⊎_, inl, inr, ⊎-elim, _↔_}
 use native.Mathlib.Omega.{arith}
-use borrow.Author.Tests.{ltb-true, ltb-false, le-ltb, lt-ltb, eqb-true, eqb-false, eq-eqb, ne-eqb, not-false}
+use borrow.Author.Tests.{ltb-true, ltb-false, le-ltb, eqb-true, eqb-false, ne-eqb, not-false}
 use lib.ListN.{length, getD}
 use Rattle.words.specs.Tests.{_<?_, _≡?_}
 use Rattle.words.specs.RefusalNumbers.{fieldsFitNoRecord}
@@ -19,10 +19,10 @@ use Rattle.words.proofs.Buffers.{within-room, within-not}
 use Rattle.numbers.specs.Kinds.{kindOf}
 use Rattle.numbers.specs.declared.Kind.{Kind}
 use Rattle.numbers.specs.declared.Kind.the-variants.{Avc, Svc}
-use Rattle.numbers.specs.declared.MaybeKind.the-variants.{Known, Unknown}
+use Rattle.numbers.specs.declared.MaybeKind.the-variants.{Known}
 use Rattle.record_rules.specs.Layout.{bit}
-use Rattle.record_rules.specs.Read.{recordFault, recordOf, readAs, readRecord}
-use Rattle.record_rules.specs.Fields.{placed, recordBytes}
+use Rattle.record_rules.specs.Read.{recordOf, readRecord}
+use Rattle.record_rules.specs.Fields.{placed}
 use Rattle.record_rules.specs.Trailers.{ending}
 use Rattle.record_rules.specs.Answers.{partBytes}
 use Rattle.record_rules.specs.declared.Flag.{Flag}
@@ -35,28 +35,21 @@ use Rattle.record_rules.proofs.Fits.{fitting}
 use Rattle.record_rules.proofs.ReadsBack.{bytes-record}
 use Rattle.record_writer.specs.Write.{writeRecord}
 use Rattle.record_writer.specs.Promise.{Holds}
-use Rattle.record_numbers.specs.Numbers.{numbersOf, asNumbers, readNumbers, flagMost, numbersFault, fieldsFrom, writeNumbersAs, writeNumbers}
+use Rattle.record_numbers.specs.Numbers.{numbersOf, asNumbers, readNumbers, flagMost, numbersFault, fieldsFrom, writeNumbers}
 use Rattle.record_numbers.specs.Numbers as numbers
 use Rattle.promise_rules.specs.Records.{RecordOf, WriteRefused}
-use Rattle.promise_rules.specs.Reading.{ReadRefused}
 use Rattle.promise_rules.specs.Numbers.{SetsStand, trailerHead, flagNumber, trailerNumbers, numbersFor, FlagIn, TrailerIn, FieldsIn, NumbersRead, NumbersReadRefused, NumbersWritten, NumbersWriteRefused}
-use Rattle.promise_rules.proofs.RecordLaws.{fitted, by-kind, accepted-exactly, written-exactly, write-refused-exactly}
+use Rattle.promise_rules.proofs.RecordLaws.{fitted, found-as, by-kind, accepted-exactly, written-exactly, write-refused-exactly}
 use Rattle.promise_rules.proofs.ReadLaws.{read-refused}
 use Rattle.promise_rules.proofs.ReturnLaws.{fault-31, write-known, write-fault, write-unknown}
 
 -- what a record that was read says is where its sets are put
-read-is : (kind : ℕ) (k : Kind) (s : List ℕ) {r : Record} → kindOf kind ≡ Known k → readRecord kind s ≡ ok r → recordOf k s ≡ r
-unfolding readRecord readAs
-read-is kind k s q e =
-    let h = rw q at e in
-    by-number (recordFault k s) (λ z. ok-same (rw z at h)) (λ m z. ok-refused (rw z at h))
-
 module _ (f : Fields) (a c x : List ℕ) (kind : ℕ) (s : List ℕ) where
   found-placed : {r : Record} → RecordOf f a c x kind s → readRecord kind s ≡ ok r → r ≡ placed f a c x
   found-placed w e =
       let v = fitted f a c x w in
       let g = fitting (v .known) f a c x (v .fits) in
-      sym (read-is kind (v .known) s (v .is) e)
+      sym (found-as kind (v .known) s (v .is) e)
       ∙ (ap (recordOf (v .known)) (sym (v .bytes))
       ∙ bytes-record (v .known) f a c x (g .numbers) (g .sequences) (g .pictures) (g .extensions) (g .belongs))
 

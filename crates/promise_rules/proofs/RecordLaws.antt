@@ -7,9 +7,9 @@
 --   write-refused-exactly     when writing is refused
 --   read-none, read-known, known-read    reading refused, by the first refusal of the bytes
 --   read-number               with which numbers
-use Prim.Native.Nat.{ℕ, zero, suc, _+_, _-_, _*_, _%_, _≤_, _<_}
-use mathlib.Core.Path.{_≡_, refl, ap, sym, _∙_, subst}
-use mathlib.Core.Bool.{Bool, true, false, _||_, not}
+use Prim.Native.Nat.{ℕ, zero, suc, _+_, _-_, _*_, _≤_, _<_}
+use mathlib.Core.Path.{_≡_, refl, sym, _∙_, subst}
+use mathlib.Core.Bool.{true, false, not}
 use mathlib.Core.List.{List, [], _∷_, _++_, append-nil, List·Memᴰ·head, List·Memᴰ·tail, List·Memᴰ·not-nil, List·Memᴰ·cases-cons}
 use mathlib.Core.Logic.{_⊎_, inl, inr, ⊎-elim, _↔_}
 use native.Mathlib.Omega.{arith}
@@ -19,7 +19,7 @@ use Rattle.words.specs.Tests.{_<?_, _≡?_, all}
 use Rattle.words.specs.Refusals.{_orElse_, firstOf, Answer, refused, ok}
 use Rattle.words.specs.Lists.{_∈_}
 use Rattle.words.specs.Walks.{entries, skip}
-use Rattle.words.specs.Bytes.{Bytes, byteAt, big}
+use Rattle.words.specs.Bytes.{Bytes, big}
 use Rattle.words.specs.Buffers.{within, overwrite, Wrote}
 use Rattle.words.proofs.Tests.{by-bool, all-first, true-false}
 use Rattle.words.proofs.Refusals.{orElse-none, ok-same, ok-refused, refused-same}
@@ -41,9 +41,10 @@ use Rattle.record_rules.specs.declared.High.{High}
 use Rattle.record_rules.specs.declared.Trailer.{Trailer}
 use Rattle.record_rules.specs.declared.Trailer.the-variants.{Without, With}
 use Rattle.record_rules.specs.declared.Fields.{Fields}
+use Rattle.record_rules.specs.declared.Record.{Record}
 use Rattle.record_rules.proofs.Numbers.{Numbers, numbers, numbers-true, high-numbers, high-true}
 use Rattle.record_rules.proofs.Fits.{fits-by-parts}
-use Rattle.record_rules.specs.Read.{recordFault, readAs, readRecord}
+use Rattle.record_rules.specs.Read.{recordFault, recordOf, readAs, readRecord}
 use Rattle.record_rules.proofs.Refusals.{record-refusal}
 use Rattle.words.specs.RefusalNumbers.{recordRefusals}
 use Rattle.words.proofs.Refusals.{none-or-some}
@@ -52,7 +53,7 @@ use Rattle.record_writer.specs.Write.{writeAs, writeRecord}
 use Rattle.record_writer.specs.Promise.{Holds}
 use Rattle.record_writer.proofs.Laws.{write-misfit, write-fits}
 use Rattle.record_writer.proofs.Promise.{writes-back, reads-back}
-use Rattle.promise_rules.specs.Records.{SetAt, SetsTo, Sets, trailerProfiles, Shared, Trailed, RecordOf, WriteRefused}
+use Rattle.promise_rules.specs.Records.{SetsTo, Sets, trailerProfiles, Shared, RecordOf, WriteRefused}
 
 -- sets
 module _ (types : SetTypes) (ts : List ℕ) (to : (t : ℕ) → oneOf types t ≡ true → t ∈ ts) (from : (t : ℕ) → t ∈ ts → oneOf types t ≡ true) (s : List ℕ) where
@@ -314,6 +315,13 @@ module _ (f : Fields) (a b x : List ℕ) where
         belongs = rw e;
         extensions = rw (e, none) nothing-fits;
       }
+
+-- what is read
+pub found-as : (kind : ℕ) (k : Kind) (s : List ℕ) {r : Record} → kindOf kind ≡ Known k → readRecord kind s ≡ ok r → recordOf k s ≡ r
+unfolding readRecord readAs
+found-as kind k s q e =
+    let h = rw q at e in
+    by-number (recordFault k s) (λ z. ok-same (rw z at h)) (λ m z. ok-refused (rw z at h))
 
 -- of a kind's number
 pub record Fitted (kind : ℕ) (f : Fields) (a b x s : List ℕ) : Type 0 where

@@ -1,37 +1,35 @@
 -- The proofs of what Demands says of resolving. Assumes nothing.
-use Prim.Native.Nat.{ℕ, zero, suc, _+_, _-_, _*_, _≤_, _<_}
+use Prim.Native.Nat.{ℕ, _+_, _-_, _≤_, _<_}
 use mathlib.Core.Path.{_≡_, refl, ap, sym, _∙_, subst}
-use mathlib.Core.Bool.{Bool, true, false, not, _&&_}
-use mathlib.Core.List.{List, [], _∷_, List·Memᴰ}
-use mathlib.Core.Logic.{_⊎_, inl, inr, ⊎-elim, _↔_}
+use mathlib.Core.Bool.{true, not, _&&_}
+use mathlib.Core.List.{List}
+use mathlib.Core.Logic.{_↔_}
 use native.Mathlib.Omega.{arith}
 use native.Mathlib.Nat.{pos-of-ne-zero}
-use borrow.Author.Tests.{ltb-true, ltb-false, le-ltb, eqb-true, eqb-false, ne-eqb, eq-eqb, leb-true, leb-false, le-leb, lt-leb}
+use borrow.Author.Tests.{ltb-true, ltb-false, le-ltb, eqb-true, eqb-false, ne-eqb, eq-eqb, leb-true, leb-false, le-leb}
 use lib.ListN.{length}
-use Rattle.words.specs.Tests.{_≤?_, _<?_, _≡?_, pick}
-use Rattle.words.specs.Refusals.{Answer, refused, ok}
+use Rattle.words.specs.Tests.{_≤?_, _<?_, _≡?_}
+use Rattle.words.specs.Refusals.{ok}
 use Rattle.words.specs.Lists.{_∈_, keep, nth}
-use Rattle.words.proofs.Tests.{by-bool, by-number, true-false}
-use Rattle.words.proofs.Lists.{keep-mem, keep-from, has-from, some-mem}
-use Rattle.units.specs.Units.{Sample, L, end, size, type, next, isAggregator, isExtractor, topUnits, border}
+use Rattle.words.proofs.Tests.{by-bool, by-number}
+use Rattle.words.proofs.Lists.{keep-from, some-mem}
+use Rattle.units.specs.Units.{Sample, end, type, isAggregator, isExtractor, topUnits, border}
 use Rattle.units.specs.Extractors.{trackRefIndex, sampleOffset, dataOffset, dataLength}
-use Rattle.units.specs.Aggregators.{additionalBytes, coverEnd, units, extractors}
+use Rattle.units.specs.Aggregators.{units, extractors}
 use Rattle.samples.specs.Check.{check}
-use Rattle.bundles.specs.Recordings.{Layout, Recording, noReference, sampleCount, trackOf, timeOf, referencesFrom, samplesIn}
+use Rattle.bundles.specs.Recordings.{Layout, Recording, noReference, trackOf, referencesFrom, samplesIn}
 use Rattle.links.specs.Links.{linkFault, linkedTrack, base, sampleNamed, nameFault}
-use Rattle.links.specs.Order.{TimesRise, baseSample, before, upTo, Steps}
-use Rattle.links.proofs.Links.{link-none, link-good, in-track, track-in, named-there, name-none, name-good, linked-none}
+use Rattle.links.specs.Order.{TimesRise, baseSample, before, upTo}
+use Rattle.links.proofs.Links.{link-none, link-good, in-track, track-in, named-there, name-none, name-good}
 use Rattle.links.proofs.Order.{named-steps, named-baseless, base-times, base-last, later-without, before-test, upTo-test}
-use Rattle.copies.specs.Copies.{copyEnd, copied, copyFault, copyStarts, withoutAggregators}
-use Rattle.copies.specs.Rules.{CopyRules}
+use Rattle.copies.specs.Copies.{copyEnd, copied, copyFault, withoutAggregators}
 use Rattle.copies.proofs.Copied.{between-units, copy-rules, rules-copy, start-top, end-border, copied-exact}
-use Rattle.resolution_rules.specs.Resolving.{sampleOf, own, named, linked, nameFaultAt, copyFaultAt, extractFault, judged}
-use Rattle.resolution_rules.specs.Rules.{Extracts, Good}
+use Rattle.resolution_rules.specs.Resolving.{sampleOf, own, named, linked, judged}
+use Rattle.resolution_rules.specs.Rules.{Extracts}
 use Rattle.resolution_rules.proofs.Good.{good-rules, rules-good}
 use Rattle.resolution_rules.proofs.Exactly.{extractor-mem}
 use Rattle.copies.proofs.Borders.{top-border}
 use Rattle.words.proofs.Kept.{keep-keep}
-use Rattle.promise_rules.specs.Samples.{BorderAt, Formed}
 use Rattle.promise_rules.proofs.SampleLaws.{formed-rules, rules-formed, border-at, at-border}
 use Rattle.promise_rules.specs.Resolving.{Sampled, BaseOf, On, NamedBy, CopyEnds, CopyOf, Extraction, GoodSample}
 

@@ -14,8 +14,7 @@ use Rattle.words.specs.Bytes.{Bytes, byteAt, big, bytes, part}
 use Rattle.words.proofs.Tests.{by-bool}
 use Rattle.words.proofs.Lists.{nth-mem, upto-mem, Rising}
 use Rattle.words.proofs.Rows.{getD-mem, upto-length, upto-split, nth-upto}
-use Rattle.words.proofs.Entries.{map-append, entries-length}
-use Rattle.words.proofs.Joined.{nth-map}
+use Rattle.words.proofs.Entries.{map-append}
 use Rattle.units.specs.Units.{Sample, L, size, type, next, end, places, topUnits}
 use Rattle.units.specs.Aggregators.{included, units}
 use Rattle.units.specs.Rules.{Tiles}
@@ -24,8 +23,8 @@ use Rattle.units.proofs.Walks.{places-end, places-step, units-top, units-includ
 use Rattle.samples.proofs.Laws.{top-tile, check-top, included-tile}
 use Rattle.bundles.specs.Recordings.{Recording, Entry, noTrack, noEntry, sampleCount, trackOf, contentOf}
 use Rattle.bundles.specs.Readers.{firstLayout}
-use Rattle.bundles.specs.Tracks.{trackOn, tracks, referencesAt}
-use Rattle.bundles.specs.References.{lengthSizeOn, samplesAt}
+use Rattle.bundles.specs.Tracks.{tracks, referencesAt}
+use Rattle.bundles.specs.References.{samplesAt}
 use Rattle.bundles.specs.Samples.{lengths, byteCountAt}
 use Rattle.bundles.specs.Bundles.{contentAt}
 use Rattle.bundles.proofs.Promises.{samples-tile, samples-all}
@@ -36,11 +35,11 @@ use Rattle.resolution_rules.proofs.Exactly.{delivered-there}
 use Rattle.resolution_rules.proofs.Readers.{firstLayout-sound}
 use Rattle.resolution_rules.proofs.Calls as calls
 use Rattle.promise_rules.specs.Samples.{Formed}
-use Rattle.promise_rules.specs.Bundles.{three, four, entry, trackPlaces, TrackAt, BundleOf, TrackMeans, Means}
+use Rattle.promise_rules.specs.Bundles.{three, four, entry, trackPlaces, BundleOf, TrackMeans, Means}
 use Rattle.promise_rules.specs.Units.{Walk, FieldsAt, Laid, UnitsOf, sampleStart, SampleMeans, PlacedAt}
 use Rattle.promise_rules.specs.Resolving.{Resolved, StandsAt}
 use Rattle.promise_rules.proofs.SampleLaws.{rules-formed}
-use Rattle.promise_rules.proofs.BundleLaws.{track-means, means-exactly}
+use Rattle.promise_rules.proofs.BundleLaws.{means-exactly}
 use Rattle.promise_rules.proofs.CallLaws.{good-exactly, delivers-only, unit-gives, unit-stands}
 
 module _ (x : Sample) where
