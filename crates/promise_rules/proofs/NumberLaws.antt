@@ -28,7 +28,7 @@ use Rattle.record_rules.specs.Answers.{partBytes}
 use Rattle.record_rules.specs.declared.Flag.{Flag}
 use Rattle.record_rules.specs.declared.Flag.the-variants.{Absent, Clear, Set}
 use Rattle.record_rules.specs.declared.Trailer.{Trailer}
-use Rattle.record_rules.specs.declared.Trailer.the-variants.{Without, With}
+use Rattle.record_rules.specs.declared.Trailer.the-variants.{None, Present}
 use Rattle.record_rules.specs.declared.Fields.{Fields}
 use Rattle.record_rules.specs.declared.Record.{Record}
 use Rattle.record_rules.proofs.Fits.{fitting}
@@ -54,8 +54,8 @@ module _ (f : Fields) (a c x : List ℕ) (kind : ℕ) (s : List ℕ) where
       ∙ bytes-record (v .known) f a c x (g .numbers) (g .sequences) (g .pictures) (g .extensions) (g .belongs))
 
   extensions-at : (t : Trailer) → 6 + length a + 1 + length c + length (ending t .head) ≡ 7 + length a + length c + trailerHead t
-  extensions-at Without = omega arith
-  extensions-at (With t) = omega arith
+  extensions-at None = omega arith
+  extensions-at (Present t) = omega arith
 
   stands : SetsStand (placed f a c x) a c x
   stands = record { sequences = (refl, refl); pictures = (omega arith, refl); extensions = (extensions-at (f .trailer), refl) }
@@ -73,8 +73,8 @@ flag-number Set = refl
 module _ (a c x : List ℕ) where
   tail-number : (t : Trailer) → numbers.trailerNumbers t (record { start = record { 0 = 6 + length a + 1 + length c + length (ending t .head) }; len = length x })
       ≡ trailerNumbers t (7 + length a + length c + 4) (length x)
-  tail-number Without = refl
-  tail-number (With t) = let e : 6 + length a + 1 + length c + 4 ≡ 7 + length a + length c + 4 = omega arith in rw e
+  tail-number None = refl
+  tail-number (Present t) = let e : 6 + length a + 1 + length c + 4 ≡ 7 + length a + length c + 4 = omega arith in rw e
 
   numbers-placed : (f : Fields) → numbersOf (placed f a c x) ≡ numbersFor f a c x
   unfolding numbersOf
@@ -83,8 +83,8 @@ module _ (a c x : List ℕ) where
       rw (tail-number (f .trailer), flag-number (f .complete), e)
 
   tail-length : (t : Trailer) (p n : ℕ) → length (trailerNumbers t p n) ≡ 7
-  tail-length Without p n = refl
-  tail-length (With t) p n = refl
+  tail-length None p n = refl
+  tail-length (Present t) p n = refl
 
   eighteen : (f : Fields) → length (numbersFor f a c x) ≡ 18
   eighteen f = rw (tail-length (f .trailer) (7 + length a + length c + 4) (length x))
@@ -189,8 +189,8 @@ module _ (ns : List ℕ) where
   said-by {kind} k e flag i q =
       let m = many k e in
       by-bool (getD ns 11 0 ≡? 2)
-      (λ t. rw (t, q) (FieldsIn.fields flag (With _) (m .0) i (TrailerIn.present (eqb-true _ _ t))))
-      (λ t. rw (t, q) (FieldsIn.fields flag Without (m .0) i (TrailerIn.none (trailer-none t (m .2)))))
+      (λ t. rw (t, q) (FieldsIn.fields flag (Present _) (m .0) i (TrailerIn.present (eqb-true _ _ t))))
+      (λ t. rw (t, q) (FieldsIn.fields flag None (m .0) i (TrailerIn.none (trailer-none t (m .2)))))
 
   said-avc : numbersFault Avc ns ≡ 0 → FieldsIn ns 0 (fieldsFrom Avc ns)
   unfolding fieldsFrom

@@ -27,11 +27,11 @@ use Rattle.numbers.specs.declared.MaybeKind.the-variants.{Known}
 use Rattle.sets.specs.Sets.{oneOf, setFault, setsFault, setsEnd}
 use Rattle.sets.specs.declared.SetTypes.{SetTypes}
 use Rattle.record_rules.specs.Layout.{recordLayout, fixedIn, pictureTypes, byteFault}
-use Rattle.record_rules.specs.Trailers.{hasTrailer, chromaShape, depthShape, extensionTypes, valuesFault, ending, endingOf}
+use Rattle.record_rules.specs.Trailers.{trailerBelongs, chromaShape, depthShape, extensionTypes, valuesFault, ending, endingOf}
 use Rattle.record_rules.specs.Read.{lengthSize, headFault, sequenceCount, sequencesFault, sequencesEnd, pictureCount, picturesEnd, recordEnd, recordFault, readRecord}
 use Rattle.record_rules.specs.declared.Shape.{Shape}
 use Rattle.promise_rules.specs.Records.{SetAt, SetsTo}
-use Rattle.promise_rules.specs.Reading.{ByteAt, ByteRefused, SetRefused, SetsRefused, SizeBits, CountBits, sequencesIn, sequenceTypes, HasTrailer, FormatBits, DepthBits}
+use Rattle.promise_rules.specs.Reading.{ByteAt, ByteRefused, SetRefused, SetsRefused, SizeBits, CountBits, sequencesIn, sequenceTypes, TrailerBelongs, FormatBits, DepthBits}
 use Rattle.promise_rules.specs.Reading.{Head, HeadRefused, SequencesEnd, PicturesEnd, EndsAt, EndRefused, BytesRefused, ReadRefused}
 use Rattle.promise_rules.proofs.FirstLaws.{Judges}
 use Rattle.promise_rules.proofs.RecordLaws.{sets-to, one-in, in-one, two-in, in-two, high-in, in-high, by-kind, read-none, read-known, known-read}
@@ -215,13 +215,13 @@ in-type : (k : Kind) (t : ℕ) → t ∈ sequenceTypes k → oneOf (recordLayout
 in-type Avc t m = in-one 7 t m
 in-type Svc t m = in-two 7 15 t m
 
-has-trailer : (k : Kind) (s : List ℕ) → hasTrailer k (byteAt s 1) ≡ true → HasTrailer k s
-has-trailer Avc s e = high-in (byteAt s 1) e
-has-trailer Svc s e = true-false false e refl
+trailer-belongs : (k : Kind) (s : List ℕ) → trailerBelongs k (byteAt s 1) ≡ true → TrailerBelongs k s
+trailer-belongs Avc s e = high-in (byteAt s 1) e
+trailer-belongs Svc s e = true-false false e refl
 
-trailer-has : (k : Kind) (s : List ℕ) → HasTrailer k s → hasTrailer k (byteAt s 1) ≡ true
-trailer-has Avc s m = in-high (byteAt s 1) m
-trailer-has Svc s m = absurd m
+trailer-belongs-true : (k : Kind) (s : List ℕ) → TrailerBelongs k s → trailerBelongs k (byteAt s 1) ≡ true
+trailer-belongs-true Avc s m = in-high (byteAt s 1) m
+trailer-belongs-true Svc s m = absurd m
 
 module _ (k : Kind) (s : List ℕ) (bytes : Bytes s) where
   -- the six bytes
@@ -270,7 +270,7 @@ module _ (k : Kind) (s : List ℕ) (bytes : Bytes s) where
     abbrev endPlace : ℕ
     endPlace = setsEnd s (ending (endingOf k s q) .sets) (q + length (ending (endingOf k s q) .head))
 
-    without : (HasTrailer k s → ⊥) → Judges (setsFault extensionTypes s 0 (q + 0)) (EndRefused k s q) (EndsAt k s q (setsEnd s 0 (q + 0)))
+    without : (TrailerBelongs k s → ⊥) → Judges (setsFault extensionTypes s 0 (q + 0)) (EndRefused k s q) (EndsAt k s q (setsEnd s 0 (q + 0)))
     unfolding entries skip firstOf
     without h = rw (add-zero q) (record {
       good = λ e. EndsAt.nothing h;
@@ -295,7 +295,7 @@ module _ (k : Kind) (s : List ℕ) (bytes : Bytes s) where
         ⊎ ((ByteAt FormatBits s q × (ByteAt DepthBits s (q + 1) × (ByteAt DepthBits s (q + 2) × (q + 3 < length s))))
         × SetsRefused (13 ∷ []) s (byteAt s (q + 3)) (q + 4) n)
 
-    module _ (has : HasTrailer k s) where
+    module _ (has : TrailerBelongs k s) where
       trailer-to : (n : ℕ) → TrailerTests n → EndRefused k s q n
       trailer-to n w = ⊎-elim
           (⊎-elim (λ x. EndRefused.format has x)
@@ -336,23 +336,23 @@ module _ (k : Kind) (s : List ℕ) (bytes : Bytes s) where
           trailer-good
 
     -- it ends at one place
-    trailer-end : (has : HasTrailer k s) {e : ℕ} → EndsAt k s q e → setsEnd s (byteAt s (q + 3)) (q + 4) ≡ e
+    trailer-end : (has : TrailerBelongs k s) {e : ℕ} → EndsAt k s q e → setsEnd s (byteAt s (q + 3)) (q + 4) ≡ e
     trailer-end has {e} w = sets-to extensionTypes (13 ∷ []) (one-in 13) (in-one 13) s (byteAt s (q + 3)) (q + 4) e (trailer-good has w .1) .1
 
-    without-end : (HasTrailer k s → ⊥) → {e : ℕ} → EndsAt k s q e → setsEnd s 0 (q + 0) ≡ e
+    without-end : (TrailerBelongs k s → ⊥) → {e : ℕ} → EndsAt k s q e → setsEnd s 0 (q + 0) ≡ e
     unfolding skip
     without-end h (EndsAt.nothing f) = add-zero q
     without-end h (EndsAt.trailer t f l c d w) = absurd (h t)
 
     end-one : (e : ℕ) → EndsAt k s q e → endPlace ≡ e
-    end-one e w = by-bool (hasTrailer k (byteAt s 1))
-        (λ t. rw t (trailer-end (has-trailer k s t) w))
-        (λ t. rw t (without-end (λ h. true-false _ (trailer-has k s h) t) w))
+    end-one e w = by-bool (trailerBelongs k (byteAt s 1))
+        (λ t. rw t (trailer-end (trailer-belongs k s t) w))
+        (λ t. rw t (without-end (λ h. true-false _ (trailer-belongs-true k s h) t) w))
 
     end-judged : Judges endFault (EndRefused k s q) (EndsAt k s q endPlace)
-    end-judged = by-bool (hasTrailer k (byteAt s 1))
-        (λ t. rw t (trailer-judged (has-trailer k s t)))
-        (λ t. rw t (without (λ h. true-false _ (trailer-has k s h) t)))
+    end-judged = by-bool (trailerBelongs k (byteAt s 1))
+        (λ t. rw t (trailer-judged (trailer-belongs k s t)))
+        (λ t. rw t (without (λ h. true-false _ (trailer-belongs-true k s h) t)))
 
   -- where the sequence sets and the picture sets end
   sequences-judged : Judges (sequencesFault k s) (SetsRefused (sequenceTypes k) s (sequencesIn k (byteAt s 5)) 6) (SetsTo (sequenceTypes k) s (sequencesIn k (byteAt s 5)) 6 (sequencesEnd k s))

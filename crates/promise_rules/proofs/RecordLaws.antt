@@ -39,7 +39,7 @@ use Rattle.record_rules.specs.declared.Flag.{Flag}
 use Rattle.record_rules.specs.declared.Flag.the-variants.{Absent, Clear, Set}
 use Rattle.record_rules.specs.declared.High.{High}
 use Rattle.record_rules.specs.declared.Trailer.{Trailer}
-use Rattle.record_rules.specs.declared.Trailer.the-variants.{Without, With}
+use Rattle.record_rules.specs.declared.Trailer.the-variants.{None, Present}
 use Rattle.record_rules.specs.declared.Fields.{Fields}
 use Rattle.record_rules.specs.declared.Record.{Record}
 use Rattle.record_rules.proofs.Numbers.{Numbers, numbers, numbers-true, high-numbers, high-true}
@@ -174,18 +174,18 @@ heads : {a b c d e e' g g' : ℕ} {l : List ℕ} → e ≡ e' → g ≡ g' → (
 heads p q = rw (p, q)
 
 module _ (f : Fields) (a b x : List ℕ) where
-  bytes-avc : f .complete ≡ Absent → f .trailer ≡ Without → x ≡ [] →
+  bytes-avc : f .complete ≡ Absent → f .trailer ≡ None → x ≡ [] →
       recordBytes Avc f a b x ≡ (1 ∷ f .profile ∷ f .compatibility ∷ f .level ∷ (252 + (f .«length_size» - 1)) ∷ (224 + f .sequences) ∷ (a ++ (f .pictures ∷ b)))
   unfolding recordBytes flagsByte
   bytes-avc c t e = rw (c, t, e, append-nil b) (heads (omega arith) (omega arith))
 
-  bytes-trailed : (t : High) → f .complete ≡ Absent → f .trailer ≡ With t →
+  bytes-trailed : (t : High) → f .complete ≡ Absent → f .trailer ≡ Present t →
       recordBytes Avc f a b x ≡ (1 ∷ f .profile ∷ f .compatibility ∷ f .level ∷ (252 + (f .«length_size» - 1)) ∷ (224 + f .sequences)
       ∷ (a ++ (f .pictures ∷ (b ++ ((252 + t .format) ∷ (248 + t .luma) ∷ (248 + t .chroma) ∷ t .extensions ∷ x)))))
   unfolding recordBytes flagsByte
   bytes-trailed t c e = rw (c, e) (heads (omega arith) (omega arith))
 
-  bytes-svc : (bit : ℕ) → ((f .complete ≡ Clear) × (bit ≡ 0)) ⊎ ((f .complete ≡ Set) × (bit ≡ 1)) → f .trailer ≡ Without → x ≡ [] →
+  bytes-svc : (bit : ℕ) → ((f .complete ≡ Clear) × (bit ≡ 0)) ⊎ ((f .complete ≡ Set) × (bit ≡ 1)) → f .trailer ≡ None → x ≡ [] →
       recordBytes Svc f a b x ≡ (1 ∷ f .profile ∷ f .compatibility ∷ f .level ∷ (bit * 128 + 124 + (f .«length_size» - 1)) ∷ f .sequences ∷ (a ++ (f .pictures ∷ b)))
   unfolding recordBytes flagsByte
   bytes-svc bit (inl c) t e = rw (c .0, c .1, t, e, append-nil b) (heads (omega arith) (omega arith))
@@ -242,14 +242,14 @@ absent-fits c e = rw e
 
 module _ (f : Fields) (a b x : List ℕ) where
   valid-avc : (t : Trailer) → f .trailer ≡ t → Parts Avc f a b x → RecordOf f a b x 0 (recordBytes Avc f a b x)
-  valid-avc Without e w =
+  valid-avc None e w =
       let absent = flag-absent (f .complete) (w .numbers .flags) in
       let none = none-left x (rw e at (w .extensions)) in
       rw (bytes-avc f a b x absent e none)
       (RecordOf.avc (shared Avc f a b x refl w) absent (w .numbers .sequences)
       (sets-fit (recordLayout Avc .sequence) (7 ∷ []) (one-in 7) (in-one 7) a (f .sequences) (w .sequences))
       (not-high (f .profile) (not-true _ (rw e at (w .belongs)))) e none)
-  valid-avc (With t) e w =
+  valid-avc (Present t) e w =
       let absent = flag-absent (f .complete) (w .numbers .flags) in
       let n = high-numbers t (rw e at (w .numbers .trailer)) in
       rw (bytes-trailed f a b x t absent e)
@@ -260,14 +260,14 @@ module _ (f : Fields) (a b x : List ℕ) where
       (sets-fit extensionTypes (13 ∷ []) (one-in 13) (in-one 13) x (t .extensions) (rw e at (w .extensions))))
 
   valid-svc : (t : Trailer) → f .trailer ≡ t → Parts Svc f a b x → RecordOf f a b x 1 (recordBytes Svc f a b x)
-  valid-svc Without e w =
+  valid-svc None e w =
       let bit = flag-given (f .complete) (w .numbers .flags) in
       let none = none-left x (rw e at (w .extensions)) in
       rw (bytes-svc f a b x (bit .0) (bit .1) e none)
       (RecordOf.svc (bit .0) (shared Svc f a b x refl w) (bit .1) (w .numbers .sequences)
       (sets-fit (recordLayout Svc .sequence) (7 ∷ 15 ∷ []) (two-in 7 15) (in-two 7 15) a (f .sequences) (w .sequences))
       e none)
-  valid-svc (With t) e w = true-false false (rw e at (w .belongs)) refl
+  valid-svc (Present t) e w = true-false false (rw e at (w .belongs)) refl
 
   -- and what is valid fits
   fits-avc : Shared f b → f .complete ≡ Absent → f .sequences < 32 → Sets (7 ∷ []) a (f .sequences) 0 →
@@ -294,7 +294,7 @@ module _ (f : Fields) (a b x : List ℕ) where
       }
 
   fits-svc : (bit : ℕ) → Shared f b → Bit (f .complete) bit → f .sequences < 128 → Sets (7 ∷ 15 ∷ []) a (f .sequences) 0 →
-      f .trailer ≡ Without → x ≡ [] → Parts Svc f a b x
+      f .trailer ≡ None → x ≡ [] → Parts Svc f a b x
   fits-svc bit h c l q e none =
       let z = in-size (f .«length_size») (h .«length_size») in
       record {

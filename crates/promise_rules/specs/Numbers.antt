@@ -17,7 +17,7 @@ use lib.ListN.{length, getD}
 use Rattle.record_rules.specs.declared.Flag.{Flag}
 use Rattle.record_rules.specs.declared.Flag.the-variants.{Absent, Clear, Set}
 use Rattle.record_rules.specs.declared.Trailer.{Trailer}
-use Rattle.record_rules.specs.declared.Trailer.the-variants.{Without, With}
+use Rattle.record_rules.specs.declared.Trailer.the-variants.{None, Present}
 use Rattle.record_rules.specs.declared.Fields.{Fields}
 use Rattle.record_rules.specs.declared.Record.{Record}
 use Rattle.promise_rules.specs.Records.{RecordOf}
@@ -25,8 +25,8 @@ use Rattle.promise_rules.specs.Reading.{ReadRefused}
 
 -- a trailer has four bytes before its sets
 abbrev pub trailerHead : Trailer → ℕ
-trailerHead Without = 0
-trailerHead (With t) = 4
+trailerHead None = 0
+trailerHead (Present t) = 4
 
 pub record SetsStand (r : Record) (a c x : List ℕ) : Type 0 where
   pub sequences : (r .sequences .start .0 ≡ 6) × (r .sequences .len ≡ length a)
@@ -40,8 +40,8 @@ flagNumber Clear = 0
 flagNumber Set = 1
 
 abbrev pub trailerNumbers : Trailer → ℕ → ℕ → List ℕ
-trailerNumbers Without start len = 0 ∷ 0 ∷ 0 ∷ 0 ∷ 0 ∷ 0 ∷ 0 ∷ []
-trailerNumbers (With t) start len = 2 ∷ t .format ∷ t .luma ∷ t .chroma ∷ t .extensions ∷ start ∷ len ∷ []
+trailerNumbers None start len = 0 ∷ 0 ∷ 0 ∷ 0 ∷ 0 ∷ 0 ∷ 0 ∷ []
+trailerNumbers (Present t) start len = 2 ∷ t .format ∷ t .luma ∷ t .chroma ∷ t .extensions ∷ start ∷ len ∷ []
 
 abbrev pub numbersFor : Fields → List ℕ → List ℕ → List ℕ → List ℕ
 numbersFor f a c x =
@@ -58,10 +58,10 @@ module _ (ns : List ℕ) where
     set : getD ns 3 0 ≡ 1 → FlagIn 1 Set
 
   pub data TrailerIn : Trailer → Type 0 where
-    none : getD ns 11 0 ≡ 0 → TrailerIn Without
+    none : getD ns 11 0 ≡ 0 → TrailerIn None
     present :
         getD ns 11 0 ≡ 2 →
-        TrailerIn (With (record { format = getD ns 12 0; luma = getD ns 13 0; chroma = getD ns 14 0; extensions = getD ns 15 0 }))
+        TrailerIn (Present (record { format = getD ns 12 0; luma = getD ns 13 0; chroma = getD ns 14 0; extensions = getD ns 15 0 }))
 
   pub data FieldsIn (kind : ℕ) : Fields → Type 0 where
     fields :

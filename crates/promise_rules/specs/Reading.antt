@@ -4,7 +4,7 @@
 --   ByteAt P s p, ByteRefused P s p n     the byte at p is there, with the fixed bits that P says; else 8 or 10
 --   SetRefused types s p n                what stands at p is no such set: 8 or 12
 --   SetsRefused types s count p n         the first of so many sets from p on that is none
---   SizeBits, CountBits, sequencesIn, sequenceTypes, HasTrailer    what the kinds differ in
+--   SizeBits, CountBits, sequencesIn, sequenceTypes, TrailerBelongs    what the kinds differ in
 --   FormatBits, DepthBits                 the fixed bits of a trailer
 --   Head k s, HeadRefused k s n           the six bytes before the sequence sets
 --   SequencesEnd k s p, PicturesEnd k s q     good up to the end of these sets
@@ -66,10 +66,10 @@ abbrev pub sequenceTypes : Kind → List ℕ
 sequenceTypes Avc = 7 ∷ []
 sequenceTypes Svc = 7 ∷ 15 ∷ []
 
--- by the profile, the second byte; an SVC record has none
-abbrev pub HasTrailer : Kind → List ℕ → Type 0
-HasTrailer Avc s = byteAt s 1 ∈ trailerProfiles
-HasTrailer Svc s = ⊥
+-- a trailer belongs there: by the profile, the second byte; to no SVC record
+abbrev pub TrailerBelongs : Kind → List ℕ → Type 0
+TrailerBelongs Avc s = byteAt s 1 ∈ trailerProfiles
+TrailerBelongs Svc s = ⊥
 
 -- six 1 bits, and chroma_format; five 1 bits, and a depth less 8
 abbrev pub FormatBits : ℕ → Type 0
@@ -124,19 +124,19 @@ module _ (k : Kind) (s : List ℕ) where
 
     -- the record ends there; or it has a trailer: chroma_format, two depths, a count, and as many sets, which end at e
     pub data EndsAt : ℕ → Type 0 where
-      nothing : (HasTrailer k s → ⊥) → EndsAt q
+      nothing : (TrailerBelongs k s → ⊥) → EndsAt q
       trailer :
-          {e : ℕ} → HasTrailer k s → FormatGood → LumaGood → ChromaGood → q + 3 < length s →
+          {e : ℕ} → TrailerBelongs k s → FormatGood → LumaGood → ChromaGood → q + 3 < length s →
           SetsTo (13 ∷ []) s (byteAt s (q + 3)) (q + 4) e → EndsAt e
 
     -- the first rule that the trailer breaks
     pub data EndRefused : ℕ → Type 0 where
-      format : {n : ℕ} → HasTrailer k s → ByteRefused FormatBits s q n → EndRefused n
-      luma : {n : ℕ} → HasTrailer k s → FormatGood → ByteRefused DepthBits s (q + 1) n → EndRefused n
-      chroma : {n : ℕ} → HasTrailer k s → FormatGood → LumaGood → ByteRefused DepthBits s (q + 2) n → EndRefused n
-      count : HasTrailer k s → FormatGood → LumaGood → ChromaGood → length s ≤ q + 3 → EndRefused 8
+      format : {n : ℕ} → TrailerBelongs k s → ByteRefused FormatBits s q n → EndRefused n
+      luma : {n : ℕ} → TrailerBelongs k s → FormatGood → ByteRefused DepthBits s (q + 1) n → EndRefused n
+      chroma : {n : ℕ} → TrailerBelongs k s → FormatGood → LumaGood → ByteRefused DepthBits s (q + 2) n → EndRefused n
+      count : TrailerBelongs k s → FormatGood → LumaGood → ChromaGood → length s ≤ q + 3 → EndRefused 8
       sets :
-          {n : ℕ} → HasTrailer k s → FormatGood → LumaGood → ChromaGood → q + 3 < length s →
+          {n : ℕ} → TrailerBelongs k s → FormatGood → LumaGood → ChromaGood → q + 3 < length s →
           SetsRefused (13 ∷ []) s (byteAt s (q + 3)) (q + 4) n → EndRefused n
 
   -- the six bytes; a sequence set; no number of picture sets; a picture set; what ends the record; bytes after its end

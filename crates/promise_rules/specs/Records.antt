@@ -15,7 +15,7 @@ use Rattle.words.specs.Lists.{_∈_}
 use Rattle.words.specs.Bytes.{byteAt, big}
 use Rattle.record_rules.specs.declared.Flag.the-variants.{Absent, Clear, Set}
 use Rattle.record_rules.specs.declared.High.{High}
-use Rattle.record_rules.specs.declared.Trailer.the-variants.{Without, With}
+use Rattle.record_rules.specs.declared.Trailer.the-variants.{None, Present}
 use Rattle.record_rules.specs.declared.Fields.{Fields}
 
 -- a unit of at least one byte, all there, its top bit 0, its type, the low five bits of its first byte, one of the types
@@ -32,7 +32,7 @@ SetsTo types s (suc n) p q = SetAt types s p × SetsTo types s n (p + 2 + big s 
 abbrev pub Sets : List ℕ → List ℕ → ℕ → ℕ → Type 0
 Sets types s n p = SetsTo types s n p (length s)
 
--- the profiles with a trailer
+-- the profiles to which a trailer belongs
 abbrev pub trailerProfiles : List ℕ
 trailerProfiles = 100 ∷ 110 ∷ 122 ∷ 144 ∷ []
 
@@ -54,20 +54,20 @@ pub record Trailed (t : High) : Type 0 where
 pub data RecordOf (f : Fields) (sequences pictures extensions : List ℕ) : ℕ → List ℕ → Type 0 where
   avc :
       Shared f pictures → f .complete ≡ Absent → f .sequences < 32 → Sets (7 ∷ []) sequences (f .sequences) 0 →
-      (f .profile ∈ trailerProfiles → ⊥) → f .trailer ≡ Without → extensions ≡ [] →
+      (f .profile ∈ trailerProfiles → ⊥) → f .trailer ≡ None → extensions ≡ [] →
       RecordOf f sequences pictures extensions 0
       (1 ∷ f .profile ∷ f .compatibility ∷ f .level ∷ (252 + (f .«length_size» - 1)) ∷ (224 + f .sequences)
       ∷ (sequences ++ (f .pictures ∷ pictures)))
   trailed :
       (t : High) → Shared f pictures → f .complete ≡ Absent → f .sequences < 32 → Sets (7 ∷ []) sequences (f .sequences) 0 →
-      f .profile ∈ trailerProfiles → f .trailer ≡ With t → Trailed t → Sets (13 ∷ []) extensions (t .extensions) 0 →
+      f .profile ∈ trailerProfiles → f .trailer ≡ Present t → Trailed t → Sets (13 ∷ []) extensions (t .extensions) 0 →
       RecordOf f sequences pictures extensions 0
       (1 ∷ f .profile ∷ f .compatibility ∷ f .level ∷ (252 + (f .«length_size» - 1)) ∷ (224 + f .sequences)
       ∷ (sequences ++ (f .pictures ∷ (pictures
       ++ ((252 + t .format) ∷ (248 + t .luma) ∷ (248 + t .chroma) ∷ t .extensions ∷ extensions)))))
   svc :
       (bit : ℕ) → Shared f pictures → ((f .complete ≡ Clear) × (bit ≡ 0)) ⊎ ((f .complete ≡ Set) × (bit ≡ 1)) →
-      f .sequences < 128 → Sets (7 ∷ 15 ∷ []) sequences (f .sequences) 0 → f .trailer ≡ Without → extensions ≡ [] →
+      f .sequences < 128 → Sets (7 ∷ 15 ∷ []) sequences (f .sequences) 0 → f .trailer ≡ None → extensions ≡ [] →
       RecordOf f sequences pictures extensions 1
       (1 ∷ f .profile ∷ f .compatibility ∷ f .level ∷ (bit * 128 + 124 + (f .«length_size» - 1)) ∷ f .sequences
       ∷ (sequences ++ (f .pictures ∷ pictures)))

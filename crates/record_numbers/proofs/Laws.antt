@@ -23,7 +23,7 @@ use Rattle.words.proofs.Buffers.{copy-step, within-room, within-not}
 use Rattle.numbers.specs.declared.Kind.{Kind}
 use Rattle.record_rules.specs.Read.{readRecord}
 use Rattle.record_rules.specs.declared.Trailer.{Trailer}
-use Rattle.record_rules.specs.declared.Trailer.the-variants.{Without, With}
+use Rattle.record_rules.specs.declared.Trailer.the-variants.{None, Present}
 use Rattle.record_rules.specs.declared.Part.{Part}
 use Rattle.record_rules.specs.declared.Record.{Record}
 use Rattle.record_writer.specs.Write.{writeAs}
@@ -31,16 +31,16 @@ use Rattle.record_numbers.specs.Indices.{numberCount}
 use Rattle.record_numbers.specs.Numbers.{trailerNumbers, numbersOf, readNumbers, numbersFault, fieldsFrom, writeNumbersAs}
 
 trailer-length : (t : Trailer) (x : Part) → length (trailerNumbers t x) ≡ 7
-trailer-length Without x = refl
-trailer-length (With t) x = refl
+trailer-length None x = refl
+trailer-length (Present t) x = refl
 
 pub numbers-length : (r : Record) → length (numbersOf r) ≡ numberCount
 unfolding numbersOf
 numbers-length r = let e = trailer-length (r .fields .trailer) (r .extensions) in omega arith
 
 pub trailer-cells : (t : Trailer) (x : Part) → let ns = trailerNumbers t x in getD ns 0 0 ∷ getD ns 1 0 ∷ getD ns 2 0 ∷ getD ns 3 0 ∷ getD ns 4 0 ∷ getD ns 5 0 ∷ getD ns 6 0 ∷ [] ≡ trailerNumbers t x
-trailer-cells Without x = refl
-trailer-cells (With t) x = refl
+trailer-cells None x = refl
+trailer-cells (Present t) x = refl
 
 pub copied : (o s : List ℕ) (i : ℕ) → i < length o → i < length s → set (paste o 0 s i) i (getD s i 0) ≡ paste o 0 s (i + 1)
 copied o s i h k = ap (λ (j : ℕ). set (paste o 0 s i) j (getD s i 0)) (sym (zero-add i)) ∙ copy-step o s 0 i (omega arith) k

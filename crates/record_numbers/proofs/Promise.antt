@@ -23,7 +23,7 @@ use Rattle.numbers.specs.declared.Kind.the-variants.{Avc, Svc}
 use Rattle.numbers.specs.declared.MaybeKind.{MaybeKind}
 use Rattle.numbers.specs.declared.MaybeKind.the-variants.{Known, Unknown}
 use Rattle.record_rules.specs.Layout.{recordLayout, bit, flagOf}
-use Rattle.record_rules.specs.Trailers.{hasTrailer, extensionTypes}
+use Rattle.record_rules.specs.Trailers.{trailerBelongs, extensionTypes}
 use Rattle.sets.proofs.Laws.{sets-none}
 use Rattle.record_rules.proofs.Shapes.{flag-back}
 use Rattle.record_rules.specs.Read.{recordFault, recordOf, readAs, readRecord, picturesEnd, recordEnd}
@@ -66,16 +66,16 @@ flag-fits Svc n = by-bool (n ≡? 0) (λ t. rw t) (λ t. rw t)
 module _ (k : Kind) (s : List ℕ) where
   no-fault : numbersFault k (numbersOf (recordOf k s)) ≡ 0
   unfolding numbersFault numbersOf
-  no-fault = rw (flag-fits k (byteAt s 4 / 128 % 2)) (by-bool (hasTrailer k (byteAt s 1)) (λ t. rw t) (λ t. rw t))
+  no-fault = rw (flag-fits k (byteAt s 4 / 128 % 2)) (by-bool (trailerBelongs k (byteAt s 1)) (λ t. rw t) (λ t. rw t))
 
   fields-back : fieldsFrom k (numbersOf (recordOf k s)) ≡ recordOf k s .fields
   unfolding fieldsFrom numbersOf
-  fields-back = rw (flag-back (hasComplete k) (byteAt s 4 / 128 % 2)) (by-bool (hasTrailer k (byteAt s 1)) (λ t. rw t) (λ t. rw t))
+  fields-back = rw (flag-back (hasComplete k) (byteAt s 4 / 128 % 2)) (by-bool (trailerBelongs k (byteAt s 1)) (λ t. rw t) (λ t. rw t))
 
   extensions-back : extensionsIn s (numbersOf (recordOf k s)) ≡ partBytes s (recordOf k s .extensions)
   unfolding numbersOf
   extensions-back =
-      by-bool (hasTrailer k (byteAt s 1))
+      by-bool (trailerBelongs k (byteAt s 1))
       (λ t. rw t)
       (λ t. let n = sets-none extensionTypes s {n = 0} (picturesEnd k s + 0) (omega arith) in rw (t, n .1, sub-self (picturesEnd k s + 0)))
 

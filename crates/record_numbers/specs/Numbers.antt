@@ -22,7 +22,7 @@ use Rattle.record_rules.specs.Layout.{recordLayout, bit, completeFlag, flagOf}
 use Rattle.record_rules.specs.Read.{readRecord}
 use Rattle.record_rules.specs.declared.High.{High}
 use Rattle.record_rules.specs.declared.Trailer.{Trailer}
-use Rattle.record_rules.specs.declared.Trailer.the-variants.{Without, With}
+use Rattle.record_rules.specs.declared.Trailer.the-variants.{None, Present}
 use Rattle.record_rules.specs.declared.Fields.{Fields}
 use Rattle.record_rules.specs.declared.Part.{Part}
 use Rattle.record_rules.specs.declared.Record.{Record}
@@ -35,8 +35,8 @@ use Rattle.record_numbers.specs.Indices.{numberCount, trailerNone, trail
 infix 60 _at_
 -- Reading: the trailer and what follows it, then all. Without a trailer what follows it is 0.
 abbrev pub trailerNumbers : Trailer → Part → List ℕ
-trailerNumbers Without sets = trailerNone ∷ 0 ∷ 0 ∷ 0 ∷ 0 ∷ 0 ∷ 0 ∷ []
-trailerNumbers (With t) sets = trailerPresent ∷ t .format ∷ t .luma ∷ t .chroma ∷ t .extensions ∷ sets .start .0 ∷ sets .len ∷ []
+trailerNumbers None sets = trailerNone ∷ 0 ∷ 0 ∷ 0 ∷ 0 ∷ 0 ∷ 0 ∷ []
+trailerNumbers (Present t) sets = trailerPresent ∷ t .format ∷ t .luma ∷ t .chroma ∷ t .extensions ∷ sets .start .0 ∷ sets .len ∷ []
 
 unfoldable pub numbersOf : Record → List ℕ
 numbersOf r =
@@ -72,7 +72,7 @@ abbrev pub highFrom : List ℕ → High
 highFrom ns = record { format = ns at chromaFormat; luma = ns at lumaDepth; chroma = ns at chromaDepth; extensions = ns at extensionCount }
 
 abbrev pub trailerFrom : List ℕ → Trailer
-trailerFrom ns = pick (ns at trailer ≡? trailerPresent) (With (highFrom ns)) Without
+trailerFrom ns = pick (ns at trailer ≡? trailerPresent) (Present (highFrom ns)) None
 
 unfoldable pub fieldsFrom : Kind → List ℕ → Fields
 fieldsFrom k ns =

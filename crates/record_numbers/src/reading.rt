@@ -29,8 +29,8 @@ fn trailer_numbers(trailer: Trailer, sets: Part) -> [u64; 7]
     ensures { λ r. ⌜ r ≡ trailerNumbers trailer sets ⌝ }
 {
     match trailer {
-        Trailer::Without => [TRAILER_NONE, 0, 0, 0, 0, 0, 0],
-        Trailer::With(t) => {
+        Trailer::None => [TRAILER_NONE, 0, 0, 0, 0, 0, 0],
+        Trailer::Present(t) => {
             let start = sets.start;
             [
                 TRAILER_PRESENT,

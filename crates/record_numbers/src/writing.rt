@@ -83,10 +83,10 @@ fn trailer_from(numbers: &[u64]) -> Trailer
     ensures { λ r. ⌜ r ≡ trailerFrom (now (numbers .entry)) ⌝ }
 {
     if numbers[11] != TRAILER_PRESENT {
-        return Trailer::Without;
+        return Trailer::None;
     }
     let high = high_from(numbers);
-    Trailer::With(high)
+    Trailer::Present(high)
 }
 
 // The fields.

@@ -13,7 +13,7 @@ use Rattle.words.proofs.Tests.{by-bool}
 use Rattle.words.proofs.Positions.{split-one, split-part, part-rest, six, four}
 use Rattle.numbers.specs.declared.Kind.{Kind}
 use Rattle.record_rules.specs.Layout.{recordLayout, byteOf, valueIn, flagIn, flagsByte}
-use Rattle.record_rules.specs.Trailers.{chromaShape, depthShape, hasTrailer, highBytes, highOf, ending}
+use Rattle.record_rules.specs.Trailers.{chromaShape, depthShape, trailerBelongs, highBytes, highOf, ending}
 use Rattle.record_rules.specs.Read.{recordFault, lengthSize, sequencesEnd, picturesEnd, trailerOf, extensionsAt, recordEnd, fieldsOf, recordOf}
 use Rattle.record_rules.specs.Fields.{recordBytes}
 use Rattle.record_rules.specs.Answers.{partBytes, writtenAgain}
@@ -34,7 +34,7 @@ module _ (k : Kind) (s : List ℕ) (g : Bytes s) (w : Parsed k s) where
   ending-back : ending (trailerOf k s) .head ++ part s (extensionsAt k s) (recordEnd k s - extensionsAt k s) ≡ drop (picturesEnd k s) s
   ending-back =
       rw (w .end, part-rest s (extensionsAt k s))
-      (by-bool (hasTrailer k (byteAt s 1))
+      (by-bool (trailerBelongs k (byteAt s 1))
       (λ t. rw t (high-back s (picturesEnd k s) g (w .trailed t)))
       (λ t. rw (t, add-zero (picturesEnd k s))))
 

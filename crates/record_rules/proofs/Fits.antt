@@ -26,13 +26,13 @@ use Rattle.sets.specs.Sets.{setsFault, setsEnd, exactly, setsFit}
 use Rattle.sets.specs.declared.SetTypes.{SetTypes}
 use Rattle.sets.proofs.Laws.{fit-true, fit-sets, sets-inside, sets-outside}
 use Rattle.record_rules.specs.Layout.{recordLayout, valueIn, pictureTypes}
-use Rattle.record_rules.specs.Trailers.{extensionTypes, chromaShape, depthShape, hasTrailer, highOf, ending}
+use Rattle.record_rules.specs.Trailers.{extensionTypes, chromaShape, depthShape, trailerBelongs, highOf, ending}
 use Rattle.record_rules.specs.Read.{recordFault, lengthSize, sequenceCount, pictureCount, sequencesEnd, picturesEnd, trailerOf, extensionsAt, recordEnd, fieldsOf, recordOf}
 use Rattle.record_rules.specs.Fields.{recordBytes, numbersFit, fits}
 use Rattle.record_rules.specs.Parts.{fitsByParts}
 use Rattle.record_rules.specs.Answers.{partBytes, writtenAgain}
 use Rattle.record_rules.specs.declared.Trailer.{Trailer}
-use Rattle.record_rules.specs.declared.Trailer.the-variants.{Without, With}
+use Rattle.record_rules.specs.declared.Trailer.the-variants.{None, Present}
 use Rattle.record_rules.specs.declared.Fields.{Fields}
 use Rattle.record_rules.proofs.Shapes.{row, value-below, byte-below, plain-below, flagged, flags-fit, sound-chroma, sound-depth}
 use Rattle.record_rules.proofs.Parsed.{Parsed, parsed, Trailed}
@@ -71,8 +71,8 @@ fits-true k f a b x w = rw (numbers-true k f (w .numbers), w .sequences, w .pict
 
 -- the bytes of what fits
 ending-bytes : (t : Trailer) (x : List ℕ) → ending t .fits ≡ true → Held x → Held (ending t .head ++ x)
-ending-bytes Without x n g = g
-ending-bytes (With t) x n g =
+ending-bytes None x n g = g
+ending-bytes (Present t) x n g =
     let v = high-numbers t n in (
       plain-below chromaShape sound-chroma (t .format) (v .format),
       (
@@ -161,7 +161,7 @@ part-exact types s n a e h l g =
 module _ (k : Kind) (s : List ℕ) (g : Bytes s) (w : Parsed k s) where
   trailer-numbers : ending (trailerOf k s) .fits ≡ true
   trailer-numbers =
-      by-bool (hasTrailer k (byteAt s 1))
+      by-bool (trailerBelongs k (byteAt s 1))
       (λ t. rw t (high-true (highOf s (picturesEnd k s))
       (record {
         format = value-below chromaShape (byteAt s (picturesEnd k s)) sound-chroma;
@@ -189,7 +189,7 @@ module _ (k : Kind) (s : List ℕ) (g : Bytes s) (w : Parsed k s) where
   trailer-sets = part-exact extensionTypes s (ending (trailerOf k s) .sets) (extensionsAt k s) (recordEnd k s) (w .extensions) (omega (arith, w .end)) refl
 
   trailer-there : ending (trailerOf k s) .belongs k (byteAt s 1) ≡ true
-  trailer-there = by-bool (hasTrailer k (byteAt s 1)) (λ t. rw (t, t)) (λ t. rw (t, t))
+  trailer-there = by-bool (trailerBelongs k (byteAt s 1)) (λ t. rw (t, t)) (λ t. rw (t, t))
 
   sequences-exact : exactly (part s 6 (sequencesEnd k s - 6)) (sequenceCount k s) ≡ true
   unfolding sequencesEnd

@@ -22,7 +22,7 @@ use Rattle.numbers.specs.declared.Kind.{Kind}
 use Rattle.sets.specs.Sets.{setsFault, setsEnd}
 use Rattle.sets.proofs.Laws.{sets-within}
 use Rattle.record_rules.specs.Layout.{recordLayout, fixedIn, valueIn, pictureTypes, missing, byteFault}
-use Rattle.record_rules.specs.Trailers.{extensionTypes, chromaShape, depthShape, hasTrailer, valuesFault, ending}
+use Rattle.record_rules.specs.Trailers.{extensionTypes, chromaShape, depthShape, trailerBelongs, valuesFault, ending}
 use Rattle.record_rules.specs.Read.{lengthSize, headFault, sequenceCount, sequencesFault, sequencesEnd, pictureCount, picturesFault, picturesEnd, trailerOf, followFault, extensionsAt, recordEnd, recordFault}
 use Rattle.record_rules.specs.declared.Shape.{Shape}
 use Rattle.record_rules.proofs.Shapes.{row, value-below}
@@ -91,7 +91,7 @@ pub record Parsed (k : Kind) (s : List ℕ) : Type 0 where
   pub pictures : setsFault pictureTypes s (pictureCount k s) (sequencesEnd k s + 1) ≡ 0
   pub later : sequencesEnd k s < picturesEnd k s
   pub within : picturesEnd k s ≤ length s
-  pub trailed : hasTrailer k (byteAt s 1) ≡ true → Trailed s (picturesEnd k s)
+  pub trailed : trailerBelongs k (byteAt s 1) ≡ true → Trailed s (picturesEnd k s)
   pub end : recordEnd k s ≡ length s
   pub extensions : extensionsAt k s ≤ recordEnd k s
 
@@ -118,8 +118,8 @@ parsed k s e =
     let j = pictures-in k s l (m .1) in
     let f : length s ≤ recordEnd k s = ltb-false _ _ (if-none _ _ (d .1)) in
     let g = orElse-none (ending (trailerOf k s) .fault s (picturesEnd k s)) _ (d .0) in
-    let t : hasTrailer k (byteAt s 1) ≡ true → Trailed s (picturesEnd k s) = λ q. values-good s (picturesEnd k s) (rw q at (g .0)) in
-    let x = sets-within extensionTypes s (ending (trailerOf k s) .sets) (extensionsAt k s) (by-bool (hasTrailer k (byteAt s 1)) (λ q. let y = t q in rw q (omega (arith, y .there))) (λ q. rw q (omega (arith, j .1)))) (g .1) in
+    let t : trailerBelongs k (byteAt s 1) ≡ true → Trailed s (picturesEnd k s) = λ q. values-good s (picturesEnd k s) (rw q at (g .0)) in
+    let x = sets-within extensionTypes s (ending (trailerOf k s) .sets) (extensionsAt k s) (by-bool (trailerBelongs k (byteAt s 1)) (λ q. let y = t q in rw q (omega (arith, y .there))) (λ q. rw q (omega (arith, j .1)))) (g .1) in
     record {
       head = h;
       sequences = b .0;

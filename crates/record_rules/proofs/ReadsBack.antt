@@ -22,14 +22,14 @@ use Rattle.sets.specs.Sets.{setsFault, setsEnd, exactly}
 use Rattle.sets.specs.declared.SetTypes.{SetTypes}
 use Rattle.sets.proofs.Laws.{sets-inside}
 use Rattle.record_rules.specs.Layout.{SoundShape, recordLayout, byteOf, fixedIn, valueIn, pictureTypes, flagIn, flagsByte, missing, byteFault}
-use Rattle.record_rules.specs.Trailers.{extensionTypes, chromaShape, depthShape, hasTrailer, valuesFault, highBytes, highOf, ending, endingOf}
+use Rattle.record_rules.specs.Trailers.{extensionTypes, chromaShape, depthShape, trailerBelongs, valuesFault, highBytes, highOf, ending, endingOf}
 use Rattle.record_rules.specs.Read.{lengthSize, headFault, sequenceCount, sequencesFault, sequencesEnd, pictureCount, picturesFault, picturesEnd, followFault, trailerOf, extensionsAt, recordEnd, recordFault, fieldsOf, recordOf}
 use Rattle.record_rules.specs.Fields.{flagsOf, recordBytes, placed}
 use Rattle.record_rules.specs.Answers.{partBytes}
 use Rattle.record_rules.specs.declared.Shape.{Shape}
 use Rattle.record_rules.specs.declared.High.{High}
 use Rattle.record_rules.specs.declared.Trailer.{Trailer}
-use Rattle.record_rules.specs.declared.Trailer.the-variants.{Without, With}
+use Rattle.record_rules.specs.declared.Trailer.the-variants.{None, Present}
 use Rattle.record_rules.specs.declared.Fields.{Fields}
 use Rattle.record_rules.specs.declared.Record.{Record}
 use Rattle.record_rules.proofs.Shapes.{sound-chroma, sound-depth, row, byte-below, plain-rest, fixed-back, value-back, Flagged, flagged}
@@ -106,10 +106,10 @@ high-back s q t x w n =
 read-ending :
     (k : Kind) (s : List ℕ) (q : ℕ) (t : Trailer) (x : List ℕ) → drop q s ≡ ending t .head ++ x → ending t .fits ≡ true → ending t .belongs k (byteAt s 1) ≡ true →
     (endingOf k s q ≡ t) × (ending t .fault s q ≡ 0)
-read-ending k s q Without x e n g = let z : hasTrailer k (byteAt s 1) ≡ false = not-true _ g in (rw z, refl)
-read-ending k s q (With t) x e n g =
+read-ending k s q None x e n g = let z : trailerBelongs k (byteAt s 1) ≡ false = not-true _ g in (rw z, refl)
+read-ending k s q (Present t) x e n g =
     let w = high-back s q t x (at-four s q _ _ _ _ x e) (high-numbers t n) in
-    (rw g (ap With (w .0)), w .1)
+    (rw g (ap Present (w .0)), w .1)
 
 ended :
     (k : Kind) (s : List ℕ) (q : ℕ) (t : Trailer) (x : List ℕ) → q ≤ length s → drop q s ≡ ending t .head ++ x →

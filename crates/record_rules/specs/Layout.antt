@@ -88,7 +88,7 @@ pub record SoundShape (h : Shape) : Type 0 where
   pub byte : h .unit ≤ 256
 
 -- What the kinds differ in: the byte of the length size less one and how many flags it begins with, the byte of the number of sequence
--- sets, the types of these, and whether the high profiles have a trailer.
+-- sets, the types of these, and whether a trailer belongs to the high profiles.
 abbrev pub recordLayout : Kind → RecordLayout
 recordLayout Avc =
     record {

@@ -1,7 +1,7 @@
 -- What may end a record after its picture sets (5.2.4.1.1; 01, 'Configuration records', the trailer): nothing, or a trailer.
 -- Each way is one clause of `ending`; reading and writing follow from it.
 --
---   hasTrailer k profile            whether a trailer belongs to a record of a kind and a profile
+--   trailerBelongs k profile        whether a trailer belongs to a record of a kind and a profile
 --   chromaShape, depthShape         the bytes of a trailer's values
 --   extensionTypes                  the types of a trailer's sets
 --   highBytes t, highNumbersFit t   the four bytes of a trailer before its sets, and whether its numbers fit their bits
@@ -21,14 +21,14 @@ use Rattle.record_rules.specs.Layout.{recordLayout, profileAt, _ones_bit
 use Rattle.record_rules.specs.declared.Shape.{Shape}
 use Rattle.record_rules.specs.declared.High.{High}
 use Rattle.record_rules.specs.declared.Trailer.{Trailer}
-use Rattle.record_rules.specs.declared.Trailer.the-variants.{Without, With}
+use Rattle.record_rules.specs.declared.Trailer.the-variants.{None, Present}
 
--- the profiles whose AVC record has a trailer
+-- the profiles to whose AVC record a trailer belongs
 abbrev pub isHigh : ℕ → Bool
 isHigh profile = (profile ≡? 100) || (profile ≡? 110) || (profile ≡? 122) || (profile ≡? 144)
 
-abbrev pub hasTrailer : Kind → ℕ → Bool
-hasTrailer k profile = recordLayout k .trailer && isHigh profile
+abbrev pub trailerBelongs : Kind → ℕ → Bool
+trailerBelongs k profile = recordLayout k .trailer && isHigh profile
 
 -- A trailer: six 1 bits and chroma_format; five 1 bits and a depth less 8, twice; the number of its sets; the sets.
 abbrev pub chromaShape : Shape
@@ -78,8 +78,10 @@ pub record Ending : Type 0 where
   pub belongs : Kind → ℕ → Bool
 
 abbrev pub ending : Trailer → Ending
-ending Without = record { head = []; fault = λ s q. 0; sets = 0; fits = true; belongs = λ k profile. not (hasTrailer k profile) }
-ending (With t) = record { head = highBytes t; fault = valuesFault; sets = t .extensions; fits = highNumbersFit t; belongs = hasTrailer }
+ending None =
+    record { head = []; fault = λ s q. 0; sets = 0; fits = true; belongs = λ k profile. not (trailerBelongs k profile) }
+ending (Present t) =
+    record { head = highBytes t; fault = valuesFault; sets = t .extensions; fits = highNumbersFit t; belongs = trailerBelongs }
 
 abbrev pub endingOf : Kind → List ℕ → ℕ → Trailer
-endingOf k s q = pick (hasTrailer k (byteAt s profileAt)) (With (highOf s q)) Without
+endingOf k s q = pick (trailerBelongs k (byteAt s profileAt)) (Present (highOf s q)) None

@@ -1,7 +1,7 @@
 // What the bytes of a record hold, and what the kinds differ in.
 ghost use mathlib.Core.Path.{_≡_};
 ghost use Rattle.record_rules.specs.Layout.{recordLayout};
-ghost use Rattle.record_rules.specs.Trailers.{hasTrailer};
+ghost use Rattle.record_rules.specs.Trailers.{trailerBelongs};
 use crate::RecordLayout;
 use crate::Shape;
 use numbers::Kind;
@@ -102,8 +102,8 @@ pub fn record_layout(k: Kind) -> RecordLayout
 }
 
 // Whether a trailer belongs to a record of a kind and a profile.
-pub fn has_trailer(k: Kind, profile: usize) -> bool
-    ensures { λ r. ⌜ r ≡ hasTrailer k profile ⌝ }
+pub fn trailer_belongs(k: Kind, profile: usize) -> bool
+    ensures { λ r. ⌜ r ≡ trailerBelongs k profile ⌝ }
 {
     let l = record_layout(k);
     if !l.trailer {

@@ -25,7 +25,7 @@ pub struct RecordLayout {
     pub count: Shape,
     // the types of a sequence set
     pub sequence: SetTypes,
-    // whether the high profiles have a trailer
+    // whether a trailer belongs to the high profiles
     pub trailer: bool,
 }
 
@@ -50,8 +50,8 @@ pub struct High {
 
 // What follows the picture sets.
 pub enum Trailer {
-    Without,
-    With(High),
+    None,
+    Present(High),
 }
 
 // The fields of a record. They are numbers that may be too large for their bits where a record is to be written.

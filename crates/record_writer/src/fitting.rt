@@ -52,15 +52,15 @@ fn high_fits(t: High) -> bool
 pub(crate) fn facts_of(k: Kind, profile: usize, trailer: Trailer) -> Facts
     ensures { λ r. ⌜ (r ≡ factsOf k profile trailer) × (r .head ≤ 4) ⌝ }
 {
-    let has = layouts::has_trailer(k, profile);
+    let has = layouts::trailer_belongs(k, profile);
     match trailer {
-        Trailer::Without => Facts {
+        Trailer::None => Facts {
             head: 0,
             sets: 0,
             fits: true,
             belongs: !has,
         },
-        Trailer::With(t) => {
+        Trailer::Present(t) => {
             let fits = high_fits(t);
             Facts {
                 head: layouts::TRAILER_HEAD,

@@ -101,8 +101,8 @@ fn put_trailer(out: &mut [u8], at: usize, t: Trailer)
     ensures { λ _. ⌜ now (out .exit) ≡ writeAt (now (out .entry)) at (ending t .head) ⌝ }
 {
     match t {
-        Trailer::Without => {}
-        Trailer::With(high) => {
+        Trailer::None => {}
+        Trailer::Present(high) => {
             let values = high_bytes(high);
             numbers::put_bytes(out, at, &values);
         }

@@ -24,11 +24,11 @@ use Rattle.sets.specs.declared.SetTypes.{SetTypes}
 use Rattle.sets.specs.declared.Walk.{Walk}
 use Rattle.sets.proofs.Laws.{sets-none, walk-fault, walk-end}
 use Rattle.record_rules.specs.Layout.{recordLayout, byteFault}
-use Rattle.record_rules.specs.Trailers.{extensionTypes, hasTrailer, valuesFault, highOf}
+use Rattle.record_rules.specs.Trailers.{extensionTypes, trailerBelongs, valuesFault, highOf}
 use Rattle.record_rules.specs.Read.{picturesEnd, headFault, lengthSize, sequencesFault, picturesFault, followFault, recordEnd, recordFault, recordOf, readAs}
 use Rattle.records.specs.Steps.{Walked, Followed}
 use Rattle.record_rules.specs.declared.High.{High}
-use Rattle.record_rules.specs.declared.Trailer.the-variants.{Without, With}
+use Rattle.record_rules.specs.declared.Trailer.the-variants.{None, Present}
 use Rattle.record_rules.specs.declared.Record.{Record}
 
 pub head-on : (k : Kind) (s : List ℕ) → 0 < length s → byteAt s 0 ≡ 1 → headFault k s ≡ (byteFault s (recordLayout k .«length_size») 4 orElse badLengthSize if lengthSize k s ≡? 3 orElse byteFault s (recordLayout k .count) 5)
@@ -46,7 +46,7 @@ cut-walk m e f = record { refusal = orElse-here m e f; place = λ z. absurd (f z
 
 -- what follows the picture sets, which end at q
 module _ (k : Kind) (s : List ℕ) (q : ℕ) (at-end : q ≡ picturesEnd k s) where
-  pub follow-none : hasTrailer k (byteAt s 1) ≡ false → Followed k s (record { fault = 0; trailer = Without; start = q; end = q })
+  pub follow-none : trailerBelongs k (byteAt s 1) ≡ false → Followed k s (record { fault = 0; trailer = None; start = q; end = q })
   follow-none t =
       let n = sets-none extensionTypes s {n = 0} (q + 0) (omega arith) in
       record {
@@ -56,8 +56,8 @@ module _ (k : Kind) (s : List ℕ) (q : ℕ) (at-end : q ≡ picturesEnd k s) wh
         place = λ z. rw (t, ← at-end) (sym (n .1 ∙ add-zero q));
       }
 
-  module _ (w : Walk) (t : hasTrailer k (byteAt s 1) ≡ true) (v : Walked w (valuesFault s q orElse setsFault extensionTypes s (byteAt s (q + 3)) (q + 4)) (setsEnd s (byteAt s (q + 3)) (q + 4))) where
-    pub follow-refused : (w .fault ≡ 0 → ⊥) → Followed k s (record { fault = w .fault; trailer = Without; start = 0; end = 0 })
+  module _ (w : Walk) (t : trailerBelongs k (byteAt s 1) ≡ true) (v : Walked w (valuesFault s q orElse setsFault extensionTypes s (byteAt s (q + 3)) (q + 4)) (setsEnd s (byteAt s (q + 3)) (q + 4))) where
+    pub follow-refused : (w .fault ≡ 0 → ⊥) → Followed k s (record { fault = w .fault; trailer = None; start = 0; end = 0 })
     follow-refused f =
         record {
           refusal = rw (t, ← at-end) (v .refusal);
@@ -66,7 +66,7 @@ module _ (k : Kind) (s : List ℕ) (q : ℕ) (at-end : q ≡ picturesEnd k s) wh
           place = λ z. absurd (f z);
         }
 
-    pub follow-with : (h : High) → w .fault ≡ 0 → h ≡ highOf s q → Followed k s (record { fault = 0; trailer = With h; start = q + 4; end = w .end })
+    pub follow-with : (h : High) → w .fault ≡ 0 → h ≡ highOf s q → Followed k s (record { fault = 0; trailer = Present h; start = q + 4; end = w .end })
     follow-with h f e =
         record {
           refusal = rw (t, ← at-end) (sym f ∙ v .refusal);

@@ -149,10 +149,10 @@ pub(crate) fn follow_of(k: Kind, s: &[u8], at: usize) -> Follow
     requires { ⌜ (1 < length (now s)) × (at ≤ length (now s)) × (at ≡ picturesEnd k (now s)) ⌝ }
     ensures { λ r. ⌜ Followed k (now (s .entry)) r ⌝ }
 {
-    if !layouts::has_trailer(k, s[layouts::PROFILE_AT] as usize) {
+    if !layouts::trailer_belongs(k, s[layouts::PROFILE_AT] as usize) {
         return Follow {
             fault: 0,
-            trailer: Trailer::Without,
+            trailer: Trailer::None,
             start: at,
             end: at,
         };
@@ -161,7 +161,7 @@ pub(crate) fn follow_of(k: Kind, s: &[u8], at: usize) -> Follow
     if w.fault != 0 {
         return Follow {
             fault: w.fault,
-            trailer: Trailer::Without,
+            trailer: Trailer::None,
             start: 0,
             end: 0,
         };
@@ -169,7 +169,7 @@ pub(crate) fn follow_of(k: Kind, s: &[u8], at: usize) -> Follow
     let high = high_of(s, at);
     Follow {
         fault: 0,
-        trailer: Trailer::With(high),
+        trailer: Trailer::Present(high),
         start: at + layouts::TRAILER_HEAD,
         end: w.end,
     }

@@ -24,8 +24,8 @@ fn print_sets(s: &[u8], count: usize, sets: Part) {
 
 fn print_trailer(s: &[u8], trailer: Trailer, sets: Part) {
     match trailer {
-        Trailer::Without => print::text(b" none"),
-        Trailer::With(high) => {
+        Trailer::None => print::text(b" none"),
+        Trailer::Present(high) => {
             print::number(high.format);
             print::number(high.luma);
             print::number(high.chroma);

@@ -29,9 +29,9 @@ fn size(less_one: usize) -> usize {
 // The trailer: whether there is one, and its values.
 fn trailer(s: &[u8]) -> Trailer {
     if request::number(s, 0) == 0 {
-        return Trailer::Without;
+        return Trailer::None;
     }
-    Trailer::With(High {
+    Trailer::Present(High {
         format: request::number(s, 1),
         luma: request::number(s, 2),
         chroma: request::number(s, 3),

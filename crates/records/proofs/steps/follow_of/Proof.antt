@@ -9,14 +9,14 @@ use mathlib.Core.Bool.{true}
 use borrow.Author.Tests.{not-true, not-false}
 use Rattle.words.specs.Bytes.{byteAt}
 use Rattle.words.proofs.Refusals.{orElse-none}
-use Rattle.record_rules.specs.Trailers.{hasTrailer, valuesFault}
+use Rattle.record_rules.specs.Trailers.{trailerBelongs, valuesFault}
 use Rattle.record_rules.proofs.Parsed.{values-good}
 use Rattle.records.proofs.Walked.{follow-none, follow-refused, follow-with}
 use Rattle.records.proofs.steps.follow_of.Tie as tie
 
 -- a trailer belongs there
-belongs : (c : tie.Else1) → hasTrailer (c .before .before .before .before .args .k) (byteAt (c .before .before .before .before .args .s .now) 1) ≡ true
-belongs c = sym (c .before .has-trailer .ensures) ∙ not-false _ (c .if1 .left)
+belongs : (c : tie.Else1) → trailerBelongs (c .before .before .before .before .args .k) (byteAt (c .before .before .before .before .args .s .now) 1) ≡ true
+belongs c = sym (c .before .trailer-belongs .ensures) ∙ not-false _ (c .if1 .left)
 
 -- it is there
 there : (c : tie.Else2) → c .before .before .before .before .before .before .before .args .at + 3 < length (c .before .before .before .before .before .before .before .args .s .now)
@@ -24,17 +24,17 @@ there c =
     let a = c .before .before .before .before .before .before .before .args in
     values-good (a .s .now) (a .at) (orElse-none (valuesFault (a .s .now) (a .at)) _ (sym (c .before .before .walk-trailer .ensures .refusal) ∙ c .if2 .left) .0) .there
 
-shared-slice-read-has-trailer : tie.Need-shared-slice-read-has-trailer
-shared-slice-read-has-trailer c = search needs
+shared-slice-read-trailer-belongs : tie.Need-shared-slice-read-trailer-belongs
+shared-slice-read-trailer-belongs c = search needs
 
-cast-has-trailer : tie.Need-cast-has-trailer
-cast-has-trailer c = omega (arith, c .shared-slice-known2 .given 1)
+cast-trailer-belongs : tie.Need-cast-trailer-belongs
+cast-trailer-belongs c = omega (arith, c .shared-slice-known2 .given 1)
 
-has-trailer-requires : tie.Need-has-trailer-requires
-has-trailer-requires c κs = search needs
+trailer-belongs-requires : tie.Need-trailer-belongs-requires
+trailer-belongs-requires c κs = search needs
 
 returns : tie.Need-returns
-returns c = follow-none (c .before .before .before .before .args .k) (c .before .before .before .before .args .s .now) (c .before .before .before .before .args .at) (c .before .before .before .before .pre .2) (sym (c .before .has-trailer .ensures) ∙ not-true _ (c .if1 .taken))
+returns c = follow-none (c .before .before .before .before .args .k) (c .before .before .before .before .args .s .now) (c .before .before .before .before .args .at) (c .before .before .before .before .pre .2) (sym (c .before .trailer-belongs .ensures) ∙ not-true _ (c .if1 .taken))
 
 walk-trailer-requires : tie.Need-walk-trailer-requires
 walk-trailer-requires c κs = search needs
@@ -55,9 +55,9 @@ pub follow-of-spec : {M : Type 1} → statement M
 follow-of-spec =
     tie.close
     (tie.spec
-    shared-slice-read-has-trailer
-    cast-has-trailer
-    has-trailer-requires
+    shared-slice-read-trailer-belongs
+    cast-trailer-belongs
+    trailer-belongs-requires
     returns
     walk-trailer-requires
     returns-2

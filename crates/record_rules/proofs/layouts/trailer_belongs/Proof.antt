@@ -1,12 +1,12 @@
 -- The row tells whether there is a trailer at all, then one test for each profile. Assumes nothing.
 use borrow.Author.Needs.{needs}
 use mathlib.Core.Path.{_≡_, sym, ap, _∙_}
-use Rattle.record_rules.proofs.layouts.has_trailer.Statement.{statement}
+use Rattle.record_rules.proofs.layouts.trailer_belongs.Statement.{statement}
 use mathlib.Core.Bool.{true, false}
 use borrow.Author.Tests.{not-true, not-false}
 use Rattle.words.proofs.Tests.{tests}
 use Rattle.record_rules.specs.Layout.{recordLayout}
-use Rattle.record_rules.proofs.layouts.has_trailer.Tie as tie
+use Rattle.record_rules.proofs.layouts.trailer_belongs.Tie as tie
 
 -- the kind has trailers
 row-has : (c : tie.Else1) → recordLayout (c .before .before .before .args .k) .trailer ≡ true
@@ -30,6 +30,6 @@ returns-4 c = rw (row-has (c .before .before .before)) (search tests)
 returns-5 : tie.Need-returns-5
 returns-5 c = rw (row-has (c .before .before .before)) (search tests)
 
-pub has-trailer-spec : {M : Type 1} → statement M
-has-trailer-spec =
+pub trailer-belongs-spec : {M : Type 1} → statement M
+trailer-belongs-spec =
     tie.close (tie.spec record-layout-requires returns returns-2 returns-3 returns-4 returns-5)
