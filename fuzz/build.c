@@ -93,11 +93,14 @@ size_t build_sample(struct input *in, int length_size, uint8_t *bytes, size_t ro
 #define TRACKS 4
 #define SAMPLES 12
 
+/* What follows the picture sets of an AVC record: nothing, since none belongs there; a trailer absent; one present. */
+enum { NONE, ABSENT, PRESENT };
+
 /* A track entry; its record has one sequence set and one picture set, or none. */
-static void put_track(struct output *out, unsigned svc, int L, unsigned sets) {
+static void put_track(struct output *out, unsigned svc, int L, unsigned sets, unsigned trailer) {
     put(out, svc, 1);
-    put(out, sets ? 13 : 7, 2);
-    put(out, svc ? 0x0153001E : 0x0142001E, 4);
+    put(out, (sets ? 13 : 7) + (!svc && trailer == PRESENT ? 4 : 0), 2);
+    put(out, svc ? 0x0153001E : trailer == NONE ? 0x0142001E : 0x0164001E, 4);
     put(out, 0xFC | (L - 1), 1);
     put(out, (svc ? 0 : 0xE0) | sets, 1);
     if (sets)
@@ -105,6 +108,8 @@ static void put_track(struct output *out, unsigned svc, int L, unsigned sets) {
     put(out, sets, 1);
     if (sets)
         put(out, 0x000168, 3);
+    if (!svc && trailer == PRESENT)
+        put(out, 0xFDF8F800, 4);
 }
 
 size_t build_bundle(struct input *in, uint8_t *bytes, size_t room) {
@@ -115,7 +120,7 @@ size_t build_bundle(struct input *in, uint8_t *bytes, size_t room) {
     uint8_t kinds = take(in);
     put(&out, tracks, 1);
     for (unsigned t = 0; t < tracks; t++)
-        put_track(&out, t > 0 && !(kinds >> t & 1), L, kinds >> 7);
+        put_track(&out, t > 0 && !(kinds >> t & 1), L, kinds >> 7, (kinds >> 4 & 3) % 3);
     unsigned references = tracks > 1 ? take_below(in, 5) : 0;
     put(&out, references, 1);
     for (unsigned r = 0; r < references; r++) {

@@ -3,8 +3,9 @@
  *
  * Every slice is lent exactly, once with a forbidden page after it and once with one before it. After each call:
  * the number is one that the call may give, what is written ends at the count, nothing is written on a refusal, the
- * input is unchanged, both calls agree. Between calls: a record read and written again is the same bytes; the units
- * of a resolved sample are those asked for one by one; the audit's line agrees with resolving.
+ * input is unchanged, both calls agree. Between calls: a record read and written again is the same bytes; a record is
+ * accepted up to its trailer, and not with a part of it; the units of a resolved sample are those asked for one by one;
+ * the audit's line agrees with resolving.
  *
  * The answers themselves are fed back to the fuzzer as counters, since the library brings none of its own.
  */
@@ -41,6 +42,8 @@ static const uint64_t allowed[CALLS] = {
 
 __attribute__((section("__libfuzzer_extra_counters"))) static uint8_t counters[CALLS * 32 * 16];
 static uint64_t reached[CALLS][32];
+/* Records read and written, by PUDDOCKLE_TRAILER. */
+static uint64_t trailers[2][3];
 
 #define MUST(condition)                                                       \
     do {                                                                      \
@@ -83,6 +86,10 @@ static void print_reached(void) {
                 fprintf(stderr, " %d:%llu", number, (unsigned long long)reached[call][number]);
         fprintf(stderr, "\n");
     }
+    for (int call = READ_RECORD; call <= WRITE_RECORD; call++)
+        fprintf(stderr, "%12s  trailer none:%llu absent:%llu present:%llu\n", names[call],
+                (unsigned long long)trailers[call][0], (unsigned long long)trailers[call][1],
+                (unsigned long long)trailers[call][2]);
 }
 
 int LLVMFuzzerInitialize(int *argc, char ***argv) {
@@ -143,15 +150,9 @@ static struct answer write_record(uint32_t kind, const uint64_t *fields, size_t 
     return a[0];
 }
 
-/* A record read; where it is accepted, written again, which must give the same bytes. */
-static void try_read_record(struct input *in) {
+/* A record that was read with these numbers, written again: the same bytes, and one byte less is not enough. */
+static void write_again(uint32_t kind, struct slice record, const uint64_t *fields) {
     static uint8_t written[ROOM];
-    uint64_t fields[PUDDOCKLE_FIELDS];
-    uint32_t kind = (uint32_t)take_mostly_small(in) & ((take(in) & 1) ? 1 : UINT32_MAX);
-    size_t room = take_below(in, 8) == 0 ? take_below(in, 24) : PUDDOCKLE_FIELDS;
-    struct slice record = {in->bytes, in->left};
-    if (read_record(kind, record, fields, room).number != 0)
-        return;
     struct slice sets[3];
     for (int i = 0; i < 3; i++) {
         size_t at = i == 0 ? PUDDOCKLE_SEQUENCE_COUNT : i == 1 ? PUDDOCKLE_PICTURE_COUNT : PUDDOCKLE_EXTENSION_COUNT;
@@ -160,8 +161,55 @@ static void try_read_record(struct input *in) {
     }
     struct answer a = write_record(kind, fields, PUDDOCKLE_FIELDS, sets, written, record.length);
     MUST(a.number == 0 && a.count == record.length && memcmp(written, record.bytes, record.length) == 0);
+    trailers[WRITE_RECORD][fields[PUDDOCKLE_TRAILER]]++;
     a = write_record(kind, fields, PUDDOCKLE_FIELDS, sets, written, record.length - 1);
     MUST(a.number == 29);
+}
+
+/* The start of a trailer of no sets. */
+static const uint8_t no_sets[4] = {0xFD, 0xF8, 0xF8, 0x00};
+
+/* A record that was read with these numbers, up to where a trailer starts and with none to all bytes of one. */
+static void try_trailer(uint32_t kind, struct slice record, const uint64_t *fields) {
+    static uint8_t bytes[ROOM];
+    uint64_t again[PUDDOCKLE_FIELDS], said = fields[PUDDOCKLE_TRAILER];
+    size_t start = fields[PUDDOCKLE_PICTURE_START] + fields[PUDDOCKLE_PICTURE_LENGTH];
+    int belongs = kind == 0 && (fields[PUDDOCKLE_PROFILE] == 100 || fields[PUDDOCKLE_PROFILE] == 110 ||
+                                fields[PUDDOCKLE_PROFILE] == 122 || fields[PUDDOCKLE_PROFILE] == 144);
+    MUST(said <= PUDDOCKLE_TRAILER_PRESENT && (said != PUDDOCKLE_TRAILER_NONE) == belongs);
+    MUST(start <= record.length && (start < record.length) == (said == PUDDOCKLE_TRAILER_PRESENT));
+    for (size_t i = PUDDOCKLE_CHROMA_FORMAT; i < PUDDOCKLE_FIELDS; i++)
+        MUST(said == PUDDOCKLE_TRAILER_PRESENT || fields[i] == 0);
+    trailers[READ_RECORD][said]++;
+    if (start + sizeof no_sets > sizeof bytes)
+        return;
+    memcpy(bytes, record.bytes, start);
+    memcpy(bytes + start, no_sets, sizeof no_sets);
+    for (size_t more = 0; more <= sizeof no_sets; more++) {
+        struct slice other = {bytes, start + more};
+        uint32_t number = read_record(kind, other, again, PUDDOCKLE_FIELDS).number;
+        if (more > 0 && (more < sizeof no_sets || !belongs)) {
+            MUST(number == (belongs ? 8 : 13));
+            continue;
+        }
+        MUST(number == 0 && memcmp(again, fields, PUDDOCKLE_TRAILER * sizeof *fields) == 0);
+        MUST(again[PUDDOCKLE_TRAILER] == (more > 0 ? PUDDOCKLE_TRAILER_PRESENT
+                                          : belongs ? PUDDOCKLE_TRAILER_ABSENT
+                                                    : PUDDOCKLE_TRAILER_NONE));
+        write_again(kind, other, again);
+    }
+}
+
+/* A record read; where it is accepted, written again and tried with other trailers. */
+static void try_read_record(struct input *in) {
+    uint64_t fields[PUDDOCKLE_FIELDS];
+    uint32_t kind = (uint32_t)take_mostly_small(in) & ((take(in) & 1) ? 1 : UINT32_MAX);
+    size_t room = take_below(in, 8) == 0 ? take_below(in, 24) : PUDDOCKLE_FIELDS;
+    struct slice record = {in->bytes, in->left};
+    if (read_record(kind, record, fields, room).number != 0)
+        return;
+    write_again(kind, record, fields);
+    try_trailer(kind, record, fields);
 }
 
 /* Sets of these bytes, each after its 2-byte length: `count` of them, of 1 to 4 bytes. */
@@ -180,21 +228,23 @@ static struct slice build_sets(struct input *in, uint8_t type, unsigned count, u
 
 /* Fields that fit a record, or all but one do; where they are accepted, the record is read again. */
 static void try_write_record(struct input *in) {
-    static const uint8_t types[] = {0x67, 0x68, 0x6D};
+    static const uint8_t types[] = {0x67, 0x68, 0x6D}, profiles[] = {100, 110, 122, 144};
     static const size_t counts[] = {PUDDOCKLE_SEQUENCE_COUNT, PUDDOCKLE_PICTURE_COUNT, PUDDOCKLE_EXTENSION_COUNT};
     static uint8_t written[ROOM], lent[3][64];
     uint64_t fields[24] = {0}, again[PUDDOCKLE_FIELDS];
     uint8_t shape = take(in), spoil = take(in);
     uint32_t kind = spoil == 0xFF ? (uint32_t)take_number(in, 4) : shape & 1;
-    int trailer = kind == 0 && (shape & 2);
-    fields[PUDDOCKLE_PROFILE] = trailer ? 100 : 66;
+    uint64_t trailer = kind != 0 || !(shape & 2) ? PUDDOCKLE_TRAILER_NONE
+                       : (shape & 0x20)          ? PUDDOCKLE_TRAILER_ABSENT
+                                                 : PUDDOCKLE_TRAILER_PRESENT;
+    fields[PUDDOCKLE_PROFILE] = trailer == PUDDOCKLE_TRAILER_NONE ? 66 : profiles[take_below(in, 4)];
     fields[PUDDOCKLE_LEVEL] = take(in);
     fields[PUDDOCKLE_COMPLETE_REPRESENTATION] = kind == 1 && (shape & 4);
     fields[PUDDOCKLE_LENGTH_SIZE] = 1u << (shape >> 3 & 3) % 3;
-    fields[PUDDOCKLE_TRAILER] = trailer ? PUDDOCKLE_TRAILER_PRESENT : PUDDOCKLE_TRAILER_NONE;
+    fields[PUDDOCKLE_TRAILER] = trailer;
     struct slice sets[3];
     for (int i = 0; i < 3; i++) {
-        fields[counts[i]] = i < 2 || trailer ? take_below(in, 5) : 0;
+        fields[counts[i]] = i < 2 || trailer == PUDDOCKLE_TRAILER_PRESENT ? take_below(in, 5) : 0;
         sets[i] = build_sets(in, types[i], (unsigned)fields[counts[i]], lent[i]);
     }
     if (spoil < 24)
@@ -207,9 +257,14 @@ static void try_write_record(struct input *in) {
     size_t count = spoil == 0xFE ? take_below(in, 24) : PUDDOCKLE_FIELDS + (shape >> 6 & 1);
     size_t room = spoil == 0xFD ? take(in) : ROOM;
     struct answer a = write_record(kind, fields, count, sets, written, room);
+    MUST(a.number == 0 || spoil < 30 || spoil >= 0xFD);
     if (a.number == 0) {
         struct slice record = {written, a.count};
         MUST(read_record(kind, record, again, PUDDOCKLE_FIELDS).number == 0);
+        MUST(again[PUDDOCKLE_PROFILE] == fields[PUDDOCKLE_PROFILE]);
+        MUST(again[PUDDOCKLE_TRAILER] == fields[PUDDOCKLE_TRAILER]);
+        write_again(kind, record, again);
+        try_trailer(kind, record, again);
     }
 }
 

@@ -102,8 +102,8 @@ enum {
 /* Values of PUDDOCKLE_TRAILER. */
 enum {
     PUDDOCKLE_TRAILER_NONE = 0,   /* no trailer belongs there: an SVC record, or another profile than those below */
-    PUDDOCKLE_TRAILER_ABSENT = 1, /* one belongs there and is left out; never read, and 31 where it is to be written */
-    PUDDOCKLE_TRAILER_PRESENT = 2 /* there: AVC records of profile 100, 110, 122 or 144 */
+    PUDDOCKLE_TRAILER_ABSENT = 1, /* one belongs there, and the record ends before it, after its picture sets */
+    PUDDOCKLE_TRAILER_PRESENT = 2 /* one belongs there, and is there: an AVC record of profile 100, 110, 122 or 144 */
 };
 
 /* Sizes of what is written. */
@@ -121,7 +121,9 @@ enum {
  * Refusals, first that applies first: 4 (kind is not 0 or 1); then front to back 8, 9, 10, 11, 12, 13; then 29
  * (fields_len is less than PUDDOCKLE_FIELDS). *place is always 0.
  * Accepted: the first PUDDOCKLE_FIELDS numbers are written and none after them. A kind of sets with count 0 starts
- * where its first set would stand. Refused: none is written.
+ * where its first set would stand; numbers 12 to 17 are 0 unless a trailer is present. An AVC record of profile 100,
+ * 110, 122 or 144 that ends after its picture sets has PUDDOCKLE_TRAILER_ABSENT; with one byte more the whole trailer
+ * must follow. Refused: none is written.
  */
 uint32_t puddockle_read_record(uint32_t kind,
                                const uint8_t *record, size_t record_len,
@@ -139,9 +141,9 @@ uint32_t puddockle_read_record(uint32_t kind,
  * out, out_len              where the record goes
  *
  * Refusals, first that applies first: 4 (kind is not 0 or 1); 31 (fields_len is less than PUDDOCKLE_FIELDS, a number
- * does not fit its bits, the sets are not exactly the count, a trailer is given where none belongs or missing where
- * one does, or the record would be refused by puddockle_read_record); 29 (it is longer than out_len). *place is
- * always 0.
+ * does not fit its bits, the sets are not exactly the count, a trailer is given or said to be absent where none
+ * belongs, one that belongs there is neither given nor said to be absent, or the record would be refused by
+ * puddockle_read_record); 29 (it is longer than out_len). *place is always 0. An absent trailer is written as nothing.
  * Accepted: *count bytes are written, which puddockle_read_record accepts. What was read and is written again with
  * the sets where they stand gives the same bytes. Refused: nothing is written, *count is 0.
  */

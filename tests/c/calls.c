@@ -83,7 +83,7 @@ static void read_records(void)
     SAME(puddockle_read_record(0x10000, high, sizeof high, fields, PUDDOCKLE_FIELDS, &place), 4);
     SAME(puddockle_read_record(0, NULL, 0, fields, 0, &place), 8);
     SAME(place, 0);
-    SAME(puddockle_read_record(0, high, 14, fields, PUDDOCKLE_FIELDS, &place), 8);
+    SAME(puddockle_read_record(0, high, 15, fields, PUDDOCKLE_FIELDS, &place), 8);
     SAME(puddockle_read_record(0, three, sizeof three, fields, PUDDOCKLE_FIELDS, &place), 11);
     SAME(puddockle_read_record(1, B0 + 14, 8, fields, PUDDOCKLE_FIELDS - 1, &place), 13);
     place = UNSET;
@@ -161,6 +161,134 @@ static void write_records(void)
     place = count = UNSET;
     SAME(puddockle_write_record(1, few, PUDDOCKLE_FIELDS - 1, NULL, 0, NULL, 0, NULL, 0, out, sizeof out, &place, &count), 31);
     SAME(place, 0);
+    SAME(count, 0);
+    SAME(untouched(out, sizeof out), 1);
+}
+
+/* M10: its first half ends after the picture sets, and has its trailer absent. */
+static const uint8_t M10[11] = { 0x01, 0x64, 0x00, 0x1E, 0xFF, 0xE0, 0x00, 0xFD, 0xF8, 0xF8, 0x00 };
+static const uint64_t M10_NUMBERS[PUDDOCKLE_FIELDS] = { 100, 0, 30, 0, 4, 0, 6, 0, 0, 7, 0, PUDDOCKLE_TRAILER_ABSENT };
+
+/* Reading these bytes is refused with this number, and nothing is written. */
+static void read_refused(const uint8_t *record, size_t length, size_t room, uint32_t number, int line)
+{
+    uint64_t fields[PUDDOCKLE_FIELDS + 2], place = UNSET;
+    memset(fields, FILL, sizeof fields);
+    same("number", puddockle_read_record(0, record, length, fields, room, &place), number, line);
+    same("place", place, 0, line);
+    same("untouched", untouched(fields, sizeof fields), 1, line);
+}
+
+/* Writing M10's first half, one number set to this value (LEVEL to 30 changes nothing) and so many bytes of extension sets lent, is refused
+ * with this number, and nothing is written. */
+static void write_refused(uint32_t kind, unsigned index, uint64_t value, size_t extension_len, size_t room, uint32_t number, int line)
+{
+    static const uint8_t extension[3] = { 0x00, 0x01, 0x6D };
+    uint64_t fields[PUDDOCKLE_FIELDS], place = UNSET, count = UNSET;
+    uint8_t out[16];
+    memcpy(fields, M10_NUMBERS, sizeof fields);
+    fields[index] = value;
+    memset(out, FILL, sizeof out);
+    same("number", puddockle_write_record(kind, fields, PUDDOCKLE_FIELDS, NULL, 0, NULL, 0, extension, extension_len, out, room, &place, &count),
+         number, line);
+    same("place", place, 0, line);
+    same("count", count, 0, line);
+    same("untouched", untouched(out, sizeof out), 1, line);
+}
+
+static void trailer_absent(void)
+{
+    static const uint8_t profiles[] = { 100, 110, 122, 144 };
+    uint64_t fields[PUDDOCKLE_FIELDS + 2], place, count;
+    uint8_t record[12], out[16];
+
+    /* read, and written again, in all four profiles */
+    for (size_t i = 0; i < sizeof profiles; i++) {
+        uint64_t expected[PUDDOCKLE_FIELDS];
+        memcpy(record, M10, sizeof M10);
+        memcpy(expected, M10_NUMBERS, sizeof expected);
+        record[1] = profiles[i];
+        expected[PUDDOCKLE_PROFILE] = profiles[i];
+        memset(fields, FILL, sizeof fields);
+        place = UNSET;
+        SAME(puddockle_read_record(0, record, 7, fields, PUDDOCKLE_FIELDS + 2, &place), 0);
+        SAME(place, 0);
+        SAME(memcmp(fields, expected, sizeof expected), 0);
+        SAME(untouched(fields + PUDDOCKLE_FIELDS, 2 * sizeof *fields), 1);
+        memset(out, FILL, sizeof out);
+        place = count = UNSET;
+        SAME(puddockle_write_record(0, fields, PUDDOCKLE_FIELDS, record + 6, 0, record + 7, 0, record, 0, out, sizeof out, &place, &count), 0);
+        SAME(place, 0);
+        SAME(count, 7);
+        SAME(memcmp(out, record, 7), 0);
+        SAME(untouched(out + 7, sizeof out - 7), 1);
+        /* one to three trailer bytes ask for the whole trailer */
+        for (size_t length = 8; length < 11; length++)
+            read_refused(record, length, PUDDOCKLE_FIELDS + 2, 8, __LINE__);
+        place = UNSET;
+        SAME(puddockle_read_record(0, record, 11, fields, PUDDOCKLE_FIELDS, &place), 0);
+        SAME(fields[PUDDOCKLE_TRAILER], PUDDOCKLE_TRAILER_PRESENT);
+    }
+    /* too few numbers; the picture sets' count is not there; wrong fixed bits in the only trailer byte; a byte after the trailer */
+    read_refused(M10, 7, PUDDOCKLE_FIELDS - 1, 29, __LINE__);
+    read_refused(M10, 6, PUDDOCKLE_FIELDS, 8, __LINE__);
+    memcpy(record, M10, sizeof M10);
+    record[7] = 0x7D;
+    read_refused(record, 8, PUDDOCKLE_FIELDS, 10, __LINE__);
+    record[7] = 0xFD;
+    record[11] = 0;
+    read_refused(record, 12, PUDDOCKLE_FIELDS, 13, __LINE__);
+
+    /* not written: neither a trailer nor absent where one belongs; a trailer number that there is not; absent where none belongs, in an AVC and in
+     * an SVC record; extension sets beside absent */
+    write_refused(0, PUDDOCKLE_TRAILER, PUDDOCKLE_TRAILER_NONE, 0, sizeof out, 31, __LINE__);
+    write_refused(0, PUDDOCKLE_TRAILER, 3, 0, sizeof out, 31, __LINE__);
+    write_refused(0, PUDDOCKLE_TRAILER, (UINT64_C(1) << 32) + 1, 0, sizeof out, 31, __LINE__);
+    write_refused(0, PUDDOCKLE_PROFILE, 66, 0, sizeof out, 31, __LINE__);
+    write_refused(0, PUDDOCKLE_PROFILE, 244, 0, sizeof out, 31, __LINE__);
+    write_refused(0, PUDDOCKLE_PROFILE, 256 + 100, 0, sizeof out, 31, __LINE__);
+    write_refused(1, PUDDOCKLE_LEVEL, 30, 0, sizeof out, 31, __LINE__);
+    write_refused(0, PUDDOCKLE_LEVEL, 30, 3, sizeof out, 31, __LINE__);
+    /* 4, then 31, then 29 */
+    write_refused(2, PUDDOCKLE_TRAILER, PUDDOCKLE_TRAILER_NONE, 0, 6, 4, __LINE__);
+    write_refused(0, PUDDOCKLE_TRAILER, PUDDOCKLE_TRAILER_NONE, 0, 6, 31, __LINE__);
+    write_refused(0, PUDDOCKLE_LEVEL, 30, 0, 6, 29, __LINE__);
+
+    /* values of a trailer that is absent are not looked at */
+    for (unsigned i = PUDDOCKLE_CHROMA_FORMAT; i < PUDDOCKLE_FIELDS; i++) {
+        memcpy(fields, M10_NUMBERS, sizeof M10_NUMBERS);
+        fields[i] = UINT64_MAX;
+        memset(out, FILL, sizeof out);
+        place = count = UNSET;
+        SAME(puddockle_write_record(0, fields, PUDDOCKLE_FIELDS, NULL, 0, NULL, 0, NULL, 0, out, 7, &place, &count), 0);
+        SAME(count, 7);
+        SAME(memcmp(out, M10, 7), 0);
+        SAME(untouched(out + 7, sizeof out - 7), 1);
+    }
+
+    /* B0 with profile 100: as B0; with one trailer byte in its first record: 8 at the track entry */
+    uint8_t bundle[sizeof B0 + 1];
+    memcpy(bundle, B0, sizeof B0);
+    bundle[5] = 100;
+    place = UNSET;
+    SAME(puddockle_check_bundle(bundle, sizeof B0, &place), 0);
+    SAME(place, 0);
+    memset(out, FILL, sizeof out);
+    place = count = UNSET;
+    SAME(puddockle_resolve(bundle, sizeof B0, 2, out, sizeof out, &place, &count), 0);
+    SAME(count, 6);
+    SAME(memcmp(out + 4, B0 + 57, 2), 0);
+    SAME(untouched(out + 6, sizeof out - 6), 1);
+    memmove(bundle + 12, bundle + 11, sizeof B0 - 11);
+    bundle[3] = 8;
+    bundle[11] = 0xFD;
+    place = UNSET;
+    SAME(puddockle_check_bundle(bundle, sizeof bundle, &place), 8);
+    SAME(place, 1);
+    memset(out, FILL, sizeof out);
+    place = count = UNSET;
+    SAME(puddockle_resolve(bundle, sizeof bundle, 2, out, sizeof out, &place, &count), 8);
+    SAME(place, 1);
     SAME(count, 0);
     SAME(untouched(out, sizeof out), 1);
 }
@@ -318,6 +446,7 @@ int main(void)
 {
     read_records();
     write_records();
+    trailer_absent();
     check_samples();
     call_bundle();
     printf("%u checks, %u failed\n", checks, failures);

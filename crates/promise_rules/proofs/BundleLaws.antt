@@ -104,8 +104,7 @@ module _ (b : List ℕ) where
       (List·Memᴰ·cases-cons m)
 
   stated : {f : Fields} {s t u : List ℕ} {kind : ℕ} {c : List ℕ} → RecordOf f s t u kind c → f .«length_size» ∈ (1 ∷ 2 ∷ 4 ∷ [])
-  stated (RecordOf.avc h x l q g e n) = h .«length_size»
-  stated (RecordOf.trailed t h x l q g e n y) = h .«length_size»
+  stated (RecordOf.avc rest h x l q e) = h .«length_size»
   stated (RecordOf.svc bit h x l q e n) = h .«length_size»
 
   size-stated : (kind : ℕ) (s : List ℕ) → Bytes s → (m : MaybeKind) → kindOf kind ≡ m → (f : Fields) (a c x : List ℕ) → RecordOf f a c x kind s →
@@ -121,8 +120,7 @@ module _ (b : List ℕ) where
   kind-stated w = go (w .valid)
     where
       go : {kind : ℕ} {f : Fields} {a c x s : List ℕ} → RecordOf f a c x kind s → ((kind ≡ 0) × (knownKind (kindOf kind) ≡ Avc)) ⊎ ((kind ≡ 1) × (knownKind (kindOf kind) ≡ Svc))
-      go (RecordOf.avc h x l q g e n) = inl (refl, refl)
-      go (RecordOf.trailed t h x l q g e n y) = inl (refl, refl)
+      go (RecordOf.avc rest h x l q e) = inl (refl, refl)
       go (RecordOf.svc bit h x l q e n) = inr (refl, refl)
 
   pub track-means : Bytes b → (p : ℕ) → TrackAt b p → TrackMeans b p (trackOn b p)

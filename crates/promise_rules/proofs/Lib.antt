@@ -1,4 +1,4 @@
--- The proofs that crates/promises/specs/Demands cites, by what they are about.
+-- The proofs that crates/promises/specs cites, by what they are about.
 pub mod FirstLaws
 pub mod RecordLaws
 pub mod ReadLaws
@@ -17,4 +17,5 @@ pub mod OtherLaws
 pub mod ReturnLaws
 pub mod SlipLaws
 pub mod NumberLaws
+pub mod AbsentLaws
 pub mod Cited

@@ -1,11 +1,11 @@
 -- The proofs of what Demands says of where sets stand, and of records as numbers. Assumes nothing.
 use Prim.Native.Nat.{ℕ, suc, _+_, _≤_, _<_}
 use mathlib.Core.Path.{_≡_, refl, ap, sym, _∙_, subst}
-use mathlib.Core.Bool.{Bool, true, false, _||_}
+use mathlib.Core.Bool.{false}
 use mathlib.Core.List.{List, [], _∷_, List·Memᴰ·not-nil, List·Memᴰ·cases-cons}
 use mathlib.Core.Logic.{_⊎_, inl, inr, ⊎-elim, _↔_}
 use native.Mathlib.Omega.{arith}
-use borrow.Author.Tests.{ltb-true, ltb-false, le-ltb, eqb-true, eqb-false, ne-eqb, not-false}
+use borrow.Author.Tests.{ltb-true, ltb-false, le-ltb, eqb-true, eqb-false, ne-eqb}
 use lib.ListN.{length, getD}
 use Rattle.words.specs.Tests.{_<?_, _≡?_}
 use Rattle.words.specs.RefusalNumbers.{fieldsFitNoRecord}
@@ -13,7 +13,7 @@ use Rattle.words.specs.Refusals.{_if_, Answer, refused, ok}
 use Rattle.words.specs.Bytes.{Bytes}
 use Rattle.words.specs.Buffers.{within}
 use Rattle.words.specs.Lists.{_∈_}
-use Rattle.words.proofs.Tests.{by-bool, by-number, true-false}
+use Rattle.words.proofs.Tests.{by-bool, by-number}
 use Rattle.words.proofs.Refusals.{if-none, orElse-none, ok-refused, ok-same, refused-along, none-or-some}
 use Rattle.words.proofs.Buffers.{within-room, within-not}
 use Rattle.numbers.specs.Kinds.{kindOf}
@@ -26,9 +26,9 @@ use Rattle.record_rules.specs.Fields.{placed}
 use Rattle.record_rules.specs.Trailers.{ending}
 use Rattle.record_rules.specs.Answers.{partBytes}
 use Rattle.record_rules.specs.declared.Flag.{Flag}
-use Rattle.record_rules.specs.declared.Flag.the-variants.{Absent, Clear, Set}
+use Rattle.record_rules.specs.declared.Flag.the-variants as flags
 use Rattle.record_rules.specs.declared.Trailer.{Trailer}
-use Rattle.record_rules.specs.declared.Trailer.the-variants.{None, Present}
+use Rattle.record_rules.specs.declared.Trailer.the-variants.{None, Absent, Present}
 use Rattle.record_rules.specs.declared.Fields.{Fields}
 use Rattle.record_rules.specs.declared.Record.{Record}
 use Rattle.record_rules.proofs.Fits.{fitting}
@@ -55,6 +55,7 @@ module _ (f : Fields) (a c x : List ℕ) (kind : ℕ) (s : List ℕ) where
 
   extensions-at : (t : Trailer) → 6 + length a + 1 + length c + length (ending t .head) ≡ 7 + length a + length c + trailerHead t
   extensions-at None = omega arith
+  extensions-at Absent = omega arith
   extensions-at (Present t) = omega arith
 
   stands : SetsStand (placed f a c x) a c x
@@ -66,14 +67,15 @@ module _ (f : Fields) (a c x : List ℕ) (kind : ℕ) (s : List ℕ) where
 
 -- the numbers of a record
 flag-number : (g : Flag) → bit g ≡ flagNumber g
-flag-number Absent = refl
-flag-number Clear = refl
-flag-number Set = refl
+flag-number flags.Absent = refl
+flag-number flags.Clear = refl
+flag-number flags.Set = refl
 
 module _ (a c x : List ℕ) where
   tail-number : (t : Trailer) → numbers.trailerNumbers t (record { start = record { 0 = 6 + length a + 1 + length c + length (ending t .head) }; len = length x })
       ≡ trailerNumbers t (7 + length a + length c + 4) (length x)
   tail-number None = refl
+  tail-number Absent = refl
   tail-number (Present t) = let e : 6 + length a + 1 + length c + 4 ≡ 7 + length a + length c + 4 = omega arith in rw e
 
   numbers-placed : (f : Fields) → numbersOf (placed f a c x) ≡ numbersFor f a c x
@@ -84,6 +86,7 @@ module _ (a c x : List ℕ) where
 
   tail-length : (t : Trailer) (p n : ℕ) → length (trailerNumbers t p n) ≡ 7
   tail-length None p n = refl
+  tail-length Absent p n = refl
   tail-length (Present t) p n = refl
 
   eighteen : (f : Fields) → length (numbersFor f a c x) ≡ 18
@@ -172,17 +175,18 @@ module _ (kind : ℕ) (s : List ℕ) (g : Bytes s) where
 
 -- the fields that numbers say
 module _ (ns : List ℕ) where
-  many : (k : Kind) → numbersFault k ns ≡ 0 → (18 ≤ length ns) × ((flagMost k <? getD ns 3 0) ≡ false) × (((getD ns 11 0 ≡? 0) || (getD ns 11 0 ≡? 2)) ≡ true)
+  many : (k : Kind) → numbersFault k ns ≡ 0 → (18 ≤ length ns) × ((flagMost k <? getD ns 3 0) ≡ false) × (getD ns 11 0 ≤ 2)
   unfolding numbersFault
   many k e =
       let a = orElse-none (fieldsFitNoRecord if length ns <? 18) _ e in
       let b = orElse-none (fieldsFitNoRecord if flagMost k <? getD ns 3 0) _ (a .1) in
-      (ltb-false _ _ (if-none 30 _ (a .0)), if-none 30 _ (b .0), not-false _ (if-none 30 _ (b .1)))
+      (ltb-false _ _ (if-none 30 _ (a .0)), if-none 30 _ (b .0), ltb-false _ _ (if-none 30 _ (b .1)))
 
-  trailer-none : (getD ns 11 0 ≡? 2) ≡ false → ((getD ns 11 0 ≡? 0) || (getD ns 11 0 ≡? 2)) ≡ true → getD ns 11 0 ≡ 0
-  trailer-none t e = by-bool (getD ns 11 0 ≡? 0)
-      (λ u. eqb-true _ _ u)
-      (λ u. let z : _≡_ {A = Bool} false true = rw (u, t) at e in true-false false z refl)
+  trailer-none : (getD ns 11 0 ≡? 2) ≡ false → (getD ns 11 0 ≡? 1) ≡ false → getD ns 11 0 ≤ 2 → getD ns 11 0 ≡ 0
+  trailer-none t u l =
+      let a : getD ns 11 0 ≡ 2 → ⊥ = eqb-false _ _ t in
+      let b : getD ns 11 0 ≡ 1 → ⊥ = eqb-false _ _ u in
+      omega arith
 
   said-by : {kind : ℕ} (k : Kind) → numbersFault k ns ≡ 0 → (flag : Flag) → FlagIn ns kind flag → fieldsFrom k ns .complete ≡ flag → FieldsIn ns kind (fieldsFrom k ns)
   unfolding fieldsFrom
@@ -190,23 +194,26 @@ module _ (ns : List ℕ) where
       let m = many k e in
       by-bool (getD ns 11 0 ≡? 2)
       (λ t. rw (t, q) (FieldsIn.fields flag (Present _) (m .0) i (TrailerIn.present (eqb-true _ _ t))))
-      (λ t. rw (t, q) (FieldsIn.fields flag None (m .0) i (TrailerIn.none (trailer-none t (m .2)))))
+      (λ t. by-bool (getD ns 11 0 ≡? 1)
+      (λ u. rw (t, u, q) (FieldsIn.fields flag Absent (m .0) i (TrailerIn.absent (eqb-true _ _ u))))
+      (λ u. rw (t, u, q) (FieldsIn.fields flag None (m .0) i (TrailerIn.none (trailer-none t u (m .2))))))
 
   said-avc : numbersFault Avc ns ≡ 0 → FieldsIn ns 0 (fieldsFrom Avc ns)
   unfolding fieldsFrom
-  said-avc e = let z : getD ns 3 0 ≤ 0 = ltb-false _ _ (many Avc e .1) in said-by Avc e Absent (FlagIn.avc (omega arith)) refl
+  said-avc e = let z : getD ns 3 0 ≤ 0 = ltb-false _ _ (many Avc e .1) in said-by Avc e flags.Absent (FlagIn.avc (omega arith)) refl
 
   said-svc : numbersFault Svc ns ≡ 0 → FieldsIn ns 1 (fieldsFrom Svc ns)
   unfolding fieldsFrom
   said-svc e =
       let z : getD ns 3 0 ≤ 1 = ltb-false _ _ (many Svc e .1) in
       by-bool (getD ns 3 0 ≡? 0)
-      (λ t. said-by Svc e Clear (FlagIn.clear (eqb-true _ _ t)) (rw t))
-      (λ t. let n : getD ns 3 0 ≡ 0 → ⊥ = eqb-false _ _ t in said-by Svc e Set (FlagIn.set (omega arith)) (rw t))
+      (λ t. said-by Svc e flags.Clear (FlagIn.clear (eqb-true _ _ t)) (rw t))
+      (λ t. let n : getD ns 3 0 ≡ 0 → ⊥ = eqb-false _ _ t in said-by Svc e flags.Set (FlagIn.set (omega arith)) (rw t))
 
   of-avc : {kind : ℕ} {f : Fields} → kind ≡ 0 → FieldsIn ns kind f → (numbersFault Avc ns ≡ 0) × (fieldsFrom Avc ns ≡ f)
   unfolding numbersFault fieldsFrom
   of-avc z (FieldsIn.fields flag trailer l (FlagIn.avc e) (TrailerIn.none t)) = (rw (le-ltb (length ns) 18 l, e, t), rw t)
+  of-avc z (FieldsIn.fields flag trailer l (FlagIn.avc e) (TrailerIn.absent t)) = (rw (le-ltb (length ns) 18 l, e, t), rw t)
   of-avc z (FieldsIn.fields flag trailer l (FlagIn.avc e) (TrailerIn.present t)) = (rw (le-ltb (length ns) 18 l, e, t), rw t)
   of-avc z (FieldsIn.fields flag trailer l (FlagIn.clear e) t) = absurd (omega arith)
   of-avc z (FieldsIn.fields flag trailer l (FlagIn.set e) t) = absurd (omega arith)
@@ -215,14 +222,15 @@ module _ (ns : List ℕ) where
   unfolding numbersFault fieldsFrom
   of-svc z (FieldsIn.fields flag trailer l (FlagIn.avc e) t) = absurd (omega arith)
   of-svc z (FieldsIn.fields flag trailer l (FlagIn.clear e) (TrailerIn.none t)) = (rw (le-ltb (length ns) 18 l, e, t), rw (e, t))
+  of-svc z (FieldsIn.fields flag trailer l (FlagIn.clear e) (TrailerIn.absent t)) = (rw (le-ltb (length ns) 18 l, e, t), rw (e, t))
   of-svc z (FieldsIn.fields flag trailer l (FlagIn.clear e) (TrailerIn.present t)) = (rw (le-ltb (length ns) 18 l, e, t), rw (e, t))
   of-svc z (FieldsIn.fields flag trailer l (FlagIn.set e) (TrailerIn.none t)) = (rw (le-ltb (length ns) 18 l, e, t), rw (e, t))
+  of-svc z (FieldsIn.fields flag trailer l (FlagIn.set e) (TrailerIn.absent t)) = (rw (le-ltb (length ns) 18 l, e, t), rw (e, t))
   of-svc z (FieldsIn.fields flag trailer l (FlagIn.set e) (TrailerIn.present t)) = (rw (le-ltb (length ns) 18 l, e, t), rw (e, t))
 
 -- a record has a known kind
 record-kind : {kind : ℕ} {f : Fields} {a c x s : List ℕ} → RecordOf f a c x kind s → (kind ≡ 0) ⊎ (kind ≡ 1)
-record-kind (RecordOf.avc h g l q m e n) = inl refl
-record-kind (RecordOf.trailed t h g l q m e n y) = inl refl
+record-kind (RecordOf.avc rest h g l q e) = inl refl
 record-kind (RecordOf.svc b h g l q e n) = inr refl
 
 -- written

@@ -3,6 +3,7 @@
 --   judge-then, judge-as         one after the other; in other words
 --   lt-test, le-test, eq-test, ne-test, in-test      a test
 --   byte-judged, set-judged, sets-judged, head-judged, end-judged, bytes-judged    the parts of a record
+--   good-to, to-good             good up to the end of the picture sets
 --   read-refused                 the call
 use Prim.Native.Nat.{ℕ, zero, suc, _+_, _%_, _≤_, _<_}
 use mathlib.Core.Path.{_≡_, refl, sym, _∙_, subst}
@@ -28,8 +29,10 @@ use Rattle.sets.specs.Sets.{oneOf, setFault, setsFault, setsEnd}
 use Rattle.sets.specs.declared.SetTypes.{SetTypes}
 use Rattle.record_rules.specs.Layout.{recordLayout, fixedIn, pictureTypes, byteFault}
 use Rattle.record_rules.specs.Trailers.{trailerBelongs, chromaShape, depthShape, extensionTypes, valuesFault, ending, endingOf}
-use Rattle.record_rules.specs.Read.{lengthSize, headFault, sequenceCount, sequencesFault, sequencesEnd, pictureCount, picturesEnd, recordEnd, recordFault, readRecord}
+use Rattle.record_rules.specs.Read.{lengthSize, headFault, sequenceCount, sequencesFault, sequencesEnd, pictureCount, picturesFault, picturesEnd, recordEnd, recordFault, readRecord}
 use Rattle.record_rules.specs.declared.Shape.{Shape}
+use Rattle.record_rules.proofs.Parsed.{pictures-in}
+use Rattle.record_rules.proofs.Endings.{by-ending, ending-none, ending-absent, ending-with}
 use Rattle.promise_rules.specs.Records.{SetAt, SetsTo}
 use Rattle.promise_rules.specs.Reading.{ByteAt, ByteRefused, SetRefused, SetsRefused, SizeBits, CountBits, sequencesIn, sequenceTypes, TrailerBelongs, FormatBits, DepthBits}
 use Rattle.promise_rules.specs.Reading.{Head, HeadRefused, SequencesEnd, PicturesEnd, EndsAt, EndRefused, BytesRefused, ReadRefused}
@@ -270,21 +273,26 @@ module _ (k : Kind) (s : List ℕ) (bytes : Bytes s) where
     abbrev endPlace : ℕ
     endPlace = setsEnd s (ending (endingOf k s q) .sets) (q + length (ending (endingOf k s q) .head))
 
-    without : (TrailerBelongs k s → ⊥) → Judges (setsFault extensionTypes s 0 (q + 0)) (EndRefused k s q) (EndsAt k s q (setsEnd s 0 (q + 0)))
+    nothing : EndsAt k s q q → ((n : ℕ) → EndRefused k s q n → ⊥) → Judges (setsFault extensionTypes s 0 (q + 0)) (EndRefused k s q) (EndsAt k s q (setsEnd s 0 (q + 0)))
     unfolding entries skip firstOf
-    without h = rw (add-zero q) (record {
-      good = λ e. EndsAt.nothing h;
+    nothing h never = rw (add-zero q) (record {
+      good = λ e. h;
       none = λ e. refl;
       because = λ l. absurd (omega arith);
-      refuses = never;
+      refuses = λ n w. absurd (never n w);
     })
-      where
-        never : (n : ℕ) → EndRefused k s q n → (0 ≡ n) × (0 < n)
-        never n (EndRefused.format t w) = absurd (h t)
-        never n (EndRefused.luma t f w) = absurd (h t)
-        never n (EndRefused.chroma t f l w) = absurd (h t)
-        never n (EndRefused.count t f l c w) = absurd (h t)
-        never n (EndRefused.sets t f l c d w) = absurd (h t)
+
+    -- a refusal is of a trailer that has a byte
+    refused-has : (n : ℕ) → EndRefused k s q n → TrailerBelongs k s × (q < length s)
+    refused-has n (EndRefused.format t l w) = (t, l)
+    refused-has n (EndRefused.luma t f w) = (t, f .there)
+    refused-has n (EndRefused.chroma t f l w) = (t, f .there)
+    refused-has n (EndRefused.count t f l c w) = (t, f .there)
+    refused-has n (EndRefused.sets t f l c d w) = (t, f .there)
+
+    format-at : (n : ℕ) → q < length s → TrailerBelongs k s → ByteRefused FormatBits s q n → EndRefused k s q n
+    format-at n l t (ByteRefused.missing h) = absurd (omega arith)
+    format-at n l t (ByteRefused.bits h f) = EndRefused.format t h f
 
     abbrev TrailerTests : ℕ → Type 0
     TrailerTests n =
@@ -295,10 +303,10 @@ module _ (k : Kind) (s : List ℕ) (bytes : Bytes s) where
         ⊎ ((ByteAt FormatBits s q × (ByteAt DepthBits s (q + 1) × (ByteAt DepthBits s (q + 2) × (q + 3 < length s))))
         × SetsRefused (13 ∷ []) s (byteAt s (q + 3)) (q + 4) n)
 
-    module _ (has : TrailerBelongs k s) where
+    module _ (has : TrailerBelongs k s) (some : q < length s) where
       trailer-to : (n : ℕ) → TrailerTests n → EndRefused k s q n
       trailer-to n w = ⊎-elim
-          (⊎-elim (λ x. EndRefused.format has x)
+          (⊎-elim (λ x. format-at n some has x)
           (λ a. ⊎-elim (λ x. EndRefused.luma has (a .0) x)
           (λ b. ⊎-elim (λ x. EndRefused.chroma has (a .0) (b .0) x)
           (λ c. rw (c .1 .0) (EndRefused.count has (a .0) (b .0) (c .0) (c .1 .1)))
@@ -307,7 +315,7 @@ module _ (k : Kind) (s : List ℕ) (bytes : Bytes s) where
           w
 
       trailer-from : (n : ℕ) → EndRefused k s q n → TrailerTests n
-      trailer-from n (EndRefused.format t w) = inl (inl w)
+      trailer-from n (EndRefused.format t l w) = inl (inl (ByteRefused.bits l w))
       trailer-from n (EndRefused.luma t f w) = inl (inr (f, inl w))
       trailer-from n (EndRefused.chroma t f l w) = inl (inr (f, inr (l, inl w)))
       trailer-from n (EndRefused.count t f l c w) = inl (inr (f, inr (l, inr (c, (refl, w)))))
@@ -318,6 +326,7 @@ module _ (k : Kind) (s : List ℕ) (bytes : Bytes s) where
           (ByteAt FormatBits s q × (ByteAt DepthBits s (q + 1) × (ByteAt DepthBits s (q + 2) × (q + 3 < length s))))
           × SetsTo (13 ∷ []) s (byteAt s (q + 3)) (q + 4) e
       trailer-good (EndsAt.nothing h) = absurd (h has)
+      trailer-good (EndsAt.absent t l) = absurd (omega arith)
       trailer-good (EndsAt.trailer t f l c d w) = ((f, (l, (c, d))), w)
 
       trailer-judged :
@@ -336,23 +345,29 @@ module _ (k : Kind) (s : List ℕ) (bytes : Bytes s) where
           trailer-good
 
     -- it ends at one place
-    trailer-end : (has : TrailerBelongs k s) {e : ℕ} → EndsAt k s q e → setsEnd s (byteAt s (q + 3)) (q + 4) ≡ e
-    trailer-end has {e} w = sets-to extensionTypes (13 ∷ []) (one-in 13) (in-one 13) s (byteAt s (q + 3)) (q + 4) e (trailer-good has w .1) .1
+    trailer-end : TrailerBelongs k s → q < length s → {e : ℕ} → EndsAt k s q e → setsEnd s (byteAt s (q + 3)) (q + 4) ≡ e
+    trailer-end has some {e} w = sets-to extensionTypes (13 ∷ []) (one-in 13) (in-one 13) s (byteAt s (q + 3)) (q + 4) e (trailer-good has some w .1) .1
 
-    without-end : (TrailerBelongs k s → ⊥) → {e : ℕ} → EndsAt k s q e → setsEnd s 0 (q + 0) ≡ e
+    nothing-end : (TrailerBelongs k s → q < length s → ⊥) → {e : ℕ} → EndsAt k s q e → setsEnd s 0 (q + 0) ≡ e
     unfolding skip
-    without-end h (EndsAt.nothing f) = add-zero q
-    without-end h (EndsAt.trailer t f l c d w) = absurd (h t)
+    nothing-end h (EndsAt.nothing f) = add-zero q
+    nothing-end h (EndsAt.absent t l) = add-zero q
+    nothing-end h (EndsAt.trailer t f l c d w) = absurd (h t (f .there))
+
+    no-trailer : trailerBelongs k (byteAt s 1) ≡ false → TrailerBelongs k s → ⊥
+    no-trailer t h = true-false _ (trailer-belongs-true k s h) t
 
     end-one : (e : ℕ) → EndsAt k s q e → endPlace ≡ e
-    end-one e w = by-bool (trailerBelongs k (byteAt s 1))
-        (λ t. rw t (trailer-end (trailer-belongs k s t) w))
-        (λ t. rw t (without-end (λ h. true-false _ (trailer-belongs-true k s h) t) w))
+    end-one e w = by-ending k s q
+        (λ t. rw (ending-none k s q t) (nothing-end (λ h l. no-trailer t h) w))
+        (λ t l. rw (ending-absent k s q t l) (nothing-end (λ h m. absurd (omega arith)) w))
+        (λ t l. rw (ending-with k s q t l) (trailer-end (trailer-belongs k s t) l w))
 
     end-judged : Judges endFault (EndRefused k s q) (EndsAt k s q endPlace)
-    end-judged = by-bool (trailerBelongs k (byteAt s 1))
-        (λ t. rw t (trailer-judged (trailer-belongs k s t)))
-        (λ t. rw t (without (λ h. true-false _ (trailer-belongs-true k s h) t)))
+    end-judged = by-ending k s q
+        (λ t. rw (ending-none k s q t) (nothing (EndsAt.nothing (no-trailer t)) (λ n w. no-trailer t (refused-has n w .0))))
+        (λ t l. rw (ending-absent k s q t l) (nothing (EndsAt.absent (trailer-belongs k s t) l) (λ n w. let m = refused-has n w .1 in absurd (omega arith))))
+        (λ t l. rw (ending-with k s q t l) (trailer-judged (trailer-belongs k s t) l))
 
   -- where the sequence sets and the picture sets end
   sequences-judged : Judges (sequencesFault k s) (SetsRefused (sequenceTypes k) s (sequencesIn k (byteAt s 5)) 6) (SetsTo (sequenceTypes k) s (sequencesIn k (byteAt s 5)) 6 (sequencesEnd k s))
@@ -448,6 +463,21 @@ module _ (k : Kind) (s : List ℕ) (bytes : Bytes s) where
       bytes-from
       (λ w. w)
       (λ w. w)
+
+  -- good up to the end of the picture sets, both ways
+  pub good-to : (q : ℕ) → PicturesEnd k s q → (headFault k s ≡ 0) × (sequencesFault k s ≡ 0) × (picturesFault k s ≡ 0) × (picturesEnd k s ≡ q) × (q ≤ length s)
+  good-to q w =
+      let a = sequences-at (w .count) (w .sequences) in
+      let b = pictures-at q w in
+      let h = head-judged .none (a .0) in
+      let f = sequences-judged .none (a .1) in
+      let p = pictures-judged .none (b .1) in
+      let e = pictures-one q w in
+      let l = pictures-in k s (b .0) p .1 in
+      (h, f, rw (lt-leb (length s) (sequencesEnd k s) (b .0), p), e, omega arith)
+
+  pub to-good : recordFault k s ≡ 0 → PicturesEnd k s (picturesEnd k s)
+  to-good e = let w = bytes-judged .good e in pictures-end (w .0) (w .1 .0) (w .1 .1 .0)
 
 -- the call
 module _ (kind : ℕ) (s : List ℕ) (bytes : Bytes s) where

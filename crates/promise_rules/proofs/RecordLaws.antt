@@ -1,6 +1,7 @@
 -- The proofs of what Demands says of records: read and written, in plain facts (a file of specs/ may not cite its own crate's proofs/). Assumes nothing.
 --
 --   sets-fit, fit-of-sets     sets in plain facts, and by the definition
+--   ends, ended               what ends a record, in plain facts; both ways
 --   valid-avc, valid-svc, fitted    fields and sets that fit a record, in plain facts; both ways
 --   accepted-exactly          a record is accepted with these fields and sets exactly if it is what they spell
 --   written-exactly           they are written exactly if they are valid and there is room: with the bytes that they spell
@@ -36,10 +37,9 @@ use Rattle.record_rules.specs.Trailers.{isHigh, extensionTypes, ending}
 use Rattle.record_rules.specs.Fields.{recordBytes, fits}
 use Rattle.record_rules.specs.Parts.{fitsByParts}
 use Rattle.record_rules.specs.declared.Flag.{Flag}
-use Rattle.record_rules.specs.declared.Flag.the-variants.{Absent, Clear, Set}
-use Rattle.record_rules.specs.declared.High.{High}
+use Rattle.record_rules.specs.declared.Flag.the-variants as flag
 use Rattle.record_rules.specs.declared.Trailer.{Trailer}
-use Rattle.record_rules.specs.declared.Trailer.the-variants.{None, Present}
+use Rattle.record_rules.specs.declared.Trailer.the-variants.{None, Absent, Present}
 use Rattle.record_rules.specs.declared.Fields.{Fields}
 use Rattle.record_rules.specs.declared.Record.{Record}
 use Rattle.record_rules.proofs.Numbers.{Numbers, numbers, numbers-true, high-numbers, high-true}
@@ -53,7 +53,7 @@ use Rattle.record_writer.specs.Write.{writeAs, writeRecord}
 use Rattle.record_writer.specs.Promise.{Holds}
 use Rattle.record_writer.proofs.Laws.{write-misfit, write-fits}
 use Rattle.record_writer.proofs.Promise.{writes-back, reads-back}
-use Rattle.promise_rules.specs.Records.{SetsTo, Sets, trailerProfiles, Shared, RecordOf, WriteRefused}
+use Rattle.promise_rules.specs.Records.{SetsTo, Sets, trailerProfiles, Shared, RecordEnds, RecordOf, WriteRefused}
 
 -- sets
 module _ (types : SetTypes) (ts : List ℕ) (to : (t : ℕ) → oneOf types t ≡ true → t ∈ ts) (from : (t : ℕ) → t ∈ ts → oneOf types t ≡ true) (s : List ℕ) where
@@ -144,7 +144,7 @@ empty-list [] e = refl
 empty-list (a ∷ x) e = absurd (omega arith)
 
 -- what fits by parts
-record Parts (k : Kind) (f : Fields) (a b x : List ℕ) : Type 0 where
+pub record Parts (k : Kind) (f : Fields) (a b x : List ℕ) : Type 0 where
   pub numbers : Numbers k f
   pub size : not (f .«length_size» ≡? 3) ≡ true
   pub sequences : setsFit (recordLayout k .sequence) a (f .sequences) ≡ true
@@ -152,7 +152,7 @@ record Parts (k : Kind) (f : Fields) (a b x : List ℕ) : Type 0 where
   pub belongs : ending (f .trailer) .belongs k (f .profile) ≡ true
   pub extensions : setsFit extensionTypes x (ending (f .trailer) .sets) ≡ true
 
-parts : (k : Kind) (f : Fields) (a b x : List ℕ) → fits k f a b x ≡ true → Parts k f a b x
+pub parts : (k : Kind) (f : Fields) (a b x : List ℕ) → fits k f a b x ≡ true → Parts k f a b x
 unfolding fitsByParts
 parts k f a b x h =
     let e : fitsByParts k f a b x ≡ true = sym (fits-by-parts k f a b x) ∙ h in
@@ -174,18 +174,12 @@ heads : {a b c d e e' g g' : ℕ} {l : List ℕ} → e ≡ e' → g ≡ g' → (
 heads p q = rw (p, q)
 
 module _ (f : Fields) (a b x : List ℕ) where
-  bytes-avc : f .complete ≡ Absent → f .trailer ≡ None → x ≡ [] →
-      recordBytes Avc f a b x ≡ (1 ∷ f .profile ∷ f .compatibility ∷ f .level ∷ (252 + (f .«length_size» - 1)) ∷ (224 + f .sequences) ∷ (a ++ (f .pictures ∷ b)))
+  bytes-avc : (rest : List ℕ) → f .complete ≡ flag.Absent → ending (f .trailer) .head ++ x ≡ rest →
+      recordBytes Avc f a b x ≡ (1 ∷ f .profile ∷ f .compatibility ∷ f .level ∷ (252 + (f .«length_size» - 1)) ∷ (224 + f .sequences) ∷ (a ++ (f .pictures ∷ (b ++ rest))))
   unfolding recordBytes flagsByte
-  bytes-avc c t e = rw (c, t, e, append-nil b) (heads (omega arith) (omega arith))
+  bytes-avc rest c e = rw (c, e) (heads (omega arith) (omega arith))
 
-  bytes-trailed : (t : High) → f .complete ≡ Absent → f .trailer ≡ Present t →
-      recordBytes Avc f a b x ≡ (1 ∷ f .profile ∷ f .compatibility ∷ f .level ∷ (252 + (f .«length_size» - 1)) ∷ (224 + f .sequences)
-      ∷ (a ++ (f .pictures ∷ (b ++ ((252 + t .format) ∷ (248 + t .luma) ∷ (248 + t .chroma) ∷ t .extensions ∷ x)))))
-  unfolding recordBytes flagsByte
-  bytes-trailed t c e = rw (c, e) (heads (omega arith) (omega arith))
-
-  bytes-svc : (bit : ℕ) → ((f .complete ≡ Clear) × (bit ≡ 0)) ⊎ ((f .complete ≡ Set) × (bit ≡ 1)) → f .trailer ≡ None → x ≡ [] →
+  bytes-svc : (bit : ℕ) → ((f .complete ≡ flag.Clear) × (bit ≡ 0)) ⊎ ((f .complete ≡ flag.Set) × (bit ≡ 1)) → f .trailer ≡ None → x ≡ [] →
       recordBytes Svc f a b x ≡ (1 ∷ f .profile ∷ f .compatibility ∷ f .level ∷ (bit * 128 + 124 + (f .«length_size» - 1)) ∷ f .sequences ∷ (a ++ (f .pictures ∷ b)))
   unfolding recordBytes flagsByte
   bytes-svc bit (inl c) t e = rw (c .0, c .1, t, e, append-nil b) (heads (omega arith) (omega arith))
@@ -216,48 +210,64 @@ not-high p e m = true-false (isHigh p) (in-high p m) e
 high-not : (p : ℕ) → (p ∈ trailerProfiles → ⊥) → isHigh p ≡ false
 high-not p h = by-bool (isHigh p) (λ t. absurd (h (high-in p t))) (λ t. t)
 
-flag-absent : (c : Flag) → flagsFit 0 0 (c ∷ []) ≡ true → c ≡ Absent
+flag-absent : (c : Flag) → flagsFit 0 0 (c ∷ []) ≡ true → c ≡ flag.Absent
 unfolding flagsFit
-flag-absent Absent e = refl
-flag-absent Clear e = true-false false e refl
-flag-absent Set e = true-false false e refl
+flag-absent flag.Absent e = refl
+flag-absent flag.Clear e = true-false false e refl
+flag-absent flag.Set e = true-false false e refl
 
 abbrev Bit : Flag → ℕ → Type 0
-Bit c bit = ((c ≡ Clear) × (bit ≡ 0)) ⊎ ((c ≡ Set) × (bit ≡ 1))
+Bit c bit = ((c ≡ flag.Clear) × (bit ≡ 0)) ⊎ ((c ≡ flag.Set) × (bit ≡ 1))
 
 flag-given : (c : Flag) → flagsFit 1 0 (c ∷ []) ≡ true → (bit : ℕ) × Bit c bit
 unfolding flagsFit
-flag-given Absent e = true-false false e refl
-flag-given Clear e = (0, inl (refl, refl))
-flag-given Set e = (1, inr (refl, refl))
+flag-given flag.Absent e = true-false false e refl
+flag-given flag.Clear e = (0, inl (refl, refl))
+flag-given flag.Set e = (1, inr (refl, refl))
 
 flag-fits : (c : Flag) (bit : ℕ) → Bit c bit → flagsFit 1 0 (c ∷ []) ≡ true
 unfolding flagsFit
 flag-fits c bit (inl e) = rw (e .0)
 flag-fits c bit (inr e) = rw (e .0)
 
-absent-fits : (c : Flag) → c ≡ Absent → flagsFit 0 0 (c ∷ []) ≡ true
+absent-fits : (c : Flag) → c ≡ flag.Absent → flagsFit 0 0 (c ∷ []) ≡ true
 unfolding flagsFit
 absent-fits c e = rw e
 
+-- what ends a record, by the definition and in plain facts
+pub ends : (profile : ℕ) (t : Trailer) (x : List ℕ) → ending t .fits ≡ true → ending t .belongs Avc profile ≡ true → setsFit extensionTypes x (ending t .sets) ≡ true → RecordEnds profile t x (ending t .head ++ x)
+ends profile None x n g y = rw (none-left x y) (RecordEnds.none (not-high profile (not-true _ g)))
+ends profile Absent x n g y = rw (none-left x y) (RecordEnds.absent (high-in profile g))
+ends profile (Present t) x n g y =
+    let m = high-numbers t n in
+    RecordEnds.trailer t x (high-in profile g) (record { format = m .format; luma = m .luma; chroma = m .chroma; extensions = m .extensions })
+    (sets-fit extensionTypes (13 ∷ []) (one-in 13) (in-one 13) x (t .extensions) y)
+
+pub record Ended (profile : ℕ) (t : Trailer) (x rest : List ℕ) : Type 0 where
+  pub fits : ending t .fits ≡ true
+  pub belongs : ending t .belongs Avc profile ≡ true
+  pub sets : setsFit extensionTypes x (ending t .sets) ≡ true
+  pub bytes : ending t .head ++ x ≡ rest
+
+pub ended : {profile : ℕ} {t : Trailer} {x rest : List ℕ} → RecordEnds profile t x rest → Ended profile t x rest
+ended {profile = profile} (RecordEnds.none h) = record { fits = refl; belongs = rw (high-not profile h); sets = nothing-fits; bytes = refl }
+ended {profile = profile} (RecordEnds.absent m) = record { fits = refl; belongs = in-high profile m; sets = nothing-fits; bytes = refl }
+ended {profile = profile} (RecordEnds.trailer t x m n y) =
+    record {
+      fits = high-true t (record { format = n .format; luma = n .luma; chroma = n .chroma; extensions = n .extensions });
+      belongs = in-high profile m;
+      sets = fit-of-sets extensionTypes (13 ∷ []) (one-in 13) (in-one 13) x (t .extensions) y;
+      bytes = refl;
+    }
+
 module _ (f : Fields) (a b x : List ℕ) where
-  valid-avc : (t : Trailer) → f .trailer ≡ t → Parts Avc f a b x → RecordOf f a b x 0 (recordBytes Avc f a b x)
-  valid-avc None e w =
+  valid-avc : Parts Avc f a b x → RecordOf f a b x 0 (recordBytes Avc f a b x)
+  valid-avc w =
       let absent = flag-absent (f .complete) (w .numbers .flags) in
-      let none = none-left x (rw e at (w .extensions)) in
-      rw (bytes-avc f a b x absent e none)
-      (RecordOf.avc (shared Avc f a b x refl w) absent (w .numbers .sequences)
+      rw (bytes-avc f a b x (ending (f .trailer) .head ++ x) absent refl)
+      (RecordOf.avc (ending (f .trailer) .head ++ x) (shared Avc f a b x refl w) absent (w .numbers .sequences)
       (sets-fit (recordLayout Avc .sequence) (7 ∷ []) (one-in 7) (in-one 7) a (f .sequences) (w .sequences))
-      (not-high (f .profile) (not-true _ (rw e at (w .belongs)))) e none)
-  valid-avc (Present t) e w =
-      let absent = flag-absent (f .complete) (w .numbers .flags) in
-      let n = high-numbers t (rw e at (w .numbers .trailer)) in
-      rw (bytes-trailed f a b x t absent e)
-      (RecordOf.trailed t (shared Avc f a b x refl w) absent (w .numbers .sequences)
-      (sets-fit (recordLayout Avc .sequence) (7 ∷ []) (one-in 7) (in-one 7) a (f .sequences) (w .sequences))
-      (high-in (f .profile) (rw e at (w .belongs))) e
-      (record { format = n .format; luma = n .luma; chroma = n .chroma; extensions = n .extensions })
-      (sets-fit extensionTypes (13 ∷ []) (one-in 13) (in-one 13) x (t .extensions) (rw e at (w .extensions))))
+      (ends (f .profile) (f .trailer) x (w .numbers .trailer) (w .belongs) (w .extensions)))
 
   valid-svc : (t : Trailer) → f .trailer ≡ t → Parts Svc f a b x → RecordOf f a b x 1 (recordBytes Svc f a b x)
   valid-svc None e w =
@@ -267,10 +277,11 @@ module _ (f : Fields) (a b x : List ℕ) where
       (RecordOf.svc (bit .0) (shared Svc f a b x refl w) (bit .1) (w .numbers .sequences)
       (sets-fit (recordLayout Svc .sequence) (7 ∷ 15 ∷ []) (two-in 7 15) (in-two 7 15) a (f .sequences) (w .sequences))
       e none)
+  valid-svc Absent e w = true-false false (rw e at (w .belongs)) refl
   valid-svc (Present t) e w = true-false false (rw e at (w .belongs)) refl
 
   -- and what is valid fits
-  fits-avc : Shared f b → f .complete ≡ Absent → f .sequences < 32 → Sets (7 ∷ []) a (f .sequences) 0 →
+  fits-avc : Shared f b → f .complete ≡ flag.Absent → f .sequences < 32 → Sets (7 ∷ []) a (f .sequences) 0 →
       ending (f .trailer) .fits ≡ true → ending (f .trailer) .belongs Avc (f .profile) ≡ true → setsFit extensionTypes x (ending (f .trailer) .sets) ≡ true → Parts Avc f a b x
   fits-avc h c l q n g y =
       let z = in-size (f .«length_size») (h .«length_size») in
@@ -332,22 +343,13 @@ pub record Fitted (kind : ℕ) (f : Fields) (a b x s : List ℕ) : Type 0 where
 
 module _ (f : Fields) (a b x : List ℕ) where
   pub fitted : {kind : ℕ} {s : List ℕ} → RecordOf f a b x kind s → Fitted kind f a b x s
-  fitted (RecordOf.avc h c l q g e none) =
+  fitted (RecordOf.avc rest h c l q e) =
+      let w = ended e in
       record {
         known = Avc;
         is = refl;
-        fits = parts-fit Avc f a b x (fits-avc f a b x h c l q (rw e) (rw (e, high-not (f .profile) g)) (rw (e, none) nothing-fits));
-        bytes = bytes-avc f a b x c e none;
-      }
-  fitted (RecordOf.trailed t h c l q g e n y) =
-      record {
-        known = Avc;
-        is = refl;
-        fits = parts-fit Avc f a b x (fits-avc f a b x h c l q
-            (rw e (high-true t (record { format = n .format; luma = n .luma; chroma = n .chroma; extensions = n .extensions })))
-            (rw (e, in-high (f .profile) g))
-            (rw e (fit-of-sets extensionTypes (13 ∷ []) (one-in 13) (in-one 13) x (t .extensions) y)));
-        bytes = bytes-trailed f a b x t c e;
+        fits = parts-fit Avc f a b x (fits-avc f a b x h c l q (w .fits) (w .belongs) (w .sets));
+        bytes = bytes-avc f a b x rest c (w .bytes);
       }
   fitted (RecordOf.svc bit h c l q e none) =
       record {
@@ -393,7 +395,7 @@ module _ (f : Fields) (a b x : List ℕ) where
   wrote-avc room e =
       let w = within-ok room (writeAs Avc f a b x) (sym (write-avc room) ∙ e) in
       let v = written Avc f a b x (w .0) in
-      (subst (RecordOf f a b x 0) (v .1) (valid-avc f a b x (f .trailer) refl (parts Avc f a b x (v .0))), w .1)
+      (subst (RecordOf f a b x 0) (v .1) (valid-avc f a b x (parts Avc f a b x (v .0))), w .1)
 
   wrote-svc : (room : ℕ) {s : List ℕ} → writeRecord 1 f a b x room ≡ ok s → RecordOf f a b x 1 s × (length s ≤ room)
   wrote-svc room e =
@@ -448,7 +450,7 @@ module _ (f : Fields) (a b x : List ℕ) where
         (λ t. misfit t room)
 
   avc : fits Avc f a b x ≡ true → RecordOf f a b x 0 (recordBytes Avc f a b x)
-  avc t = valid-avc f a b x (f .trailer) refl (parts Avc f a b x t)
+  avc t = valid-avc f a b x (parts Avc f a b x t)
 
   svc : fits Svc f a b x ≡ true → RecordOf f a b x 1 (recordBytes Svc f a b x)
   svc t = valid-svc f a b x (f .trailer) refl (parts Svc f a b x t)

@@ -1,7 +1,7 @@
 -- The proofs of what Demands says of the C functions. Assumes nothing.
 use Prim.Native.Nat.{ℕ, suc, _≤_}
 use mathlib.Core.Path.{_≡_, refl, sym, _∙_, subst}
-use mathlib.Core.Bool.{true, not, _||_}
+use mathlib.Core.Bool.{true}
 use mathlib.Core.List.{List, [], _∷_, _++_, Memᴰ·append-left, Memᴰ·append-right}
 use mathlib.Core.Logic.{_⊎_, inl, inr}
 use native.Mathlib.Omega.{arith}
@@ -23,7 +23,7 @@ use Rattle.record_rules.specs.Read.{readRecord}
 use Rattle.record_rules.specs.declared.Record.{Record}
 use Rattle.record_writer.specs.Write.{writeRecord}
 use Rattle.record_numbers.specs.Numbers.{numbersOf, asNumbers, readNumbers, _at_, flagMost, numbersFault, fieldsFrom, writeNumbersAs, writeNumbers}
-use Rattle.record_numbers.specs.Indices.{numberCount, completeRepresentation, trailer, trailerNone, trailerPresent}
+use Rattle.record_numbers.specs.Indices.{numberCount, completeRepresentation, trailer, trailerPresent}
 use Rattle.record_numbers.proofs.Promise as numbered
 use Rattle.units.specs.Units.{Sample}
 use Rattle.samples.proofs.Laws.{check-refusals}
@@ -140,7 +140,7 @@ pub fault-31 : (k : Kind) (ns : List ℕ) → NoneOr (31 ∷ []) (numbersFault k
 unfolding numbersFault some
 fault-31 k ns = none-or-orElse (31 ∷ []) _ _ (none-or-if (31 ∷ []) fieldsFitNoRecord (length ns <? numberCount) (has-from _ _ refl))
     (none-or-orElse (31 ∷ []) _ _ (none-or-if (31 ∷ []) fieldsFitNoRecord (flagMost k <? ns at completeRepresentation) (has-from _ _ refl))
-    (none-or-if (31 ∷ []) fieldsFitNoRecord (not ((ns at trailer ≡? trailerNone) || (ns at trailer ≡? trailerPresent))) (has-from _ _ refl)))
+    (none-or-if (31 ∷ []) fieldsFitNoRecord (trailerPresent <? ns at trailer) (has-from _ _ refl)))
 
 pub write-known : (kind : ℕ) (k : Kind) (ns a c x : List ℕ) (room : ℕ) → kindOf kind ≡ Known k → numbersFault k ns ≡ 0 → writeNumbers kind ns a c x room ≡ writeRecord kind (fieldsFrom k ns) a c x room
 unfolding writeNumbers writeNumbersAs writeRecord

@@ -1,4 +1,4 @@
--- What the words of crates/promises/specs/Demands mean: plain facts, with document 01's numbers. The proofs stand in proofs/.
+-- What the words of crates/promises/specs mean: plain facts, with document 01's numbers. The proofs stand in proofs/.
 --
 --   Records, Samples, Bundles, Resolving, Audits    a record, a sample, a bundle, a sample resolved, an audit
 --   Reading     with which number reading a record is refused

@@ -1,8 +1,8 @@
 -- Where the sets of a record stand, and a record as the 18 numbers of the C functions (include/puddockle.h), in plain facts. a, c and
 -- x are the bytes of its sequence sets, picture sets and extensions. The numbers, from 0 on: profile, compatibility, level,
--- complete_representation, L; count, start and length of the sequence sets, and of the picture sets; the trailer, 0 for none and 2
--- for one; its chroma_format, luma depth and chroma depth less 8; count, start and length of the extensions. Starts are offsets in
--- the record.
+-- complete_representation, L; count, start and length of the sequence sets, and of the picture sets; the trailer, 0 where none belongs,
+-- 1 where it is absent and 2 for one; its chroma_format, luma depth and chroma depth less 8; count, start and length of the extensions.
+-- Starts are offsets in the record.
 --
 --   SetsStand r a c x              where a record that was read says that its sets stand
 --   numbersFor f a c x             the numbers of a record of fields f
@@ -15,9 +15,9 @@ use mathlib.Core.List.{List, [], _∷_}
 use mathlib.Core.Logic.{_⊎_}
 use lib.ListN.{length, getD}
 use Rattle.record_rules.specs.declared.Flag.{Flag}
-use Rattle.record_rules.specs.declared.Flag.the-variants.{Absent, Clear, Set}
+use Rattle.record_rules.specs.declared.Flag.the-variants as flag
 use Rattle.record_rules.specs.declared.Trailer.{Trailer}
-use Rattle.record_rules.specs.declared.Trailer.the-variants.{None, Present}
+use Rattle.record_rules.specs.declared.Trailer.the-variants.{None, Absent, Present}
 use Rattle.record_rules.specs.declared.Fields.{Fields}
 use Rattle.record_rules.specs.declared.Record.{Record}
 use Rattle.promise_rules.specs.Records.{RecordOf}
@@ -26,6 +26,7 @@ use Rattle.promise_rules.specs.Reading.{ReadRefused}
 -- a trailer has four bytes before its sets
 abbrev pub trailerHead : Trailer → ℕ
 trailerHead None = 0
+trailerHead Absent = 0
 trailerHead (Present t) = 4
 
 pub record SetsStand (r : Record) (a c x : List ℕ) : Type 0 where
@@ -35,12 +36,13 @@ pub record SetsStand (r : Record) (a c x : List ℕ) : Type 0 where
       (r .extensions .start .0 ≡ 7 + length a + length c + trailerHead (r .fields .trailer)) × (r .extensions .len ≡ length x)
 
 abbrev pub flagNumber : Flag → ℕ
-flagNumber Absent = 0
-flagNumber Clear = 0
-flagNumber Set = 1
+flagNumber flag.Absent = 0
+flagNumber flag.Clear = 0
+flagNumber flag.Set = 1
 
 abbrev pub trailerNumbers : Trailer → ℕ → ℕ → List ℕ
 trailerNumbers None start len = 0 ∷ 0 ∷ 0 ∷ 0 ∷ 0 ∷ 0 ∷ 0 ∷ []
+trailerNumbers Absent start len = 1 ∷ 0 ∷ 0 ∷ 0 ∷ 0 ∷ 0 ∷ 0 ∷ []
 trailerNumbers (Present t) start len = 2 ∷ t .format ∷ t .luma ∷ t .chroma ∷ t .extensions ∷ start ∷ len ∷ []
 
 abbrev pub numbersFor : Fields → List ℕ → List ℕ → List ℕ → List ℕ
@@ -53,12 +55,13 @@ numbersFor f a c x =
 module _ (ns : List ℕ) where
   -- an AVC record has no complete_representation, which is said by 0
   pub data FlagIn : ℕ → Flag → Type 0 where
-    avc : getD ns 3 0 ≡ 0 → FlagIn 0 Absent
-    clear : getD ns 3 0 ≡ 0 → FlagIn 1 Clear
-    set : getD ns 3 0 ≡ 1 → FlagIn 1 Set
+    avc : getD ns 3 0 ≡ 0 → FlagIn 0 flag.Absent
+    clear : getD ns 3 0 ≡ 0 → FlagIn 1 flag.Clear
+    set : getD ns 3 0 ≡ 1 → FlagIn 1 flag.Set
 
   pub data TrailerIn : Trailer → Type 0 where
     none : getD ns 11 0 ≡ 0 → TrailerIn None
+    absent : getD ns 11 0 ≡ 1 → TrailerIn Absent
     present :
         getD ns 11 0 ≡ 2 →
         TrailerIn (Present (record { format = getD ns 12 0; luma = getD ns 13 0; chroma = getD ns 14 0; extensions = getD ns 15 0 }))

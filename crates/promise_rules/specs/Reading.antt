@@ -1,5 +1,5 @@
--- With which number reading a configuration record is refused: document 01, 'Configuration records' and 'Numbers for no'. The bytes s
--- are judged front to back. A case is the first rule that they break, and says what holds before it.
+-- With which number reading a configuration record is refused: document 01, 'Configuration records' and 'Numbers for no', and [1] of
+-- document 02. The bytes s are judged front to back. A case is the first rule that they break, and says what holds before it.
 --
 --   ByteAt P s p, ByteRefused P s p n     the byte at p is there, with the fixed bits that P says; else 8 or 10
 --   SetRefused types s p n                what stands at p is no such set: 8 or 12
@@ -122,16 +122,18 @@ module _ (k : Kind) (s : List ℕ) where
     abbrev ChromaGood : Type 0
     ChromaGood = ByteAt DepthBits s (q + 2)
 
-    -- the record ends there; or it has a trailer: chroma_format, two depths, a count, and as many sets, which end at e
+    -- the record ends there, where no trailer belongs, or where one does and no byte follows; or it has a trailer: chroma_format, two
+    -- depths, a count, and as many sets, which end at e
     pub data EndsAt : ℕ → Type 0 where
       nothing : (TrailerBelongs k s → ⊥) → EndsAt q
+      absent : TrailerBelongs k s → length s ≤ q → EndsAt q
       trailer :
           {e : ℕ} → TrailerBelongs k s → FormatGood → LumaGood → ChromaGood → q + 3 < length s →
           SetsTo (13 ∷ []) s (byteAt s (q + 3)) (q + 4) e → EndsAt e
 
-    -- the first rule that the trailer breaks
+    -- where a trailer belongs and a byte of it is there: the first rule that it breaks
     pub data EndRefused : ℕ → Type 0 where
-      format : {n : ℕ} → TrailerBelongs k s → ByteRefused FormatBits s q n → EndRefused n
+      format : TrailerBelongs k s → q < length s → (FormatBits (byteAt s q) → ⊥) → EndRefused 10
       luma : {n : ℕ} → TrailerBelongs k s → FormatGood → ByteRefused DepthBits s (q + 1) n → EndRefused n
       chroma : {n : ℕ} → TrailerBelongs k s → FormatGood → LumaGood → ByteRefused DepthBits s (q + 2) n → EndRefused n
       count : TrailerBelongs k s → FormatGood → LumaGood → ChromaGood → length s ≤ q + 3 → EndRefused 8

@@ -1,6 +1,7 @@
 -- The demands, in their order and nearly in their words, each as theorems in plain facts about the definitions that the contracts
--- of the code cite. The numbers are those of document 01. What a word means stands in the file that
--- Demands/Words names for it; the files crates/promise_rules/proofs/*Laws prove. Assumes nothing.
+-- of the code cite. The numbers are those of document 01, as changed by document 02: RequestNN says what a request asks for.
+-- What a word means stands in the file that Demands/Words names for it; the files crates/promise_rules/proofs/*Laws prove.
+-- Assumes nothing.
 --
 -- Demand 1. Every public entry takes any bytes, ends, and either answers or refuses with a number of the table and a place.
 -- After a refusal each output buffer holds what it held before, and the count returned is zero. No caller is asked to have

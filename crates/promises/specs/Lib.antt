@@ -1,6 +1,8 @@
 -- What the product promises as a whole.
 --
 --   Demands     the demands, in their order and nearly in their words: read this first
+--   Request01   what document 02's request [1] asks for
 --   Table       the marked cases M1 to M12 of document 01, and its bench bundle B0
 pub mod Demands
+pub mod Request01
 pub mod Table

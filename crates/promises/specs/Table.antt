@@ -124,8 +124,8 @@ table =
     ∷ gives (second (covering 3) (extractor 1 0 0 0)) resolved
     ∷ gives (second (covering 3) (extractor 1 0 0 6)) []
     ∷ gives (second (covering 3) (extractor 1 0 0 9)) resolved
-    -- M10
-    ∷ fails (recordVerdict (readRecord 0 (0x01 ∷ 0x64 ∷ 0x00 ∷ 0x1E ∷ 0xFF ∷ 0xE0 ∷ 0x00 ∷ []))) 8 0
+    -- M10; its first half is accepted since request [1]
+    ∷ passes (recordVerdict (readRecord 0 (0x01 ∷ 0x64 ∷ 0x00 ∷ 0x1E ∷ 0xFF ∷ 0xE0 ∷ 0x00 ∷ [])))
     ∷ passes (recordVerdict (readRecord 0
     (0x01 ∷ 0x64 ∷ 0x00 ∷ 0x1E ∷ 0xFF ∷ 0xE0 ∷ 0x00 ∷ 0xFD ∷ 0xF8 ∷ 0xF8 ∷ 0x00 ∷ [])))
     -- M11

@@ -1,6 +1,6 @@
 -- Numbers read and written, by what was found on the way. Assumes nothing.
 --
---   numbers-length                        a record is 18 numbers
+--   trailer-length, numbers-length        a trailer is 7 numbers, a record 18
 --   trailer-cells                         numbers 11 to 17, one by one
 --   copied                                a turn of the copy
 --   read-refused, read-short, read-fits   a record that is refused, one without room, one with room
@@ -23,15 +23,16 @@ use Rattle.words.proofs.Buffers.{copy-step, within-room, within-not}
 use Rattle.numbers.specs.declared.Kind.{Kind}
 use Rattle.record_rules.specs.Read.{readRecord}
 use Rattle.record_rules.specs.declared.Trailer.{Trailer}
-use Rattle.record_rules.specs.declared.Trailer.the-variants.{None, Present}
+use Rattle.record_rules.specs.declared.Trailer.the-variants.{None, Absent, Present}
 use Rattle.record_rules.specs.declared.Part.{Part}
 use Rattle.record_rules.specs.declared.Record.{Record}
 use Rattle.record_writer.specs.Write.{writeAs}
 use Rattle.record_numbers.specs.Indices.{numberCount}
 use Rattle.record_numbers.specs.Numbers.{trailerNumbers, numbersOf, readNumbers, numbersFault, fieldsFrom, writeNumbersAs}
 
-trailer-length : (t : Trailer) (x : Part) → length (trailerNumbers t x) ≡ 7
+pub trailer-length : (t : Trailer) (x : Part) → length (trailerNumbers t x) ≡ 7
 trailer-length None x = refl
+trailer-length Absent x = refl
 trailer-length (Present t) x = refl
 
 pub numbers-length : (r : Record) → length (numbersOf r) ≡ numberCount
@@ -40,6 +41,7 @@ numbers-length r = let e = trailer-length (r .fields .trailer) (r .extensions) i
 
 pub trailer-cells : (t : Trailer) (x : Part) → let ns = trailerNumbers t x in getD ns 0 0 ∷ getD ns 1 0 ∷ getD ns 2 0 ∷ getD ns 3 0 ∷ getD ns 4 0 ∷ getD ns 5 0 ∷ getD ns 6 0 ∷ [] ≡ trailerNumbers t x
 trailer-cells None x = refl
+trailer-cells Absent x = refl
 trailer-cells (Present t) x = refl
 
 pub copied : (o s : List ℕ) (i : ℕ) → i < length o → i < length s → set (paste o 0 s i) i (getD s i 0) ≡ paste o 0 s (i + 1)

@@ -10,7 +10,7 @@ use mathlib.Core.List.{List}
 use native.Mathlib.Omega.{arith}
 use native.Mathlib.Nat.{sub-self}
 use lib.ListN.{length}
-use Rattle.words.specs.Tests.{_<?_, _≡?_}
+use Rattle.words.specs.Tests.{_<?_, _≡?_, pick}
 use Rattle.words.specs.RefusalNumbers.{unknownKind}
 use Rattle.words.specs.Refusals.{Answer, refused, ok}
 use Rattle.words.specs.Bytes.{Bytes, byteAt}
@@ -23,19 +23,22 @@ use Rattle.numbers.specs.declared.Kind.the-variants.{Avc, Svc}
 use Rattle.numbers.specs.declared.MaybeKind.{MaybeKind}
 use Rattle.numbers.specs.declared.MaybeKind.the-variants.{Known, Unknown}
 use Rattle.record_rules.specs.Layout.{recordLayout, bit, flagOf}
-use Rattle.record_rules.specs.Trailers.{trailerBelongs, extensionTypes}
+use Rattle.record_rules.specs.Trailers.{extensionTypes}
 use Rattle.sets.proofs.Laws.{sets-none}
 use Rattle.record_rules.proofs.Shapes.{flag-back}
-use Rattle.record_rules.specs.Read.{recordFault, recordOf, readAs, readRecord, picturesEnd, recordEnd}
+use Rattle.record_rules.specs.Read.{recordFault, recordOf, trailerOf, readAs, readRecord, picturesEnd}
 use Rattle.record_rules.specs.Answers.{partBytes}
+use Rattle.record_rules.specs.declared.Trailer.{Trailer}
+use Rattle.record_rules.specs.declared.Trailer.the-variants.{None, Absent, Present}
+use Rattle.record_rules.specs.declared.Part.{Part}
 use Rattle.record_rules.specs.declared.Record.{Record}
 use Rattle.record_writer.specs.Write.{writeRecord}
 use Rattle.record_writer.specs.Promise.{Holds}
 use Rattle.record_writer.proofs.Promise as writer
-use Rattle.record_numbers.specs.Indices.{numberCount}
-use Rattle.record_numbers.specs.Numbers.{numbersOf, asNumbers, readNumbers, numbersFault, hasComplete, flagMost, fieldsFrom, writeNumbersAs, writeNumbers, _at_}
+use Rattle.record_numbers.specs.Indices.{numberCount, trailerAbsent, trailerPresent}
+use Rattle.record_numbers.specs.Numbers.{trailerNumbers, numbersOf, asNumbers, readNumbers, numbersFault, hasComplete, flagMost, fieldsFrom, writeNumbersAs, writeNumbers, _at_}
 use Rattle.record_numbers.specs.Promise.{sequencesIn, picturesIn, extensionsIn, Same, NumbersBack, WritesBack, ReadsBack}
-use Rattle.record_numbers.proofs.Laws.{read-fits, fault-none}
+use Rattle.record_numbers.proofs.Laws.{trailer-length, read-fits, fault-none}
 
 -- cases of a kind's number
 by-kind : {G : Type 0} (m : MaybeKind) → ((k : Kind) → m ≡ Known k → G) → (m ≡ Unknown → G) → G
@@ -58,6 +61,18 @@ read-unknown : (kind : ℕ) (s : List ℕ) → kindOf kind ≡ Unknown → readR
 unfolding readRecord
 read-unknown kind s e = rw e
 
+-- the number of a trailer is known, and gives it back
+trailer-known : (t : Trailer) (x : Part) → (trailerPresent <? trailerNumbers t x at 0) ≡ false
+trailer-known None x = refl
+trailer-known Absent x = refl
+trailer-known (Present t) x = refl
+
+trailer-back : (t : Trailer) (x : Part) → let ns = trailerNumbers t x in
+    pick (ns at 0 ≡? trailerPresent) (Present (record { format = ns at 1; luma = ns at 2; chroma = ns at 3; extensions = ns at 4 })) (pick (ns at 0 ≡? trailerAbsent) Absent None) ≡ t
+trailer-back None x = refl
+trailer-back Absent x = refl
+trailer-back (Present t) x = refl
+
 -- complete_representation fits what it may be
 flag-fits : (k : Kind) (n : ℕ) → (flagMost k <? bit (flagOf (hasComplete k) n)) ≡ false
 flag-fits Avc n = refl
@@ -66,18 +81,20 @@ flag-fits Svc n = by-bool (n ≡? 0) (λ t. rw t) (λ t. rw t)
 module _ (k : Kind) (s : List ℕ) where
   no-fault : numbersFault k (numbersOf (recordOf k s)) ≡ 0
   unfolding numbersFault numbersOf
-  no-fault = rw (flag-fits k (byteAt s 4 / 128 % 2)) (by-bool (trailerBelongs k (byteAt s 1)) (λ t. rw t) (λ t. rw t))
+  no-fault = rw (trailer-length (trailerOf k s) (recordOf k s .extensions), flag-fits k (byteAt s 4 / 128 % 2), trailer-known (trailerOf k s) (recordOf k s .extensions))
 
   fields-back : fieldsFrom k (numbersOf (recordOf k s)) ≡ recordOf k s .fields
   unfolding fieldsFrom numbersOf
-  fields-back = rw (flag-back (hasComplete k) (byteAt s 4 / 128 % 2)) (by-bool (trailerBelongs k (byteAt s 1)) (λ t. rw t) (λ t. rw t))
+  fields-back = rw (flag-back (hasComplete k) (byteAt s 4 / 128 % 2), trailer-back (trailerOf k s) (recordOf k s .extensions))
+
+  extensions-by : (t : Trailer) → trailerOf k s ≡ t → extensionsIn s (numbersOf (recordOf k s)) ≡ partBytes s (recordOf k s .extensions)
+  unfolding numbersOf
+  extensions-by None e = let n = sets-none extensionTypes s {n = 0} (picturesEnd k s + 0) (omega arith) in rw (e, n .1, sub-self (picturesEnd k s + 0))
+  extensions-by Absent e = let n = sets-none extensionTypes s {n = 0} (picturesEnd k s + 0) (omega arith) in rw (e, n .1, sub-self (picturesEnd k s + 0))
+  extensions-by (Present t) e = rw e
 
   extensions-back : extensionsIn s (numbersOf (recordOf k s)) ≡ partBytes s (recordOf k s .extensions)
-  unfolding numbersOf
-  extensions-back =
-      by-bool (trailerBelongs k (byteAt s 1))
-      (λ t. rw t)
-      (λ t. let n = sets-none extensionTypes s {n = 0} (picturesEnd k s + 0) (omega arith) in rw (t, n .1, sub-self (picturesEnd k s + 0)))
+  extensions-back = extensions-by (trailerOf k s) refl
 
 pub numbers-back : NumbersBack
 numbers-back kind k s r q e =

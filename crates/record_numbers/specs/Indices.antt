@@ -59,9 +59,12 @@ extensionLength = 17
 abbrev pub numberCount : ℕ
 numberCount = 18
 
--- what the number of a trailer says: 1, absent where one belongs, is not read and is 31
+-- what the number of a trailer says: none belongs there; one does and is absent; one is present
 abbrev pub trailerNone : ℕ
 trailerNone = 0
+
+abbrev pub trailerAbsent : ℕ
+trailerAbsent = 1
 
 abbrev pub trailerPresent : ℕ
 trailerPresent = 2

@@ -9,7 +9,7 @@
 --   fieldsFrom k ns          the fields that numbers give; starts and lengths are not looked at
 --   writeNumbers kind ns sequences pictures extensions room    a record written from numbers: 4, then 31, then 29, or its bytes
 use Prim.Native.Nat.{ℕ}
-use mathlib.Core.Bool.{Bool, not, _||_}
+use mathlib.Core.Bool.{Bool}
 use mathlib.Core.List.{List, [], _∷_}
 use lib.ListN.{length, getD}
 use Rattle.words.specs.Tests.{_<?_, _≡?_, pick}
@@ -22,7 +22,7 @@ use Rattle.record_rules.specs.Layout.{recordLayout, bit, completeFlag, flagOf}
 use Rattle.record_rules.specs.Read.{readRecord}
 use Rattle.record_rules.specs.declared.High.{High}
 use Rattle.record_rules.specs.declared.Trailer.{Trailer}
-use Rattle.record_rules.specs.declared.Trailer.the-variants.{None, Present}
+use Rattle.record_rules.specs.declared.Trailer.the-variants.{None, Absent, Present}
 use Rattle.record_rules.specs.declared.Fields.{Fields}
 use Rattle.record_rules.specs.declared.Part.{Part}
 use Rattle.record_rules.specs.declared.Record.{Record}
@@ -30,12 +30,13 @@ use Rattle.record_writer.specs.Write.{writeAs}
 use Rattle.record_numbers.specs.Indices.{profile, compatibility, level, completeRepresentation, lengthSize}
 use Rattle.record_numbers.specs.Indices.{sequenceCount, pictureCount}
 use Rattle.record_numbers.specs.Indices.{trailer, chromaFormat, lumaDepth, chromaDepth, extensionCount}
-use Rattle.record_numbers.specs.Indices.{numberCount, trailerNone, trailerPresent}
+use Rattle.record_numbers.specs.Indices.{numberCount, trailerNone, trailerAbsent, trailerPresent}
 
 infix 60 _at_
--- Reading: the trailer and what follows it, then all. Without a trailer what follows it is 0.
+-- Reading: the trailer and what follows it, then all. Where none is present what follows it is 0.
 abbrev pub trailerNumbers : Trailer → Part → List ℕ
 trailerNumbers None sets = trailerNone ∷ 0 ∷ 0 ∷ 0 ∷ 0 ∷ 0 ∷ 0 ∷ []
+trailerNumbers Absent sets = trailerAbsent ∷ 0 ∷ 0 ∷ 0 ∷ 0 ∷ 0 ∷ 0 ∷ []
 trailerNumbers (Present t) sets = trailerPresent ∷ t .format ∷ t .luma ∷ t .chroma ∷ t .extensions ∷ sets .start .0 ∷ sets .len ∷ []
 
 unfoldable pub numbersOf : Record → List ℕ
@@ -66,13 +67,14 @@ unfoldable pub numbersFault : Kind → List ℕ → ℕ
 numbersFault k ns =
     fieldsFitNoRecord if length ns <? numberCount orElse
     fieldsFitNoRecord if flagMost k <? ns at completeRepresentation orElse
-    fieldsFitNoRecord if not ((ns at trailer ≡? trailerNone) || (ns at trailer ≡? trailerPresent))
+    fieldsFitNoRecord if trailerPresent <? ns at trailer
 
 abbrev pub highFrom : List ℕ → High
 highFrom ns = record { format = ns at chromaFormat; luma = ns at lumaDepth; chroma = ns at chromaDepth; extensions = ns at extensionCount }
 
 abbrev pub trailerFrom : List ℕ → Trailer
-trailerFrom ns = pick (ns at trailer ≡? trailerPresent) (Present (highFrom ns)) None
+trailerFrom ns =
+    pick (ns at trailer ≡? trailerPresent) (Present (highFrom ns)) (pick (ns at trailer ≡? trailerAbsent) Absent None)
 
 unfoldable pub fieldsFrom : Kind → List ℕ → Fields
 fieldsFrom k ns =

@@ -20,6 +20,8 @@ pub const NUMBER_COUNT: usize = 18;
 // What number 11 says of a trailer.
 const TRAILER_NONE: u64 = 0;
 
+const TRAILER_ABSENT: u64 = 1;
+
 const TRAILER_PRESENT: u64 = 2;
 
 // A record read as numbers, by a kind's number: 4, 8 to 13, 29; or the numbers over the start of the slice. After a refusal the slice is

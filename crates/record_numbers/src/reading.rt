@@ -6,6 +6,7 @@ ghost use Rattle.words.specs.Buffers.{overwrite};
 ghost use Rattle.record_rules.specs.Layout.{bit};
 ghost use Rattle.record_numbers.specs.Indices.{numberCount};
 ghost use Rattle.record_numbers.specs.Numbers.{trailerNumbers, numbersOf};
+use crate::TRAILER_ABSENT;
 use crate::TRAILER_NONE;
 use crate::TRAILER_PRESENT;
 use record_rules::Flag;
@@ -30,6 +31,7 @@ fn trailer_numbers(trailer: Trailer, sets: Part) -> [u64; 7]
 {
     match trailer {
         Trailer::None => [TRAILER_NONE, 0, 0, 0, 0, 0, 0],
+        Trailer::Absent => [TRAILER_ABSENT, 0, 0, 0, 0, 0, 0],
         Trailer::Present(t) => {
             let start = sets.start;
             [

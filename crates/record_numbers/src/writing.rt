@@ -8,7 +8,7 @@ ghost use Rattle.numbers.specs.Answers.{answerOf};
 ghost use Rattle.record_numbers.specs.Indices.{numberCount};
 ghost use Rattle.record_numbers.specs.Numbers.{flagMost, highFrom, trailerFrom, numbersFault, fieldsFrom, writeNumbersAs};
 use crate::NUMBER_COUNT;
-use crate::TRAILER_NONE;
+use crate::TRAILER_ABSENT;
 use crate::TRAILER_PRESENT;
 use numbers::ByteOffset;
 use numbers::Kind;
@@ -42,13 +42,10 @@ fn numbers_fault(k: Kind, numbers: &[u64]) -> u8
     if flag_most(k) < numbers[3] {
         return refusals::FIELDS_FIT_NO_RECORD;
     }
-    if numbers[11] == TRAILER_NONE {
-        return 0;
+    if TRAILER_PRESENT < numbers[11] {
+        return refusals::FIELDS_FIT_NO_RECORD;
     }
-    if numbers[11] == TRAILER_PRESENT {
-        return 0;
-    }
-    refusals::FIELDS_FIT_NO_RECORD
+    0
 }
 
 // complete_representation, where a record has one.
@@ -82,11 +79,14 @@ fn trailer_from(numbers: &[u64]) -> Trailer
     requires { ⌜ numberCount ≤ length (now numbers) ⌝ }
     ensures { λ r. ⌜ r ≡ trailerFrom (now (numbers .entry)) ⌝ }
 {
-    if numbers[11] != TRAILER_PRESENT {
-        return Trailer::None;
+    if numbers[11] == TRAILER_PRESENT {
+        let high = high_from(numbers);
+        return Trailer::Present(high);
     }
-    let high = high_from(numbers);
-    Trailer::Present(high)
+    if numbers[11] == TRAILER_ABSENT {
+        return Trailer::Absent;
+    }
+    Trailer::None
 }
 
 // The fields.

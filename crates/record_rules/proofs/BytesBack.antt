@@ -1,23 +1,23 @@
 -- A record that was read makes the bytes that were read: the parts from one end to the next join to the whole. Assumes nothing.
 --
+--   end-back       what ends an accepted record is what stands after its picture sets
 --   bytes-back     the fields and the parts of an accepted record make its bytes
 use Prim.Native.Nat.{ℕ, _+_, _-_, _≤_, _<_}
 use mathlib.Core.Path.{_≡_, refl, ap, sym, _∙_}
-use mathlib.Core.Bool.{Bool, true, false}
 use mathlib.Core.List.{List, [], _∷_, _++_}
 use native.Mathlib.Omega.{arith}
 use native.Mathlib.Nat.{add-zero}
 use lib.ListN.{length, drop}
 use Rattle.words.specs.Bytes.{Bytes, byteAt, part}
-use Rattle.words.proofs.Tests.{by-bool}
 use Rattle.words.proofs.Positions.{split-one, split-part, part-rest, six, four}
 use Rattle.numbers.specs.declared.Kind.{Kind}
 use Rattle.record_rules.specs.Layout.{recordLayout, byteOf, valueIn, flagIn, flagsByte}
-use Rattle.record_rules.specs.Trailers.{chromaShape, depthShape, trailerBelongs, highBytes, highOf, ending}
+use Rattle.record_rules.specs.Trailers.{chromaShape, depthShape, highBytes, highOf, ending}
 use Rattle.record_rules.specs.Read.{recordFault, lengthSize, sequencesEnd, picturesEnd, trailerOf, extensionsAt, recordEnd, fieldsOf, recordOf}
 use Rattle.record_rules.specs.Fields.{recordBytes}
 use Rattle.record_rules.specs.Answers.{partBytes, writtenAgain}
 use Rattle.record_rules.proofs.Shapes.{row, byte-rest, plain-byte, flags-made}
+use Rattle.record_rules.proofs.Endings.{by-ending, ending-none, ending-absent, ending-with}
 use Rattle.record_rules.proofs.Parsed.{Head, Trailed, Parsed, parsed}
 
 -- the bytes of a trailer before its sets, with what follows them, are what stands from q on
@@ -34,9 +34,10 @@ module _ (k : Kind) (s : List ℕ) (g : Bytes s) (w : Parsed k s) where
   ending-back : ending (trailerOf k s) .head ++ part s (extensionsAt k s) (recordEnd k s - extensionsAt k s) ≡ drop (picturesEnd k s) s
   ending-back =
       rw (w .end, part-rest s (extensionsAt k s))
-      (by-bool (trailerBelongs k (byteAt s 1))
-      (λ t. rw t (high-back s (picturesEnd k s) g (w .trailed t)))
-      (λ t. rw (t, add-zero (picturesEnd k s))))
+      (by-ending k s (picturesEnd k s)
+      (λ t. rw (ending-none k s (picturesEnd k s) t, add-zero (picturesEnd k s)))
+      (λ t l. rw (ending-absent k s (picturesEnd k s) t l, add-zero (picturesEnd k s)))
+      (λ t l. rw (ending-with k s (picturesEnd k s) t l) (high-back s (picturesEnd k s) g (w .trailed t l))))
 
   back : writtenAgain k s (recordOf k s) ≡ s
   unfolding recordBytes
@@ -53,3 +54,6 @@ module _ (k : Kind) (s : List ℕ) (g : Bytes s) (w : Parsed k s) where
 
 pub bytes-back : (k : Kind) (s : List ℕ) → Bytes s → recordFault k s ≡ 0 → writtenAgain k s (recordOf k s) ≡ s
 bytes-back k s g e = back k s g (parsed k s e)
+
+pub end-back : (k : Kind) (s : List ℕ) → Bytes s → recordFault k s ≡ 0 → ending (trailerOf k s) .head ++ partBytes s (recordOf k s .extensions) ≡ drop (picturesEnd k s) s
+end-back k s g e = ending-back k s g (parsed k s e)

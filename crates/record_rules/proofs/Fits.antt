@@ -16,7 +16,7 @@ use Rattle.words.specs.Tests.{_≡?_, all}
 use Rattle.words.specs.RefusalNumbers.{badLengthSize}
 use Rattle.words.specs.Refusals.{_if_, _orElse_}
 use Rattle.words.specs.Bytes.{Bytes, byteAt, part}
-use Rattle.words.proofs.Tests.{by-bool, and-both, all-first, bool-same}
+use Rattle.words.proofs.Tests.{and-both, all-first, bool-same}
 use Rattle.words.proofs.Refusals.{if-none, orElse-none}
 use Rattle.words.proofs.Positions.{split-part, part-length}
 use Rattle.words.proofs.Bytes.{Held, held-bytes, bytes-held, held-append}
@@ -26,15 +26,16 @@ use Rattle.sets.specs.Sets.{setsFault, setsEnd, exactly, setsFit}
 use Rattle.sets.specs.declared.SetTypes.{SetTypes}
 use Rattle.sets.proofs.Laws.{fit-true, fit-sets, sets-inside, sets-outside}
 use Rattle.record_rules.specs.Layout.{recordLayout, valueIn, pictureTypes}
-use Rattle.record_rules.specs.Trailers.{extensionTypes, chromaShape, depthShape, trailerBelongs, highOf, ending}
+use Rattle.record_rules.specs.Trailers.{extensionTypes, chromaShape, depthShape, highOf, ending}
 use Rattle.record_rules.specs.Read.{recordFault, lengthSize, sequenceCount, pictureCount, sequencesEnd, picturesEnd, trailerOf, extensionsAt, recordEnd, fieldsOf, recordOf}
 use Rattle.record_rules.specs.Fields.{recordBytes, numbersFit, fits}
 use Rattle.record_rules.specs.Parts.{fitsByParts}
 use Rattle.record_rules.specs.Answers.{partBytes, writtenAgain}
 use Rattle.record_rules.specs.declared.Trailer.{Trailer}
-use Rattle.record_rules.specs.declared.Trailer.the-variants.{None, Present}
+use Rattle.record_rules.specs.declared.Trailer.the-variants.{None, Absent, Present}
 use Rattle.record_rules.specs.declared.Fields.{Fields}
 use Rattle.record_rules.proofs.Shapes.{row, value-below, byte-below, plain-below, flagged, flags-fit, sound-chroma, sound-depth}
+use Rattle.record_rules.proofs.Endings.{by-ending, ending-none, ending-absent, ending-with}
 use Rattle.record_rules.proofs.Parsed.{Parsed, parsed, Trailed}
 use Rattle.record_rules.proofs.BytesBack.{bytes-back}
 use Rattle.record_rules.proofs.Numbers.{Numbers, numbers, numbers-true, high-numbers, high-true}
@@ -72,6 +73,7 @@ fits-true k f a b x w = rw (numbers-true k f (w .numbers), w .sequences, w .pict
 -- the bytes of what fits
 ending-bytes : (t : Trailer) (x : List ℕ) → ending t .fits ≡ true → Held x → Held (ending t .head ++ x)
 ending-bytes None x n g = g
+ending-bytes Absent x n g = g
 ending-bytes (Present t) x n g =
     let v = high-numbers t n in (
       plain-below chromaShape sound-chroma (t .format) (v .format),
@@ -161,15 +163,16 @@ part-exact types s n a e h l g =
 module _ (k : Kind) (s : List ℕ) (g : Bytes s) (w : Parsed k s) where
   trailer-numbers : ending (trailerOf k s) .fits ≡ true
   trailer-numbers =
-      by-bool (trailerBelongs k (byteAt s 1))
-      (λ t. rw t (high-true (highOf s (picturesEnd k s))
+      by-ending k s (picturesEnd k s)
+      (λ t. rw (ending-none k s (picturesEnd k s) t))
+      (λ t l. rw (ending-absent k s (picturesEnd k s) t l))
+      (λ t l. rw (ending-with k s (picturesEnd k s) t l) (high-true (highOf s (picturesEnd k s))
       (record {
         format = value-below chromaShape (byteAt s (picturesEnd k s)) sound-chroma;
         luma = value-below depthShape (byteAt s (picturesEnd k s + 1)) sound-depth;
         chroma = value-below depthShape (byteAt s (picturesEnd k s + 2)) sound-depth;
         extensions = g (picturesEnd k s + 3);
       })))
-      (λ t. rw t)
 
   numbers-read : Numbers k (fieldsOf k s)
   numbers-read =
@@ -189,7 +192,11 @@ module _ (k : Kind) (s : List ℕ) (g : Bytes s) (w : Parsed k s) where
   trailer-sets = part-exact extensionTypes s (ending (trailerOf k s) .sets) (extensionsAt k s) (recordEnd k s) (w .extensions) (omega (arith, w .end)) refl
 
   trailer-there : ending (trailerOf k s) .belongs k (byteAt s 1) ≡ true
-  trailer-there = by-bool (trailerBelongs k (byteAt s 1)) (λ t. rw (t, t)) (λ t. rw (t, t))
+  trailer-there =
+      by-ending k s (picturesEnd k s)
+      (λ t. rw (ending-none k s (picturesEnd k s) t, t))
+      (λ t l. rw (ending-absent k s (picturesEnd k s) t l, t))
+      (λ t l. rw (ending-with k s (picturesEnd k s) t l, t))
 
   sequences-exact : exactly (part s 6 (sequencesEnd k s - 6)) (sequenceCount k s) ≡ true
   unfolding sequencesEnd

@@ -1,6 +1,7 @@
 -- Laws and theorems about the definitions of records.
 --
 --   Shapes       a byte as flags, fixed bits and a value; what holds of each kind's row
+--   Endings      the ways to end a record
 --   Parsed       an accepted record, taken apart
 --   BytesBack    a record that was read makes the bytes that were read
 --   Numbers      what numbers that fit say
@@ -8,6 +9,7 @@
 --   Fits         what fits, set by set
 --   Refusals     every refusal is one of the table
 pub mod Shapes
+pub mod Endings
 pub mod Parsed
 pub mod BytesBack
 pub mod Numbers

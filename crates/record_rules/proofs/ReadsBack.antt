@@ -1,6 +1,7 @@
 -- Fields and sets are read back from the bytes that they make, byte after byte. Assumes nothing.
 --
 --   Start, start            the first bytes that fields and sets make
+--   Ended, ended            what ends a record is read from the bytes that it makes
 --   bytes-fault             the refusal of the bytes of fields and sets: only a length size of 3, or a set
 --   bytes-record          what these bytes mean: the fields, and where the sets stand
 --   bytes-parts           the sets stand there
@@ -20,18 +21,19 @@ use Rattle.words.proofs.Positions.{Append, at-append, Cons, at-cons, Four, at-f
 use Rattle.numbers.specs.declared.Kind.{Kind}
 use Rattle.sets.specs.Sets.{setsFault, setsEnd, exactly}
 use Rattle.sets.specs.declared.SetTypes.{SetTypes}
-use Rattle.sets.proofs.Laws.{sets-inside}
+use Rattle.sets.proofs.Laws.{sets-none, sets-inside}
 use Rattle.record_rules.specs.Layout.{SoundShape, recordLayout, byteOf, fixedIn, valueIn, pictureTypes, flagIn, flagsByte, missing, byteFault}
-use Rattle.record_rules.specs.Trailers.{extensionTypes, chromaShape, depthShape, trailerBelongs, valuesFault, highBytes, highOf, ending, endingOf}
+use Rattle.record_rules.specs.Trailers.{extensionTypes, chromaShape, depthShape, valuesFault, highBytes, highOf, ending, endingOf}
 use Rattle.record_rules.specs.Read.{lengthSize, headFault, sequenceCount, sequencesFault, sequencesEnd, pictureCount, picturesFault, picturesEnd, followFault, trailerOf, extensionsAt, recordEnd, recordFault, fieldsOf, recordOf}
 use Rattle.record_rules.specs.Fields.{flagsOf, recordBytes, placed}
 use Rattle.record_rules.specs.Answers.{partBytes}
 use Rattle.record_rules.specs.declared.Shape.{Shape}
 use Rattle.record_rules.specs.declared.High.{High}
 use Rattle.record_rules.specs.declared.Trailer.{Trailer}
-use Rattle.record_rules.specs.declared.Trailer.the-variants.{None, Present}
+use Rattle.record_rules.specs.declared.Trailer.the-variants.{None, Absent, Present}
 use Rattle.record_rules.specs.declared.Fields.{Fields}
 use Rattle.record_rules.specs.declared.Record.{Record}
+use Rattle.record_rules.proofs.Endings.{ending-none, ending-absent, ending-with}
 use Rattle.record_rules.proofs.Shapes.{sound-chroma, sound-depth, row, byte-below, plain-rest, fixed-back, value-back, Flagged, flagged}
 use Rattle.record_rules.proofs.Numbers.{Numbers, HighNumbers, high-numbers}
 
@@ -74,7 +76,7 @@ start k f a b x =
     record { there = omega arith; version = refl; profile = refl; compatibility = refl; level = refl; «length_size» = refl; count = refl; next = refl }
 
 -- a trailer and its sets, from q on
-record Ended (k : Kind) (s : List ℕ) (q : ℕ) (t : Trailer) (x : List ℕ) : Type 0 where
+pub record Ended (k : Kind) (s : List ℕ) (q : ℕ) (t : Trailer) (x : List ℕ) : Type 0 where
   pub is : endingOf k s q ≡ t
   pub fault : ending t .fault s q ≡ 0
   pub sets : setsFault extensionTypes s (ending t .sets) (q + length (ending t .head)) ≡ setsFault extensionTypes x (ending t .sets) 0
@@ -102,20 +104,34 @@ high-back s q t x w n =
       ),
     )
 
+-- no sets have no bytes
+no-bytes : (x : List ℕ) → exactly x 0 ≡ true → x ≡ []
+unfolding exactly
+no-bytes [] e = refl
+no-bytes (a ∷ x) e =
+    let z = sets-none extensionTypes (a ∷ x) {n = 0} 0 (omega arith) in
+    let l : setsEnd (a ∷ x) 0 0 ≡ length (a ∷ x) = eqb-true _ _ e in
+    absurd (omega (arith, z .1))
+
 -- what is read there is the trailer: one clause for each
 read-ending :
-    (k : Kind) (s : List ℕ) (q : ℕ) (t : Trailer) (x : List ℕ) → drop q s ≡ ending t .head ++ x → ending t .fits ≡ true → ending t .belongs k (byteAt s 1) ≡ true →
+    (k : Kind) (s : List ℕ) (q : ℕ) (t : Trailer) (x : List ℕ) → q ≤ length s → drop q s ≡ ending t .head ++ x →
+    ending t .fits ≡ true → exactly x (ending t .sets) ≡ true → ending t .belongs k (byteAt s 1) ≡ true →
     (endingOf k s q ≡ t) × (ending t .fault s q ≡ 0)
-read-ending k s q None x e n g = let z : trailerBelongs k (byteAt s 1) ≡ false = not-true _ g in (rw z, refl)
-read-ending k s q (Present t) x e n g =
-    let w = high-back s q t x (at-four s q _ _ _ _ x e) (high-numbers t n) in
-    (rw g (ap Present (w .0)), w .1)
+read-ending k s q None x h e n i g = (ending-none k s q (not-true _ g), refl)
+read-ending k s q Absent x h e n i g =
+    let z : q ≡ length s = at-end s q h (e ∙ no-bytes x i) in
+    (ending-absent k s q g (omega arith), refl)
+read-ending k s q (Present t) x h e n i g =
+    let f = at-four s q _ _ _ _ x e in
+    let w = high-back s q t x f (high-numbers t n) in
+    (ending-with k s q g (omega (arith, f .there)) ∙ ap Present (w .0), w .1)
 
-ended :
+pub ended :
     (k : Kind) (s : List ℕ) (q : ℕ) (t : Trailer) (x : List ℕ) → q ≤ length s → drop q s ≡ ending t .head ++ x →
     ending t .fits ≡ true → exactly x (ending t .sets) ≡ true → ending t .belongs k (byteAt s 1) ≡ true → Ended k s q t x
 ended k s q t x h e n i g =
-    let r = read-ending k s q t x e n g in
+    let r = read-ending k s q t x h e n i g in
     let m = at-append s q (ending t .head) x h e in
     let d : drop (q + length (ending t .head)) s ≡ x ++ [] = m .next ∙ sym (append-nil x) in
     let y = placed-sets extensionTypes s (q + length (ending t .head)) (ending t .sets) x [] (m .within) d i in

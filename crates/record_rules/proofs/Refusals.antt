@@ -23,7 +23,7 @@ use Rattle.record_rules.specs.Trailers.{chromaShape, depthShape, extensi
 use Rattle.record_rules.specs.Read.{headFault, lengthSize, sequenceCount, sequencesEnd, pictureCount, picturesEnd, trailerOf, extensionsAt, recordEnd, recordFault}
 use Rattle.record_rules.specs.declared.Shape.{Shape}
 use Rattle.record_rules.specs.declared.Trailer.{Trailer}
-use Rattle.record_rules.specs.declared.Trailer.the-variants.{None, Present}
+use Rattle.record_rules.specs.declared.Trailer.the-variants.{None, Absent, Present}
 
 abbrev OfRecord : ℕ → Type 0
 OfRecord n = NoneOr recordRefusals n
@@ -62,6 +62,7 @@ values-refusal s q =
 
 ending-refusal : (s : List ℕ) (q : ℕ) (t : Trailer) → OfRecord (ending t .fault s q)
 ending-refusal s q None = inl refl
+ending-refusal s q Absent = inl refl
 ending-refusal s q (Present t) = values-refusal s q
 
 head-refusal : (k : Kind) (s : List ℕ) → OfRecord (headFault k s)

@@ -63,7 +63,7 @@ numbersFit k f =
     ∷ [])
 
 -- None of document 01's reasons for 31 holds: a number doesn't fit its bits, the lent sets aren't exactly the count, a trailer is given
--- where none belongs or missing where one does, or the bytes would be refused by the reader.
+-- where none belongs or missing where one does, or the bytes would be refused by the reader. Absent counts as given (02, [1]).
 unfoldable pub fits : Kind → Fields → List ℕ → List ℕ → List ℕ → Bool
 fits k f sequences pictures extensions =
     all (numbersFit k f

@@ -1,17 +1,19 @@
--- What may end a record after its picture sets (5.2.4.1.1; 01, 'Configuration records', the trailer): nothing, or a trailer.
--- Each way is one clause of `ending`; reading and writing follow from it.
+-- What may end a record after its picture sets (5.2.4.1.1; 01, 'Configuration records', the trailer; 02, [1]): nothing where no trailer
+-- belongs; where one does, the trailer, or nothing, and then it is absent. Each way is one clause of `ending`; which one a record ends
+-- with says `endingOf`; reading and writing follow from the two.
 --
 --   trailerBelongs k profile        whether a trailer belongs to a record of a kind and a profile
 --   chromaShape, depthShape         the bytes of a trailer's values
 --   extensionTypes                  the types of a trailer's sets
 --   highBytes t, highNumbersFit t   the four bytes of a trailer before its sets, and whether its numbers fit their bits
 --   valuesFault s q, highOf s q     the same bytes read from s at q: their refusal, and their values
---   Ending, ending t                the facts of each way to end a record
---   endingOf k s q                  the way that the record s ends, after picture sets that end at q
+--   Ending, nothing, ending t       the facts of each way to end a record
+--   endingOf k s q                  the way that the record s ends, after picture sets that end at q; absent only if no byte follows
 use Prim.Native.Nat.{ℕ, _+_}
 use mathlib.Core.Bool.{Bool, true, _||_, _&&_, not}
 use mathlib.Core.List.{List, [], _∷_}
-use Rattle.words.specs.Tests.{_<?_, _≡?_, pick, all}
+use lib.ListN.{length}
+use Rattle.words.specs.Tests.{_<?_, _≤?_, _≡?_, pick, all}
 use Rattle.words.specs.Refusals.{_orElse_}
 use Rattle.words.specs.Bytes.{byteAt}
 use Rattle.numbers.specs.declared.Kind.{Kind}
@@ -21,7 +23,7 @@ use Rattle.record_rules.specs.Layout.{recordLayout, profileAt, _ones_bit
 use Rattle.record_rules.specs.declared.Shape.{Shape}
 use Rattle.record_rules.specs.declared.High.{High}
 use Rattle.record_rules.specs.declared.Trailer.{Trailer}
-use Rattle.record_rules.specs.declared.Trailer.the-variants.{None, Present}
+use Rattle.record_rules.specs.declared.Trailer.the-variants.{None, Absent, Present}
 
 -- the profiles to whose AVC record a trailer belongs
 abbrev pub isHigh : ℕ → Bool
@@ -77,11 +79,14 @@ pub record Ending : Type 0 where
   pub fits : Bool
   pub belongs : Kind → ℕ → Bool
 
+abbrev pub nothing : (Kind → ℕ → Bool) → Ending
+nothing belongs = record { head = []; fault = λ s q. 0; sets = 0; fits = true; belongs = belongs }
+
 abbrev pub ending : Trailer → Ending
-ending None =
-    record { head = []; fault = λ s q. 0; sets = 0; fits = true; belongs = λ k profile. not (trailerBelongs k profile) }
+ending None = nothing (λ k profile. not (trailerBelongs k profile))
+ending Absent = nothing trailerBelongs
 ending (Present t) =
     record { head = highBytes t; fault = valuesFault; sets = t .extensions; fits = highNumbersFit t; belongs = trailerBelongs }
 
 abbrev pub endingOf : Kind → List ℕ → ℕ → Trailer
-endingOf k s q = pick (trailerBelongs k (byteAt s profileAt)) (Present (highOf s q)) None
+endingOf k s q = pick (trailerBelongs k (byteAt s profileAt)) (pick (length s ≤? q) Absent (Present (highOf s q))) None

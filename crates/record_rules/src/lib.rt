@@ -50,7 +50,10 @@ pub struct High {
 
 // What follows the picture sets.
 pub enum Trailer {
+    // nothing, since no trailer belongs there
     None,
+    // nothing, where a trailer belongs
+    Absent,
     Present(High),
 }
 

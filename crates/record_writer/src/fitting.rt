@@ -48,26 +48,29 @@ fn high_fits(t: High) -> bool
     t.extensions < 256
 }
 
+// One row of what is known.
+fn facts(head: usize, sets: usize, fits: bool, belongs: bool) -> Facts
+    ensures { λ r. ⌜ r ≡ record { head = head; sets = sets; fits = fits; belongs = belongs } ⌝ }
+{
+    Facts {
+        head,
+        sets,
+        fits,
+        belongs,
+    }
+}
+
 // What is known of a trailer at the end of a record of a kind and a profile.
 pub(crate) fn facts_of(k: Kind, profile: usize, trailer: Trailer) -> Facts
     ensures { λ r. ⌜ (r ≡ factsOf k profile trailer) × (r .head ≤ 4) ⌝ }
 {
     let has = layouts::trailer_belongs(k, profile);
     match trailer {
-        Trailer::None => Facts {
-            head: 0,
-            sets: 0,
-            fits: true,
-            belongs: !has,
-        },
+        Trailer::None => facts(0, 0, true, !has),
+        Trailer::Absent => facts(0, 0, true, has),
         Trailer::Present(t) => {
             let fits = high_fits(t);
-            Facts {
-                head: layouts::TRAILER_HEAD,
-                sets: t.extensions,
-                fits,
-                belongs: has,
-            }
+            facts(layouts::TRAILER_HEAD, t.extensions, fits, has)
         }
     }
 }

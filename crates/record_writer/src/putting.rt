@@ -102,6 +102,7 @@ fn put_trailer(out: &mut [u8], at: usize, t: Trailer)
 {
     match t {
         Trailer::None => {}
+        Trailer::Absent => {}
         Trailer::Present(high) => {
             let values = high_bytes(high);
             numbers::put_bytes(out, at, &values);

@@ -3,7 +3,7 @@
 --   head-on               the bytes after the version
 --   walked                what a walk over sets has found
 --   cut-walk              a walk that is refused before its sets
---   follow-none, follow-refused, follow-with    what follows the picture sets
+--   follow-none, follow-absent, follow-refused, follow-with    what follows the picture sets
 --   refused-head, -sequences, -pictures, -follow, -after, whole-record, accepted    the reader's answer, from its steps
 use Prim.Native.Nat.{ℕ, _+_, _≤_, _<_}
 use mathlib.Core.Path.{_≡_, refl, ap, sym, _∙_}
@@ -24,12 +24,14 @@ use Rattle.sets.specs.declared.SetTypes.{SetTypes}
 use Rattle.sets.specs.declared.Walk.{Walk}
 use Rattle.sets.proofs.Laws.{sets-none, walk-fault, walk-end}
 use Rattle.record_rules.specs.Layout.{recordLayout, byteFault}
-use Rattle.record_rules.specs.Trailers.{extensionTypes, trailerBelongs, valuesFault, highOf}
-use Rattle.record_rules.specs.Read.{picturesEnd, headFault, lengthSize, sequencesFault, picturesFault, followFault, recordEnd, recordFault, recordOf, readAs}
+use Rattle.record_rules.specs.Trailers.{extensionTypes, trailerBelongs, valuesFault, highOf, nothing, ending}
+use Rattle.record_rules.specs.Read.{picturesEnd, trailerOf, headFault, lengthSize, sequencesFault, picturesFault, followFault, recordEnd, recordFault, recordOf, readAs}
 use Rattle.records.specs.Steps.{Walked, Followed}
 use Rattle.record_rules.specs.declared.High.{High}
-use Rattle.record_rules.specs.declared.Trailer.the-variants.{None, Present}
+use Rattle.record_rules.specs.declared.Trailer.{Trailer}
+use Rattle.record_rules.specs.declared.Trailer.the-variants.{None, Absent, Present}
 use Rattle.record_rules.specs.declared.Record.{Record}
+use Rattle.record_rules.proofs.Endings.{ending-none, ending-absent, ending-with}
 
 pub head-on : (k : Kind) (s : List ℕ) → 0 < length s → byteAt s 0 ≡ 1 → headFault k s ≡ (byteFault s (recordLayout k .«length_size») 4 orElse badLengthSize if lengthSize k s ≡? 3 orElse byteFault s (recordLayout k .count) 5)
 unfolding headFault
@@ -46,34 +48,44 @@ cut-walk m e f = record { refusal = orElse-here m e f; place = λ z. absurd (f z
 
 -- what follows the picture sets, which end at q
 module _ (k : Kind) (s : List ℕ) (q : ℕ) (at-end : q ≡ picturesEnd k s) where
-  pub follow-none : trailerBelongs k (byteAt s 1) ≡ false → Followed k s (record { fault = 0; trailer = None; start = q; end = q })
-  follow-none t =
+  follow-nothing : (t : Trailer) → trailerOf k s ≡ t → ending t ≡ nothing (ending t .belongs) → Followed k s (record { fault = 0; trailer = t; start = q; end = q })
+  follow-nothing t e h =
       let n = sets-none extensionTypes s {n = 0} (q + 0) (omega arith) in
       record {
-        refusal = rw (t, ← at-end) (sym (n .0));
-        trailer = λ z. rw t;
-        sets = λ z. rw (t, ← at-end) (sym (add-zero q));
-        place = λ z. rw (t, ← at-end) (sym (n .1 ∙ add-zero q));
+        refusal = rw (e, h, ← at-end) (sym (n .0));
+        trailer = λ z. sym e;
+        sets = λ z. rw (e, h, ← at-end) (sym (add-zero q));
+        place = λ z. rw (e, h, ← at-end) (sym (n .1 ∙ add-zero q));
       }
 
-  module _ (w : Walk) (t : trailerBelongs k (byteAt s 1) ≡ true) (v : Walked w (valuesFault s q orElse setsFault extensionTypes s (byteAt s (q + 3)) (q + 4)) (setsEnd s (byteAt s (q + 3)) (q + 4))) where
-    pub follow-refused : (w .fault ≡ 0 → ⊥) → Followed k s (record { fault = w .fault; trailer = None; start = 0; end = 0 })
-    follow-refused f =
-        record {
-          refusal = rw (t, ← at-end) (v .refusal);
-          trailer = λ z. absurd (f z);
-          sets = λ z. absurd (f z);
-          place = λ z. absurd (f z);
-        }
+  pub follow-none : trailerBelongs k (byteAt s 1) ≡ false → Followed k s (record { fault = 0; trailer = None; start = q; end = q })
+  follow-none t = follow-nothing None (ending-none k s (picturesEnd k s) t) refl
 
-    pub follow-with : (h : High) → w .fault ≡ 0 → h ≡ highOf s q → Followed k s (record { fault = 0; trailer = Present h; start = q + 4; end = w .end })
-    follow-with h f e =
-        record {
-          refusal = rw (t, ← at-end) (sym f ∙ v .refusal);
-          trailer = λ z. rw (t, ← at-end, e);
-          sets = λ z. rw (t, ← at-end);
-          place = λ z. rw (t, ← at-end) (v .place f);
-        }
+  module _ (t : trailerBelongs k (byteAt s 1) ≡ true) where
+    pub follow-absent : length s ≤ q → Followed k s (record { fault = 0; trailer = Absent; start = q; end = q })
+    follow-absent l = follow-nothing Absent (ending-absent k s (picturesEnd k s) t (omega arith)) refl
+
+    module _ (w : Walk) (l : q < length s) (v : Walked w (valuesFault s q orElse setsFault extensionTypes s (byteAt s (q + 3)) (q + 4)) (setsEnd s (byteAt s (q + 3)) (q + 4))) where
+      is-with : trailerOf k s ≡ Present (highOf s q)
+      is-with = rw at-end (ending-with k s (picturesEnd k s) t (omega arith))
+
+      pub follow-refused : (w .fault ≡ 0 → ⊥) → Followed k s (record { fault = w .fault; trailer = None; start = 0; end = 0 })
+      follow-refused f =
+          record {
+            refusal = rw (is-with, ← at-end) (v .refusal);
+            trailer = λ z. absurd (f z);
+            sets = λ z. absurd (f z);
+            place = λ z. absurd (f z);
+          }
+
+      pub follow-with : (h : High) → w .fault ≡ 0 → h ≡ highOf s q → Followed k s (record { fault = 0; trailer = Present h; start = q + 4; end = w .end })
+      follow-with h f e =
+          record {
+            refusal = rw (is-with, ← at-end) (sym f ∙ v .refusal);
+            trailer = λ z. rw (is-with, e);
+            sets = λ z. rw (is-with, ← at-end);
+            place = λ z. rw (is-with, ← at-end) (v .place f);
+          }
 
 -- the reader's answer, from the refusals of its steps
 module _ (k : Kind) (s : List ℕ) where

@@ -144,18 +144,30 @@ fn high_of(s: &[u8], at: usize) -> High
     }
 }
 
+// A record that ends with its picture sets, at a place.
+fn nothing(trailer: Trailer, at: usize) -> Follow
+    ensures { λ r. ⌜ r ≡ record { fault = 0; trailer = trailer; start = at; end = at } ⌝ }
+{
+    Follow {
+        fault: 0,
+        trailer,
+        start: at,
+        end: at,
+    }
+}
+
 // What follows the picture sets, which end at a place.
 pub(crate) fn follow_of(k: Kind, s: &[u8], at: usize) -> Follow
     requires { ⌜ (1 < length (now s)) × (at ≤ length (now s)) × (at ≡ picturesEnd k (now s)) ⌝ }
     ensures { λ r. ⌜ Followed k (now (s .entry)) r ⌝ }
 {
     if !layouts::trailer_belongs(k, s[layouts::PROFILE_AT] as usize) {
-        return Follow {
-            fault: 0,
-            trailer: Trailer::None,
-            start: at,
-            end: at,
-        };
+        return nothing(Trailer::None, at);
+    }
+    // absent only if no byte is left
+    let left = s.len() - at;
+    if left == 0 {
+        return nothing(Trailer::Absent, at);
     }
     let w = walk_trailer(s, at);
     if w.fault != 0 {

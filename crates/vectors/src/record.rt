@@ -25,6 +25,7 @@ fn print_sets(s: &[u8], count: usize, sets: Part) {
 fn print_trailer(s: &[u8], trailer: Trailer, sets: Part) {
     match trailer {
         Trailer::None => print::text(b" none"),
+        Trailer::Absent => print::text(b" absent"),
         Trailer::Present(high) => {
             print::number(high.format);
             print::number(high.luma);

@@ -26,10 +26,14 @@ fn size(less_one: usize) -> usize {
     less_one + 1
 }
 
-// The trailer: whether there is one, and its values.
+// The trailer: none, absent, or there with its values.
 fn trailer(s: &[u8]) -> Trailer {
-    if request::number(s, 0) == 0 {
+    let said = request::number(s, 0);
+    if said == 0 {
         return Trailer::None;
+    }
+    if said == 1 {
+        return Trailer::Absent;
     }
     Trailer::Present(High {
         format: request::number(s, 1),

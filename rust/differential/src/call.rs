@@ -21,11 +21,16 @@ pub enum Call<'a> {
     Audit { bundle: &'a [u8], room: usize },
 }
 
+/// Which number of a record says what there is of its trailer.
+const TRAILER: usize = 11;
+
 /// What the peer said, and the first difference if there is one.
 pub struct Outcome {
     pub answer: Answer,
     /// The audit's lines, or none.
     pub lines: Vec<u8>,
+    /// What is said of the trailer (0 to 2) of each record that was accepted.
+    pub trailers: Vec<u64>,
     pub difference: Option<String>,
 }
 
@@ -71,7 +76,7 @@ fn outcome<T: PartialEq>(answer: Answer, given: Answer, expected: &T, written: &
     } else {
         None
     };
-    Outcome { answer, lines: Vec::new(), difference }
+    Outcome { answer, lines: Vec::new(), trailers: Vec::new(), difference }
 }
 
 fn read_record(kind: u32, record: &[u8], room: usize) -> Outcome {
@@ -84,7 +89,8 @@ fn read_record(kind: u32, record: &[u8], room: usize) -> Outcome {
     given.number = unsafe {
         puddockle_read_record(kind, pointer(record), record.len(), pointer_mut(fields), fields.len(), &mut given.place)
     };
-    outcome(answer, given, &expected, &written)
+    let trailers = if answer.number == 0 { vec![expected.lent()[TRAILER]] } else { Vec::new() };
+    Outcome { trailers, ..outcome(answer, given, &expected, &written) }
 }
 
 fn write_record(kind: u32, fields: &MadeFields, room: usize) -> Outcome {
@@ -112,7 +118,8 @@ fn write_record(kind: u32, fields: &MadeFields, room: usize) -> Outcome {
             &mut given.count,
         )
     };
-    outcome(answer, given, &expected, &written)
+    let trailers = if answer.number == 0 { vec![numbers[TRAILER]] } else { Vec::new() };
+    Outcome { trailers, ..outcome(answer, given, &expected, &written) }
 }
 
 fn check_sample(kind: u32, length_size: u32, sample: &[u8]) -> Outcome {
@@ -127,7 +134,22 @@ fn check_bundle(bundle: &[u8]) -> Outcome {
     let answer = calls::check_bundle(bundle);
     let mut given = Answer { place: UNSET, ..Answer::default() };
     given.number = unsafe { puddockle_check_bundle(pointer(bundle), bundle.len(), &mut given.place) };
-    outcome(answer, given, &(), &())
+    let trailers = if answer.number == 0 { trailers_in(bundle) } else { Vec::new() };
+    Outcome { trailers, ..outcome(answer, given, &(), &()) }
+}
+
+/// What is said of the trailer of each track's record, in a bundle that is accepted.
+fn trailers_in(bundle: &[u8]) -> Vec<u64> {
+    let mut rest = &bundle[1..];
+    let mut trailers = Vec::new();
+    for _ in 0..bundle[0] {
+        let length = u16::from_be_bytes([rest[1], rest[2]]) as usize;
+        let mut fields = [0; FIELDS];
+        calls::read_record(rest[0] as u32, &rest[3..3 + length], &mut fields);
+        trailers.push(fields[TRAILER]);
+        rest = &rest[3 + length..];
+    }
+    trailers
 }
 
 fn resolve(bundle: &[u8], sample: u64, room: usize) -> Outcome {

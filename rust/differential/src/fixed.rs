@@ -113,9 +113,34 @@ pub fn neighbours(base: &[u8]) -> Vec<Vec<u8>> {
     all
 }
 
+/// B0 with profile 100 in its AVC track: the trailer of its record is absent.
+fn high_profile(bundle: &[u8]) -> Vec<u8> {
+    let mut bundle = bundle.to_vec();
+    bundle[5] = 100;
+    bundle
+}
+
+/// B0 with these profiles in its AVC track, and none to all bytes of a trailer, and one more.
+fn trailer_cut() -> Vec<Vec<u8>> {
+    let mut bundles = Vec::new();
+    for profile in [66, 99, 100, 101, 110, 122, 144, 244] {
+        for length in 0..=5 {
+            let mut bundle = B0[..11].to_vec();
+            bundle[3] += length as u8;
+            bundle[5] = profile;
+            bundle.extend(&[0xFD, 0xF8, 0xF8, 0, 0][..length]);
+            bundle.extend(&B0[11..]);
+            bundles.push(bundle);
+        }
+    }
+    bundles
+}
+
 /// All small fixed bundles.
 pub fn bundles() -> Vec<Vec<u8>> {
     let mut bundles = neighbours(&B0);
+    bundles.extend(neighbours(&high_profile(&B0)));
+    bundles.extend(trailer_cut());
     bundles.extend(neighbours(&b2()));
     let samples = samples();
     for first in &samples {
@@ -127,16 +152,25 @@ pub fn bundles() -> Vec<Vec<u8>> {
     bundles
 }
 
-/// Two records, AVC with a trailer and SVC, and their neighbours; each with its kind.
+/// Three records, AVC with a trailer and with it absent, and SVC, and their neighbours; each with its kind. AVC records
+/// of every profile, with none to all bytes of a trailer, and one more.
 pub fn records() -> Vec<(u8, Vec<u8>)> {
     let avc = [1, 100, 0, 30, 0xFF, 0xE1, 0, 1, 0x67, 1, 0, 2, 0x68, 9, 0xFD, 0xF8, 0xF8, 1, 0, 1, 0x6D];
     let svc = [1, 83, 0, 30, 0xFC, 2, 0, 1, 0x67, 0, 2, 0x6F, 9, 1, 0, 1, 0x68];
-    let avc = neighbours(&avc).into_iter().map(|record| (AVC, record));
+    let mut all = neighbours(&avc);
+    all.extend(neighbours(&avc[..14]));
+    for profile in 0..=255 {
+        for length in 14..=avc.len() {
+            let mut record = avc[..length].to_vec();
+            record[1] = profile;
+            all.push(record);
+        }
+    }
     let svc = neighbours(&svc).into_iter().map(|record| (SVC, record));
-    avc.chain(svc).collect()
+    all.into_iter().map(|record| (AVC, record)).chain(svc).collect()
 }
 
-/// What those two records are written from, and the same with each number changed.
+/// What those three records are written from, and the same with each number changed.
 pub fn fields() -> Vec<(u8, MadeFields)> {
     let avc = MadeFields {
         numbers: vec![100, 0, 30, 0, 4, 1, 0, 0, 1, 0, 0, 2, 1, 0, 0, 1, 0, 0],
@@ -150,8 +184,19 @@ pub fn fields() -> Vec<(u8, MadeFields)> {
         picture: vec![0, 1, 0x68],
         extension: vec![],
     };
+    let mut absent = MadeFields { extension: vec![], ..avc.clone() };
+    absent.numbers[11] = 1;
     let mut all = Vec::new();
-    for (kind, base) in [(AVC, avc), (SVC, svc)] {
+    for profile in 0..300 {
+        for trailer in 0..4 {
+            for base in [&avc, &absent] {
+                let mut other = base.clone();
+                (other.numbers[0], other.numbers[11]) = (profile, trailer);
+                all.push((AVC, other));
+            }
+        }
+    }
+    for (kind, base) in [(AVC, avc), (AVC, absent), (SVC, svc)] {
         for at in 0..base.numbers.len() {
             let number = base.numbers[at];
             for value in [0, 1, 2, 3, 4, 5, 8, 32, 66, 100, 128, 255, 256, number + 256, number + (1 << 32), u64::MAX] {

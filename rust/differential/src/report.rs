@@ -4,8 +4,9 @@ use std::collections::BTreeMap;
 
 use crate::call::{Call, Outcome};
 
-/// The calls by name, with the numbers that document 01 lets each give (0: accepted).
-const CALLS: [(&str, &[(u32, u32)]); 9] = [
+/// The calls by name, with the numbers that document 01 lets each give (0: accepted). Then the numbers of audit lines,
+/// and what accepted records say of their trailer: 0 none, 1 absent, 2 present.
+const CALLS: [(&str, &[(u32, u32)]); 12] = [
     ("read_record", &[(0, 0), (4, 4), (8, 13), (29, 29)]),
     ("write_record", &[(0, 0), (4, 4), (29, 29), (31, 31)]),
     ("check_sample", &[(0, 0), (4, 4), (11, 11), (14, 22)]),
@@ -15,6 +16,9 @@ const CALLS: [(&str, &[(u32, u32)]); 9] = [
     ("names", &[(0, 13), (29, 30)]),
     ("audit", &[(0, 13), (29, 29)]),
     ("audit lines", &[(0, 0), (14, 28)]),
+    ("trailers read", &[(0, 2)]),
+    ("trailers written", &[(0, 2)]),
+    ("trailers in bundles", &[(0, 2)]),
 ];
 
 #[derive(Default)]
@@ -47,6 +51,14 @@ impl Report {
         if outcome.answer.count > 0 {
             *self.written.entry(call.name()).or_default() += 1;
         }
+        let trailers = match call {
+            Call::ReadRecord { .. } => "trailers read",
+            Call::WriteRecord { .. } => "trailers written",
+            _ => "trailers in bundles",
+        };
+        for &trailer in &outcome.trailers {
+            *self.counts.entry((trailers, trailer as u32)).or_default() += 1;
+        }
         for line in outcome.lines.chunks_exact(13) {
             *self.counts.entry(("audit lines", line[0] as u32)).or_default() += 1;
         }
@@ -70,7 +82,7 @@ impl Report {
                 Some(count) => format!(", {count} wrote something"),
                 None => String::new(),
             };
-            println!("{name:>12}  {}{written}", counts.join(" "));
+            println!("{name:>19}  {}{written}", counts.join(" "));
         }
         missing
     }

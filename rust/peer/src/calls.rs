@@ -6,7 +6,7 @@ use crate::form;
 use crate::kind::Kind;
 use crate::length_size::LengthSize;
 use crate::names::names;
-use crate::record::{self, Record, Sets};
+use crate::record::{self, Record, Sets, Trailer};
 use crate::record_writer::{self, Fields, LentSets, TrailerFields};
 use crate::refusal::*;
 use crate::resolve::{resolve, unit};
@@ -93,14 +93,17 @@ pub fn audit_bundle(bundle: &[u8], lines: &mut [u8]) -> Answer {
     })
 }
 
-/// A record as the 18 numbers of the C interface. Where there is no trailer its numbers are 0.
+/// A record as the 18 numbers of the C interface. Unless a trailer is present its numbers are 0.
 fn numbers_of(record: &Record) -> [u64; FIELD_COUNT] {
     let sets = |sets: Sets| [sets.count as u64, sets.start as u64, sets.length as u64];
     let [sequences, sequence_start, sequence_length] = sets(record.sequence);
     let [pictures, picture_start, picture_length] = sets(record.picture);
     let (trailer, values, extension) = match record.trailer {
-        Some(t) => (2, [t.chroma_format, t.luma_depth_less_8, t.chroma_depth_less_8], sets(t.extension)),
-        None => (0, [0; 3], [0; 3]),
+        Trailer::None => (0, [0; 3], [0; 3]),
+        Trailer::Absent => (1, [0; 3], [0; 3]),
+        Trailer::Present { chroma_format, luma_depth_less_8, chroma_depth_less_8, extension } => {
+            (2, [chroma_format, luma_depth_less_8, chroma_depth_less_8], sets(extension))
+        }
     };
     [
         record.profile as u64,

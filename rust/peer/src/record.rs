@@ -1,6 +1,7 @@
 //! Decoder configuration records read: the AVC record (5.2.4.1) and the SVC record (A.5.3).
 //!
-//! Checks run front to back. A byte is asked for (8) only when the reading comes to it.
+//! Checks run front to back. A byte is asked for (8) only when the reading comes to it. By document 02's request [1] a
+//! record of a high profile may end where its trailer would start.
 
 use crate::kind::Kind;
 use crate::length_size::LengthSize;
@@ -14,13 +15,19 @@ pub struct Sets {
     pub length: usize,
 }
 
-/// What an AVC record of a high profile has after its picture sets.
+/// What follows the picture sets.
 #[derive(Clone, Copy, Debug, PartialEq, Eq)]
-pub struct Trailer {
-    pub chroma_format: u8,
-    pub luma_depth_less_8: u8,
-    pub chroma_depth_less_8: u8,
-    pub extension: Sets,
+pub enum Trailer {
+    /// No trailer belongs there.
+    None,
+    /// A trailer belongs there, and the record ends before it.
+    Absent,
+    Present {
+        chroma_format: u8,
+        luma_depth_less_8: u8,
+        chroma_depth_less_8: u8,
+        extension: Sets,
+    },
 }
 
 #[derive(Clone, Copy, Debug, PartialEq, Eq)]
@@ -33,7 +40,7 @@ pub struct Record {
     pub length_size: LengthSize,
     pub sequence: Sets,
     pub picture: Sets,
-    pub trailer: Option<Trailer>,
+    pub trailer: Trailer,
 }
 
 const SEQUENCE_SET: u8 = 7;
@@ -41,8 +48,8 @@ const PICTURE_SET: u8 = 8;
 const SEQUENCE_SET_EXTENSION: u8 = 13;
 const SUBSET_SEQUENCE_SET: u8 = 15;
 
-/// Whether a record of this kind and profile has a trailer.
-pub fn has_trailer(kind: Kind, profile: u8) -> bool {
+/// Whether a trailer belongs to a record of this kind and profile.
+pub fn trailer_belongs(kind: Kind, profile: u8) -> bool {
     kind == Kind::Avc && matches!(profile, 100 | 110 | 122 | 144)
 }
 
@@ -71,11 +78,12 @@ pub fn read(kind: Kind, bytes: &[u8]) -> Result<Record, Refusal> {
     };
     let picture_count = rest.byte()?;
     let picture = rest.sets(picture_count, &[PICTURE_SET])?;
-    let trailer = match has_trailer(kind, profile) {
-        true => Some(read_trailer(&mut rest)?),
-        false => None,
+    let trailer = match trailer_belongs(kind, profile) {
+        true if rest.is_at_end() => Trailer::Absent,
+        true => read_trailer(&mut rest)?,
+        false => Trailer::None,
     };
-    if rest.at != bytes.len() {
+    if !rest.is_at_end() {
         return refuse(AFTER_RECORD, 0);
     }
     Ok(Record { profile, compatibility, level, complete_representation, length_size, sequence, picture, trailer })
@@ -95,13 +103,14 @@ fn read_fifth_byte(kind: Kind, rest: &mut Reader) -> Result<(Option<bool>, Lengt
     }
 }
 
+/// A trailer of which at least one byte is there: the whole of it must follow.
 fn read_trailer(rest: &mut Reader) -> Result<Trailer, Refusal> {
     let chroma_format = rest.after_ones(6)?;
     let luma_depth_less_8 = rest.after_ones(5)?;
     let chroma_depth_less_8 = rest.after_ones(5)?;
     let count = rest.byte()?;
     let extension = rest.sets(count, &[SEQUENCE_SET_EXTENSION])?;
-    Ok(Trailer { chroma_format, luma_depth_less_8, chroma_depth_less_8, extension })
+    Ok(Trailer::Present { chroma_format, luma_depth_less_8, chroma_depth_less_8, extension })
 }
 
 /// The bytes of a record and how far they are read.
@@ -111,6 +120,10 @@ struct Reader<'a> {
 }
 
 impl Reader<'_> {
+    fn is_at_end(&self) -> bool {
+        self.at == self.bytes.len()
+    }
+
     fn byte(&mut self) -> Result<u8, Refusal> {
         match self.bytes.get(self.at) {
             Some(&byte) => {

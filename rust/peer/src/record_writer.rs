@@ -1,11 +1,12 @@
 //! Decoder configuration records written.
 //!
 //! This follows document 01's words: the fields fit no record exactly when a number does not fit its bits, the lent
-//! sets are not exactly the count, a trailer is given or missing against the profile, or the reader would refuse the
-//! bytes they spell. So the bytes are spelled and read.
+//! sets are not exactly the count, what is said about the trailer is against the profile, or the reader would refuse
+//! the bytes they spell. So the bytes are spelled and read. By document 02's request [1] a trailer that belongs there
+//! may be said to be absent, and is then spelled as nothing; one that is neither there nor said to be absent is missing.
 
 use crate::kind::Kind;
-use crate::record::{has_trailer, read};
+use crate::record::{read, trailer_belongs};
 use crate::refusal::*;
 
 /// What is said about a trailer.
@@ -13,7 +14,7 @@ use crate::refusal::*;
 pub enum TrailerFields {
     /// No trailer belongs there.
     None,
-    /// A trailer belongs there and is left out. No record of document 01 is so.
+    /// A trailer belongs there and is left out.
     Absent,
     Present {
         chroma_format: u64,
@@ -78,13 +79,11 @@ fn spell(kind: Kind, fields: &Fields, sets: LentSets) -> Option<Vec<u8>> {
     record.extend_from_slice(exactly(fields.sequence_count, sets.sequence)?);
     record.push(bits(fields.picture_count, 8)?);
     record.extend_from_slice(exactly(fields.picture_count, sets.picture)?);
-    match fields.trailer {
-        TrailerFields::None if !has_trailer(kind, profile) => {
+    match (fields.trailer, trailer_belongs(kind, profile)) {
+        (TrailerFields::None, false) | (TrailerFields::Absent, true) => {
             exactly(0, sets.extension)?;
         }
-        TrailerFields::Present { chroma_format, luma_depth_less_8, chroma_depth_less_8, extension_count }
-            if has_trailer(kind, profile) =>
-        {
+        (TrailerFields::Present { chroma_format, luma_depth_less_8, chroma_depth_less_8, extension_count }, true) => {
             record.push(0xFC | bits(chroma_format, 2)?);
             record.push(0xF8 | bits(luma_depth_less_8, 3)?);
             record.push(0xF8 | bits(chroma_depth_less_8, 3)?);

@@ -1,7 +1,8 @@
-//! Document 01's own cases: B0, M1 to M12, and the case with times.
+//! Document 01's own cases: B0, M1 to M12, and the case with times; document 02's request [1].
 
 use peer::calls::{self, Answer};
 use peer::program;
+use peer::record_writer::LentSets;
 
 /// The first 59 bytes of B0, up to sample 2: two tracks, sample 1 with one unit.
 const B0_HEAD: [u8; 59] = [
@@ -89,16 +90,115 @@ fn m7_to_m9() {
     assert_eq!(case(9), Ok(RESOLVED.to_vec()));
 }
 
+/// M10 with its trailer; its first half is the first seven bytes.
+const M10: [u8; 11] = [0x01, 0x64, 0x00, 0x1E, 0xFF, 0xE0, 0x00, 0xFD, 0xF8, 0xF8, 0x00];
+/// The numbers of M10's first half.
+const ABSENT: [u64; calls::FIELD_COUNT] = [100, 0, 30, 0, 4, 0, 6, 0, 0, 7, 0, 1, 0, 0, 0, 0, 0, 0];
+
+/// What is written from these numbers without sets, or the refusal.
+fn write(kind: u32, numbers: &[u64], extension: &[u8]) -> Result<Vec<u8>, Answer> {
+    let mut out = [0xEE; 16];
+    let sets = LentSets { sequence: &[], picture: &[], extension };
+    let answer = calls::write_record(kind, numbers, sets, &mut out);
+    assert!(out[answer.count as usize..].iter().all(|&byte| byte == 0xEE));
+    match answer.number {
+        0 => Ok(out[..answer.count as usize].to_vec()),
+        _ => Err(answer),
+    }
+}
+
+/// Request [1]: M10's first half is accepted, in all four profiles; one trailer byte asks for all of them.
+#[test]
+fn trailer_absent_is_read() {
+    for profile in 0..=255 {
+        let high = [100, 110, 122, 144].contains(&profile);
+        for length in 0..=M10.len() + 1 {
+            let mut record = [&M10[..], &[0]].concat();
+            record.truncate(length);
+            if let Some(byte) = record.get_mut(1) {
+                *byte = profile;
+            }
+            let mut fields = [0xEE; calls::FIELD_COUNT];
+            let number = match length {
+                7 => 0,
+                11 if high => 0,
+                8..=10 if !high => 13,
+                11 | 12 => 13,
+                _ => 8,
+            };
+            let expected = if number == 0 { Answer::default() } else { refused(number, 0) };
+            assert_eq!(calls::read_record(0, &record, &mut fields), expected, "profile {profile}, {length} bytes");
+            let trailer = match (number, length, high) {
+                (0, 7, true) => 1,
+                (0, 7, false) => 0,
+                (0, ..) => 2,
+                _ => 0xEE,
+            };
+            assert_eq!(fields[11], trailer, "profile {profile}, {length} bytes");
+        }
+    }
+    let mut fields = [0xEE; calls::FIELD_COUNT];
+    assert_eq!(calls::read_record(0, &M10[..7], &mut fields), Answer::default());
+    assert_eq!(fields, ABSENT);
+    // Wrong fixed bits in a trailer's only byte are 10; a set's length cut, an empty set, a wrong type, a byte more.
+    let with = |trailer: &[u8]| calls::read_record(0, &[&M10[..7], trailer].concat(), &mut [0; calls::FIELD_COUNT]);
+    assert_eq!(with(&[0x00]), refused(10, 0));
+    assert_eq!(with(&[0xFD, 0xF8, 0xF8, 0x01]), refused(8, 0));
+    assert_eq!(with(&[0xFD, 0xF8, 0xF8, 0x01, 0x00, 0x00]), refused(12, 0));
+    assert_eq!(with(&[0xFD, 0xF8, 0xF8, 0x01, 0x00, 0x01, 0x68]), refused(12, 0));
+    assert_eq!(with(&[0xFD, 0xF8, 0xF8, 0x00, 0x00]), refused(13, 0));
+    // An SVC record has no trailer whatever its profile.
+    let svc = [0x01, 0x64, 0x00, 0x1E, 0x7F, 0x00, 0x00];
+    assert_eq!(calls::read_record(1, &svc, &mut fields), Answer::default());
+    assert_eq!(fields[11], 0);
+}
+
+/// Request [1]: absent is written as nothing where a trailer belongs, and is 31 elsewhere; saying nothing of a trailer
+/// that belongs there is 31 still.
+#[test]
+fn trailer_absent_is_written() {
+    let changed = |at: usize, value: u64| {
+        let mut numbers = ABSENT;
+        numbers[at] = value;
+        numbers
+    };
+    assert_eq!(write(0, &ABSENT, &[]), Ok(M10[..7].to_vec()));
+    assert_eq!(write(0, &ABSENT, &[0, 1, 0x6D]), Err(refused(31, 0)));
+    assert_eq!(write(0, &changed(12, 9), &[]), Ok(M10[..7].to_vec()));
+    assert_eq!(write(1, &ABSENT, &[]), Err(refused(31, 0)));
+    assert_eq!(write(0, &changed(11, 0), &[]), Err(refused(31, 0)));
+    assert_eq!(write(0, &changed(11, 3), &[]), Err(refused(31, 0)));
+    assert_eq!(write(0, &changed(11, 2), &[]), Ok([&M10[..7], &[0xFC, 0xF8, 0xF8, 0]].concat()));
+    for profile in 0..300 {
+        let written = write(0, &changed(0, profile), &[]).map(|record| record[1] as u64);
+        let expected = if [100, 110, 122, 144].contains(&profile) { Ok(profile) } else { Err(refused(31, 0)) };
+        assert_eq!(written, expected, "profile {profile}");
+    }
+}
+
+/// Request [1]: a track whose record is M10's first half is good, and what stands in it is reached.
+#[test]
+fn trailer_absent_in_a_bundle() {
+    let mut bundle = b0();
+    bundle[5] = 100;
+    assert_eq!(calls::check_bundle(&bundle), Answer::default());
+    assert_eq!(second(&bundle), Ok(RESOLVED.to_vec()));
+    assert_eq!(program::text(&bundle), "1 passed 1\n2 passed 1\npassed 2 empty 0 refused 0\n");
+    let mut one_more = bundle.clone();
+    one_more[3] = 8;
+    one_more.insert(11, 0xFD);
+    assert_eq!(calls::check_bundle(&one_more), refused(8, 1));
+    assert_eq!(program::text(&one_more), "bundle refused 8 at 1\n");
+}
+
 #[test]
 fn m10_to_m12() {
     let mut fields = [0; calls::FIELD_COUNT];
-    let mut record = vec![0x01, 0x64, 0x00, 0x1E, 0xFF, 0xE0, 0x00];
-    assert_eq!(calls::read_record(0, &record, &mut fields), refused(8, 0));
-    record.extend_from_slice(&[0xFD, 0xF8, 0xF8, 0x00]);
-    assert_eq!(calls::read_record(0, &record, &mut fields), Answer::default());
+    assert_eq!(calls::read_record(0, &M10, &mut fields), Answer::default());
     assert_eq!(fields, [100, 0, 30, 0, 4, 0, 6, 0, 0, 7, 0, 2, 1, 0, 0, 0, 11, 0]);
     let m11 = [0x01, 0x42, 0x00, 0x1E, 0xFE, 0xE0, 0x00];
     assert_eq!(calls::read_record(0, &m11, &mut fields), refused(11, 0));
+    assert_eq!(fields[0], 100);
     assert_eq!(calls::check_sample(1, 1, &[0x00]), refused(16, 0));
     assert_eq!(calls::check_sample(1, 1, &[0x02, 0x65]), refused(15, 0));
     assert_eq!(calls::check_sample(1, 1, &[0x01, 0xE5]), refused(17, 0));

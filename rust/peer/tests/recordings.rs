@@ -13,7 +13,7 @@ use peer::audit::{states, State};
 use peer::bundle::Bundle;
 use peer::kind::Kind;
 use peer::program;
-use peer::record;
+use peer::record::{self, Trailer};
 use peer::resolve::resolve;
 
 #[test]
@@ -95,7 +95,11 @@ fn record_text(path: &Path) -> String {
             r.length_size.bytes(),
             r.sequence.count,
             r.picture.count,
-            if r.trailer.is_some() { "trailer" } else { "no trailer" }
+            match r.trailer {
+                Trailer::None => "no trailer",
+                Trailer::Absent => "trailer absent",
+                Trailer::Present { .. } => "trailer",
+            }
         ),
     }
 }

@@ -43,6 +43,13 @@
 //! let mut out = [0; 64];
 //! assert_eq!(write_record(Kind::Avc, &record, &mut out), Ok(avcc.len()));
 //! assert_eq!(out[..avcc.len()], avcc);
+//!
+//! // Older recorders stop after the picture sets. That is kept, too.
+//! let short = &avcc[..11];
+//! let record = read_record(Kind::Avc, short).unwrap();
+//! assert_eq!(record.trailer, Trailer::Absent);
+//! assert_eq!(write_record(Kind::Avc, &record, &mut out), Ok(short.len()));
+//! assert_eq!(&out[..short.len()], short);
 //! ```
 
 mod bundle;

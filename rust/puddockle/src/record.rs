@@ -1,5 +1,7 @@
 //! Decoder configuration records read and written.
 
+use std::fmt;
+
 use crate::raw::{puddockle_read_record, puddockle_write_record, FIELDS};
 use crate::{Kind, LengthSize, Refusal};
 
@@ -34,19 +36,37 @@ impl<'a> Iterator for SetsIter<'a> {
     }
 }
 
-/// What follows the picture sets.
+/// What follows the picture sets. The writer refuses (31) what does not go with the kind and the profile: [`None`] or
+/// [`Absent`] said in place of the other, or [`Present`] where no trailer belongs.
+///
+/// [`None`]: Trailer::None
+/// [`Absent`]: Trailer::Absent
+/// [`Present`]: Trailer::Present
 #[derive(Clone, Copy, Debug, PartialEq, Eq)]
 pub enum Trailer<'a> {
     /// No trailer belongs there: an SVC record, or a profile other than 100, 110, 122 and 144.
     None,
-    /// A trailer belongs there and is left out. Never read, and refused with 31 where it is to be written.
+    /// A trailer belongs there and is left out: the record ends after its picture sets, as older recorders write it.
     Absent,
-    Present {
-        chroma_format: u64,
-        luma_depth_less_8: u64,
-        chroma_depth_less_8: u64,
-        extension: Sets<'a>,
-    },
+    /// The trailer of an AVC record of profile 100, 110, 122 or 144.
+    Present { chroma_format: u64, luma_depth_less_8: u64, chroma_depth_less_8: u64, extension: Sets<'a> },
+}
+
+/// In words, as a list of a record's fields has it.
+impl fmt::Display for Trailer<'_> {
+    fn fmt(&self, f: &mut fmt::Formatter) -> fmt::Result {
+        match self {
+            Trailer::None => write!(f, "no trailer"),
+            Trailer::Absent => write!(f, "trailer absent"),
+            Trailer::Present { chroma_format, luma_depth_less_8, chroma_depth_less_8, extension } => write!(
+                f,
+                "trailer: chroma_format {chroma_format}, luma depth {}, chroma depth {}, extension sets {}",
+                8 + u128::from(*luma_depth_less_8),
+                8 + u128::from(*chroma_depth_less_8),
+                extension.count
+            ),
+        }
+    }
 }
 
 /// A record. Its sets are lent: where it was read, they are parts of the bytes read. Numbers may be too large for

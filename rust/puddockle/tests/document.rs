@@ -127,10 +127,74 @@ fn samples_that_are_not_well_formed() {
     assert_eq!(check(LengthSize::Four, &[]), Ok(()));
 }
 
+/// M10 with its trailer; its first half is the first seven bytes.
+const M10: [u8; 11] = [0x01, 0x64, 0x00, 0x1E, 0xFF, 0xE0, 0x00, 0xFD, 0xF8, 0xF8, 0x00];
+
+#[test]
+fn trailer_absent_is_read() {
+    for profile in [100, 110, 122, 144] {
+        let mut record = M10;
+        record[1] = profile;
+        let read = read_record(Kind::Avc, &record[..7]).unwrap();
+        assert_eq!((read.profile, read.trailer), (profile as u64, Trailer::Absent));
+        for length in (0..7).chain(8..11) {
+            assert_eq!(read_record(Kind::Avc, &record[..length]), refused(8, 0), "{length} bytes");
+        }
+    }
+    // Sets before it stand where they are; wrong fixed bits in a trailer's only byte are 10.
+    let sets = [0x01, 0x6E, 0x00, 0x1E, 0xFC, 0xE1, 0x00, 0x02, 0x67, 0x09, 0x01, 0x00, 0x01, 0x68, 0x00];
+    let read = read_record(Kind::Avc, &sets[..14]).unwrap();
+    assert_eq!((read.sequence.bytes, read.picture.bytes), (&sets[6..10], &sets[11..14]));
+    assert_eq!((read.sequence.count, read.picture.count, read.trailer), (1, 1, Trailer::Absent));
+    assert_eq!(read_record(Kind::Avc, &sets), refused(10, 0));
+    // No trailer belongs to other profiles, nor to an SVC record.
+    assert_eq!(read_record(Kind::Avc, &B0_HEAD[4..11]).unwrap().trailer, Trailer::None);
+    let svc = [0x01, 0x64, 0x00, 0x1E, 0x7F, 0x00, 0x00];
+    assert_eq!(read_record(Kind::Svc, &svc).unwrap().trailer, Trailer::None);
+}
+
+#[test]
+fn trailer_in_words() {
+    let words = |kind, record: &[u8]| read_record(kind, record).unwrap().trailer.to_string();
+    assert_eq!(words(Kind::Avc, &B0_HEAD[4..11]), "no trailer");
+    assert_eq!(words(Kind::Avc, &M10[..7]), "trailer absent");
+    assert_eq!(words(Kind::Avc, &M10), "trailer: chroma_format 1, luma depth 8, chroma depth 8, extension sets 0");
+}
+
+#[test]
+fn trailer_absent_is_written() {
+    let record = read_record(Kind::Avc, &M10[..7]).unwrap();
+    let mut out = [0xEE; 16];
+    assert_eq!(write_record(Kind::Avc, &record, &mut out[..6]), refused(29, 0));
+    // Absent where none belongs, and neither said nor there where one belongs.
+    assert_eq!(write_record(Kind::Svc, &record, &mut out), refused(31, 0));
+    assert_eq!(write_record(Kind::Avc, &Record { profile: 66, ..record }, &mut out), refused(31, 0));
+    assert_eq!(write_record(Kind::Avc, &Record { trailer: Trailer::None, ..record }, &mut out), refused(31, 0));
+    assert_eq!(out, [0xEE; 16]);
+    assert_eq!(write_record(Kind::Avc, &record, &mut out), Ok(7));
+    assert_eq!((&out[..7], &out[7..]), (&M10[..7], &[0xEE; 9][..]));
+    assert_eq!(read_record(Kind::Avc, &out[..7]), Ok(record));
+}
+
+#[test]
+fn trailer_absent_in_a_bundle() {
+    let mut bundle = b0();
+    bundle[5] = 100;
+    assert_eq!(check_bundle(&bundle), Ok(()));
+    assert_eq!(second(&bundle), Ok(RESOLVED.to_vec()));
+    assert_eq!(unit(&bundle, SampleNumber(2), UnitNumber(1)), Ok(&bundle[57..59]));
+    assert_eq!(names(&bundle, SampleNumber(1), &mut [0; 6]).unwrap().bytes, [0, 2, 0, 0, 0, 0]);
+    assert_eq!(audit(&bundle, &mut [0; 2 * LINE]).unwrap().tally, Tally { passed: 2, empty: 0, refused: 0 });
+    // One trailer byte in the record of the first track.
+    bundle[3] = 8;
+    bundle.insert(11, 0xFD);
+    assert_eq!(check_bundle(&bundle), refused(8, 1));
+    assert_eq!(second(&bundle), refused(8, 1));
+}
+
 #[test]
 fn records() {
-    let high = [0x01, 0x64, 0x00, 0x1E, 0xFF, 0xE0, 0x00, 0xFD, 0xF8, 0xF8, 0x00];
-    assert_eq!(read_record(Kind::Avc, &high[..7]), refused(8, 0));
+    let high = M10;
     assert_eq!(read_record(Kind::Avc, &[0x01, 0x42, 0x00, 0x1E, 0xFE, 0xE0, 0x00]), refused(11, 0));
     let mut record = read_record(Kind::Avc, &high).unwrap();
     assert_eq!((record.profile, record.level, record.length_size), (100, 30, LengthSize::Four));

@@ -1,6 +1,6 @@
 //! What is lent to the writer: 18 numbers or not, and the sets.
 
-use super::record::{make_record, MadeRecord};
+use super::record::{make_record, MadeRecord, MadeTrailer};
 use crate::random::Random;
 
 #[derive(Clone)]
@@ -16,7 +16,7 @@ pub fn make_fields(random: &mut Random, kind: u8) -> MadeFields {
     let length_size = random.pick(&[1, 2, 4]);
     let record = make_record(random, kind, length_size);
     let mut fields = of_record(random, record);
-    match random.below(12) {
+    match random.below(14) {
         0 => {
             let at = random.below(18);
             fields.numbers[at] = change_number(random, fields.numbers[at]);
@@ -25,6 +25,8 @@ pub fn make_fields(random: &mut Random, kind: u8) -> MadeFields {
         2 => random.damage(&mut fields.picture),
         3 => random.damage(&mut fields.extension),
         4 => fields.numbers[11] = random.below(4) as u64,
+        7 => fields.numbers[0] = random.pick(&[66, 83, 99, 100, 101, 110, 122, 144, 244, 356]),
+        8 => fields.extension = vec![0, 1, 0x6D],
         5 => fields.numbers[4] = random.near(4),
         6 => fields.numbers.truncate(random.below(18)),
         _ => {}
@@ -43,13 +45,20 @@ fn of_record(random: &mut Random, record: MadeRecord) -> MadeFields {
         (4, record.length_size as u64),
         (5, record.sequence.count as u64),
         (8, record.picture.count as u64),
-        (11, if record.trailer.is_some() { 2 } else { 0 }),
+        (
+            11,
+            match record.trailer {
+                MadeTrailer::None => 0,
+                MadeTrailer::Absent => 1,
+                MadeTrailer::Present(..) => 2,
+            },
+        ),
     ];
     for (at, number) in counts {
         numbers[at] = number;
     }
     let mut extension = Vec::new();
-    if let Some((chroma, luma, depth, sets)) = record.trailer {
+    if let MadeTrailer::Present(chroma, luma, depth, sets) = record.trailer {
         numbers[12..16].copy_from_slice(&[chroma as u64, luma as u64, depth as u64, sets.count as u64]);
         extension = sets.bytes;
     } else if random.once_in(2) {

@@ -21,17 +21,22 @@ pub struct MadeRecord {
     pub length_size: usize,
     pub sequence: MadeSets,
     pub picture: MadeSets,
+    pub trailer: MadeTrailer,
+}
+
+pub enum MadeTrailer {
+    /// None belongs there.
+    None,
+    /// One belongs there, and the record ends before it.
+    Absent,
     /// chroma format, luma and chroma depth less 8, extension sets
-    pub trailer: Option<(u8, u8, u8, MadeSets)>,
+    Present(u8, u8, u8, MadeSets),
 }
 
 pub fn make_record(random: &mut Random, kind: u8, length_size: usize) -> MadeRecord {
     let profile = if random.once_in(10) { random.byte() } else { random.pick(&PROFILES) };
     let (types, most): (&[u8], usize) = if kind == AVC { (&[7], 31) } else { (&[7, 15], 127) };
-    let trailer = (kind == AVC && matches!(profile, 100 | 110 | 122 | 144)).then(|| {
-        let (chroma, luma, depth) = (random.byte() & 3, random.byte() & 7, random.byte() & 7);
-        (chroma, luma, depth, make_sets(random, &[13], 255))
-    });
+    let trailer = make_trailer(random, kind == AVC && matches!(profile, 100 | 110 | 122 | 144));
     MadeRecord {
         kind,
         profile,
@@ -43,6 +48,18 @@ pub fn make_record(random: &mut Random, kind: u8, length_size: usize) -> MadeRec
         picture: make_sets(random, &[8], 255),
         trailer,
     }
+}
+
+/// A trailer, absent in two of five records to which one belongs.
+fn make_trailer(random: &mut Random, belongs: bool) -> MadeTrailer {
+    if !belongs {
+        return MadeTrailer::None;
+    }
+    if random.below(5) < 2 {
+        return MadeTrailer::Absent;
+    }
+    let (chroma, luma, depth) = (random.byte() & 3, random.byte() & 7, random.byte() & 7);
+    MadeTrailer::Present(chroma, luma, depth, make_sets(random, &[13], 255))
 }
 
 fn make_sets(random: &mut Random, types: &[u8], most: usize) -> MadeSets {
@@ -72,7 +89,7 @@ impl MadeRecord {
         bytes.extend_from_slice(&self.sequence.bytes);
         bytes.push(self.picture.count as u8);
         bytes.extend_from_slice(&self.picture.bytes);
-        if let Some((chroma, luma, depth, extension)) = &self.trailer {
+        if let MadeTrailer::Present(chroma, luma, depth, extension) = &self.trailer {
             bytes.extend([0xFC | chroma, 0xF8 | luma, 0xF8 | depth, extension.count as u8]);
             bytes.extend_from_slice(&extension.bytes);
         }
@@ -86,6 +103,11 @@ pub fn make_bytes(random: &mut Random, kind: u8) -> Vec<u8> {
     let mut bytes = make_record(random, kind, length_size).spell();
     if random.once_in(2) {
         random.damage(&mut bytes);
+    }
+    if random.once_in(12) {
+        // Some bytes of a trailer, after one or where it is absent.
+        let length = random.between(1, 5);
+        bytes.extend(&[0xFD, 0xF8, 0xF8, 0, 0][..length]);
     }
     if random.once_in(8) {
         // A byte that stands in the fixed part.

@@ -26,16 +26,9 @@ returns-3 : tie.Need-returns-3
 unfolding numbersFault
 returns-3 c = rw (← c .before .before .before .before .flag-most .ensures) (search tests)
 
-shared-slice-read-if4 : tie.Need-shared-slice-read-if4
-shared-slice-read-if4 c = search needs
-
 returns-4 : tie.Need-returns-4
 unfolding numbersFault
-returns-4 c = rw (← c .before .before .before .before .before .before .flag-most .ensures) (search tests)
-
-returns-5 : tie.Need-returns-5
-unfolding numbersFault
-returns-5 c = rw (← c .before .before .before .before .before .before .flag-most .ensures) (search tests)
+returns-4 c = rw (← c .before .before .before .before .flag-most .ensures) (search tests)
 
 pub numbers-fault-spec : {M : Type 1} → statement M
 numbers-fault-spec =
@@ -47,6 +40,4 @@ numbers-fault-spec =
     returns-2
     shared-slice-read-if3
     returns-3
-    shared-slice-read-if4
-    returns-4
-    returns-5)
+    returns-4)

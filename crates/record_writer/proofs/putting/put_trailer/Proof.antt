@@ -1,4 +1,4 @@
--- No trailer writes nothing; else its values. Assumes nothing.
+-- Without a trailer, and where it is absent, nothing is written; else its values. Assumes nothing.
 use borrow.Author.Needs.{needs}
 use native.Mathlib.Omega.{arith}
 use mathlib.Core.Path.{_∙_}
@@ -9,6 +9,9 @@ use Rattle.record_writer.proofs.putting.put_trailer.Tie as tie
 
 enum-told : tie.Need-enum-told
 enum-told c = search needs
+
+enum-told-2 : tie.Need-enum-told-2
+enum-told-2 c = search needs
 
 enum-known-t : tie.Need-enum-known-t
 enum-known-t c = search needs
@@ -29,7 +32,10 @@ same-length : tie.Need-same-length
 same-length c = search needs
 
 returns-2 : tie.Need-returns-2
-returns-2 c =
+returns-2 c = rw (c .enum-told2 .given .1) (write-none _ _)
+
+returns-3 : tie.Need-returns-3
+returns-3 c =
     let a = c .before .before .before .before .before .before .before .before .before .before .args in
     let h = c .before .before .before .before .before .before .before .t .given .0 .0 in
     let r = rw (c .before .before .before .before .before .before .before .t .given .1) at (c .before .before .before .before .before .before .before .before .before .before .pre .1) in
@@ -41,10 +47,12 @@ put-trailer-spec =
     tie.close
     (tie.spec
     enum-told
+    enum-told-2
     enum-known-t
     high-bytes-requires
     slice-aggregate-put-bytes
     put-bytes-requires
     returns
+    returns-2
     same-length
-    returns-2)
+    returns-3)

@@ -1,0 +1,109 @@
+//! The real recordings and the damaged ones, through the safe functions: the directory that PUDDOCKLE_RECORDINGS names
+//! (else tests/recordings beside this workspace).
+
+#[path = "../../peer/tests/common/mod.rs"]
+mod common;
+#[path = "../../peer/tests/common/sha256.rs"]
+mod digest;
+
+use std::fs;
+
+use puddockle::*;
+
+/// The audit says what X.out says, whole. Samples of length 0 are those that X.out calls empty.
+#[test]
+fn audits() {
+    let directory = common::directory("PUDDOCKLE_RECORDINGS", "recordings");
+    let mut compared = 0;
+    for directory in [directory.clone(), directory.join("damaged")] {
+        for path in common::files(&directory, "bin") {
+            let expected = common::text(&path.with_extension("out"));
+            assert_eq!(audit_text(&fs::read(&path).unwrap(), &expected), expected, "{}", path.display());
+            compared += 1;
+        }
+    }
+    println!("{compared} recordings");
+}
+
+fn audit_text(bundle: &[u8], expected: &str) -> String {
+    let mut lines = vec![0; 4096 * LINE];
+    let audit = match audit(bundle, &mut lines) {
+        Ok(audit) => audit,
+        Err(no) => return format!("bundle refused {} at {}\n", no.number, no.place),
+    };
+    let mut text = String::new();
+    for ((line, said), number) in audit.lines().zip(expected.lines()).zip(1..) {
+        text += &match line.refusal {
+            Some(no) => format!("{number} refused {} at {}\n", no.number, no.place),
+            None if line.units == 0 && said.ends_with(" empty") => format!("{number} empty\n"),
+            None => format!("{number} passed {}\n", line.units),
+        };
+    }
+    let Tally { passed, empty, refused } = audit.tally;
+    text + &format!("passed {passed} empty {empty} refused {refused}\n")
+}
+
+/// What each sample resolves to has the length and the digest of X.tsv, and its units one by one are the same bytes.
+#[test]
+fn tables() {
+    let tables = common::files(&common::directory("PUDDOCKLE_RECORDINGS", "recordings"), "tsv");
+    let mut samples = 0;
+    for path in &tables {
+        let bundle = fs::read(path.with_extension("bin")).unwrap();
+        for row in common::text(path).lines() {
+            let columns: Vec<&str> = row.split('\t').collect();
+            let number = SampleNumber(columns[0].parse().unwrap());
+            assert_eq!(sample_text(&bundle, number), columns[5..9].join("\t"), "{}: {row}", path.display());
+            samples += 1;
+        }
+    }
+    println!("{} tables, {samples} samples", tables.len());
+}
+
+/// Units (or refusal), place, resolved length and the front of its digest.
+fn sample_text(bundle: &[u8], number: SampleNumber) -> String {
+    let mut out = vec![0; 1 << 20];
+    let count = match resolve(bundle, number, &mut out) {
+        Ok(count) => count,
+        Err(no) => return format!("{}\t{}\t-\t-", no.number, no.place),
+    };
+    let mut units = 0;
+    let mut joined = Vec::new();
+    while let Ok(unit) = unit(bundle, number, UnitNumber(units + 1)) {
+        joined.extend((unit.len() as u32).to_be_bytes());
+        joined.extend(unit);
+        units += 1;
+    }
+    assert!(joined == out[..count], "the units one by one of {number:?}");
+    format!("{units}\t0\t{count}\t{}", &digest::sha256(&out[..count])[..32])
+}
+
+/// Records as the tools wrote them: the answers stand in README.md; what was read is written again as the same bytes.
+#[test]
+fn records() {
+    let directory = common::directory("PUDDOCKLE_RECORDINGS", "recordings");
+    let readme = common::text(&directory.join("README.md"));
+    for (ending, kind) in [("avcc", Kind::Avc), ("svcc", Kind::Svc)] {
+        for path in common::files(&directory.join("records"), ending) {
+            let name = path.file_name().unwrap().to_str().unwrap();
+            let row = readme.lines().find(|line| line.starts_with(&format!("| {name} |")));
+            let columns: Vec<&str> =
+                row.unwrap_or_else(|| panic!("no row for {name}")).split('|').map(str::trim).collect();
+            assert_eq!(record_text(kind, &fs::read(&path).unwrap()), columns[3], "{name}");
+        }
+    }
+}
+
+fn record_text(kind: Kind, bytes: &[u8]) -> String {
+    let record = match read_record(kind, bytes) {
+        Ok(record) => record,
+        Err(no) => return format!("refused {} at {}", no.number, no.place),
+    };
+    let mut out = vec![0; bytes.len()];
+    assert_eq!(write_record(kind, &record, &mut out), Ok(bytes.len()));
+    assert_eq!(out, bytes);
+    let words = record.trailer.to_string();
+    let trailer = words.split(':').next().unwrap();
+    let (size, sequences, pictures) = (record.length_size as u64, record.sequence.count, record.picture.count);
+    format!("ok, L {size}, sps {sequences} pps {pictures}, {trailer}")
+}
