@@ -21,15 +21,15 @@ use Rattle.words.specs.Refusals.{Answer, refused, ok, Verdict, _andThen_, _atPl
 use Rattle.words.specs.Lists.{nth, sum, upto}
 use Rattle.words.specs.Walks.{skip}
 use Rattle.words.specs.Bytes.{byteAt}
-use Rattle.words.proofs.Tests.{by-number}
-use Rattle.words.proofs.Refusals.{at-refused, at-none, at-ok, and-ok, ok-same, ok-refused}
+use Rattle.words.proofs.Refusals.{at-refused, at-none, ok-same, ok-refused}
 use Rattle.numbers.specs.Sizes.{inBytes, lengthSizeOf}
 use Rattle.numbers.specs.declared.Kind.{Kind}
 use Rattle.numbers.specs.declared.Kind.the-variants.{Avc, Svc}
 use Rattle.numbers.specs.declared.MaybeKind.{MaybeKind}
 use Rattle.numbers.specs.declared.MaybeKind.the-variants.{Known, Unknown}
-use Rattle.record_rules.specs.Read.{recordFault, lengthSize, recordOf, readAs}
+use Rattle.record_rules.specs.Read.{recordFault, lengthSize, readAs}
 use Rattle.record_rules.specs.declared.Record.{Record}
+use Rattle.record_rules.proofs.Answers.{accepted-as, refused-as}
 use Rattle.record_rules.proofs.Parsed.{parsed, length-size-most}
 use Rattle.bundles.specs.Recordings.{Track, noTrack}
 use Rattle.bundles.specs.Tracks.{trackCount, tracksAt, trackEnd, kindAt, recordAt, recordFaultAs, knownKind, knownSize, sizeAt, trackFault, trackOn, trackPlaces, tracks}
@@ -82,16 +82,10 @@ as-size Unknown s e = absurd (omega arith)
 
 -- a record's answer
 pub read-refused : (k : Kind) (s : List ℕ) (n p : ℕ) → refused n p ≡ readAs k s → (recordFault k s ≡ n) × (n ≡ 0 → ⊥)
-unfolding readAs
-read-refused k s n p e = by-number (recordFault k s)
-    (λ z. ok-refused (rw z at e))
-    (λ m z. let g : refused n p ≡ refused (suc m) 0 = rw z at e in let f : n ≡ suc m = cc in (z ∙ sym f, λ h. omega arith))
+read-refused k s n p e = let w = refused-as k s (sym e) in (w .0, λ h. omega (arith, w .1))
 
 pub read-accepted : (k : Kind) (s : List ℕ) (v : Record) → ok v ≡ readAs k s → (recordFault k s ≡ 0) × (v .fields .«length_size» ≡ lengthSize k s)
-unfolding readAs
-read-accepted k s v e =
-    let a = and-ok (recordFault k s atPlace 0) (ok (recordOf k s)) (sym e) in
-    (at-ok (recordFault k s) 0 (a .0), ap (λ x. x .fields .«length_size») (sym (ok-same (a .1))))
+read-accepted k s v e = let w = accepted-as k s (sym e) in (w .0, ap (λ x. x .fields .«length_size») (w .1))
 
 pub good-size : (b : List ℕ) (p : ℕ) → trackFault b p ≡ 0 → inBytes (trackOn b p .lengthSize) ≡ sizeAt b p
 unfolding sizeAt

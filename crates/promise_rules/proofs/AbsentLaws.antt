@@ -11,24 +11,19 @@ use mathlib.Core.Path.{_≡_, refl, ap, sym, _∙_, subst}
 use mathlib.Core.List.{List, [], _∷_, _++_, append-nil}
 use mathlib.Core.Logic.{_⊎_, inl, inr, ⊎-elim, _↔_}
 use native.Mathlib.Omega.{arith}
-use borrow.Author.Tests.{ltb-true, ltb-false, eq-eqb, le-ltb}
+use borrow.Author.Tests.{ltb-true, ltb-false, le-ltb}
 use lib.ListN.{length, drop, getD}
 use lib.Seq.{drop-length}
 use Rattle.words.specs.Tests.{_<?_}
 use Rattle.words.specs.Refusals.{refused, ok}
 use Rattle.words.specs.Lists.{_∈_}
 use Rattle.words.specs.Bytes.{Bytes, byteAt, big, part}
-use Rattle.words.proofs.Tests.{by-bool, by-number}
+use Rattle.words.proofs.Tests.{by-bool}
 use Rattle.words.proofs.Refusals.{ok-same, ok-refused}
 use Rattle.words.proofs.Positions.{at-end}
-use Rattle.numbers.specs.Kinds.{kindOf}
-use Rattle.numbers.specs.declared.Kind.{Kind}
 use Rattle.numbers.specs.declared.Kind.the-variants.{Avc, Svc}
-use Rattle.numbers.specs.declared.MaybeKind.the-variants.{Known}
-use Rattle.sets.specs.Sets.{exactly}
-use Rattle.sets.proofs.Laws.{fit-sets}
 use Rattle.record_rules.specs.Trailers.{extensionTypes, ending}
-use Rattle.record_rules.specs.Read.{recordFault, recordOf, trailerOf, picturesEnd, readAs, readRecord}
+use Rattle.record_rules.specs.Read.{recordFault, recordOf, trailerOf, picturesEnd, readRecord}
 use Rattle.record_rules.specs.Answers.{partBytes}
 use Rattle.record_rules.specs.declared.Flag.the-variants as flag
 use Rattle.record_rules.specs.declared.Trailer.{Trailer}
@@ -38,26 +33,17 @@ use Rattle.record_rules.specs.declared.Record.{Record}
 use Rattle.record_rules.proofs.Parsed.{parsed}
 use Rattle.record_rules.proofs.BytesBack.{end-back}
 use Rattle.record_rules.proofs.ReadsBack as back
-use Rattle.record_rules.proofs.Fits.{read-fits}
+use Rattle.record_rules.proofs.Fits.{sets-exact, read-fits}
 use Rattle.record_writer.specs.Write.{writeRecord}
 use Rattle.record_numbers.specs.Numbers.{readNumbers}
 use Rattle.promise_rules.specs.Records.{Sets, trailerProfiles, Shared, RecordEnds, RecordOf, WriteRefused}
 use Rattle.promise_rules.specs.Reading.{ByteAt, ByteRefused, FormatBits, DepthBits, PicturesEnd, EndRefused, BytesRefused, ReadRefused}
 use Rattle.promise_rules.specs.Numbers.{trailerNumbers}
 use Rattle.promise_rules.specs.Bundles.{TrackAt}
-use Rattle.promise_rules.proofs.RecordLaws.{parts, ends, ended, by-kind, found-as, accepted-exactly, written-exactly, write-refused-exactly, read-none}
+use Rattle.promise_rules.proofs.RecordLaws.{parts, ends, ended, by-kind, accepted-known, known-accepted, accepted-exactly, written-exactly, write-refused-exactly, read-none}
 use Rattle.promise_rules.proofs.ReadLaws.{good-to, to-good, read-refused}
 use Rattle.promise_rules.proofs.CallLaws.{part-bytes}
 use Rattle.promise_rules.proofs.NumberLaws.{numbers-read}
-
--- the answer, by the first refusal of the bytes
-read-good : (kind : ℕ) (k : Kind) (s : List ℕ) {r : Record} → kindOf kind ≡ Known k → readRecord kind s ≡ ok r → recordFault k s ≡ 0
-unfolding readRecord readAs
-read-good kind k s q e = by-number (recordFault k s) (λ z. z) (λ n z. ok-refused (rw (q, z) at e))
-
-good-read : (kind : ℕ) (k : Kind) (s : List ℕ) → kindOf kind ≡ Known k → recordFault k s ≡ 0 → readRecord kind s ≡ ok (recordOf k s)
-unfolding readRecord readAs
-good-read kind k s q e = rw (q, e)
 
 -- the cases apart, by their numbers
 abbrev tag : Trailer → ℕ
@@ -94,14 +80,14 @@ module _ (s : List ℕ) (g : Bytes s) where
       subst (RecordEnds (byteAt s 1) (trailerOf Avc s) x) (end-back Avc s g e) (ends (byteAt s 1) (trailerOf Avc s) x (w .numbers .trailer) (w .belongs) (w .extensions))
 
   ends-read : (q : ℕ) → PicturesEnd Avc s q → (t : Trailer) (x : List ℕ) → RecordEnds (byteAt s 1) t x (drop q s) → (recordFault Avc s ≡ 0) × (trailerOf Avc s ≡ t) × (partBytes s (recordOf Avc s .extensions) ≡ x)
-  unfolding recordFault exactly
+  unfolding recordFault
   ends-read q w t x e =
       let v = good-to Avc s g q w in
       let h = ended e in
-      let f = fit-sets extensionTypes x (ending t .sets) (h .sets) in
-      let n = back.ended Avc s q t x (v .4) (sym (h .bytes)) (h .fits) (eq-eqb _ _ (f .1)) (h .belongs) in
+      let f = sets-exact extensionTypes x (ending t .sets) (h .sets) in
+      let n = back.ended Avc s q t x (v .4) (sym (h .bytes)) (h .fits) (f .0) (h .belongs) in
       let d : length s - (q + length (ending t .head)) ≡ length x = omega (arith, n .count) in (
-        rw (v .0, v .1, v .2, v .3, n .is, n .fault, n .sets, f .0, n .end, le-ltb (length s) (length s) (omega arith)),
+        rw (v .0, v .1, v .2, v .3, n .is, n .fault, n .sets, f .1, n .end, le-ltb (length s) (length s) (omega arith)),
         rw (v .3) (n .is),
         rw (v .3, n .is, n .end, d) (n .part),
       )
@@ -111,18 +97,18 @@ module _ (s : List ℕ) (g : Bytes s) where
       ((r : Record) × (readRecord 0 s ≡ ok r) × (r .fields .trailer ≡ t) × (partBytes s (r .extensions) ≡ x)) ↔ RecordEnds (byteAt s 1) t x (drop q s)
   ends-exactly q w t x = (
     λ h.
-        let e = read-good 0 Avc s refl (h .1) in
-        let r = found-as 0 Avc s refl (h .1) in
+        let e = accepted-known 0 Avc s refl (h .1) .0 in
+        let r = accepted-known 0 Avc s refl (h .1) .1 in
         let i : trailerOf Avc s ≡ t = ap (λ (r : Record). r .fields .trailer) r ∙ h .2 in
         let j : partBytes s (recordOf Avc s .extensions) ≡ x = ap (λ (r : Record). partBytes s (r .extensions)) r ∙ h .3 in
         rw (← i, ← j, ← good-to Avc s g q w .3) (read-ends e),
-    λ h. let v = ends-read q w t x h in (recordOf Avc s, good-read 0 Avc s refl (v .0), v .1, v .2),
+    λ h. let v = ends-read q w t x h in (recordOf Avc s, known-accepted 0 Avc s refl (v .0), v .1, v .2),
   )
 
   absent-avc : ((r : Record) × (readRecord 0 s ≡ ok r) × (r .fields .trailer ≡ Absent)) → (byteAt s 1 ∈ trailerProfiles) × PicturesEnd Avc s (length s)
   absent-avc h =
-      let e = read-good 0 Avc s refl (h .1) in
-      let i : trailerOf Avc s ≡ Absent = ap (λ (r : Record). r .fields .trailer) (found-as 0 Avc s refl (h .1)) ∙ h .2 in
+      let e = accepted-known 0 Avc s refl (h .1) .0 in
+      let i : trailerOf Avc s ≡ Absent = ap (λ (r : Record). r .fields .trailer) (accepted-known 0 Avc s refl (h .1) .1) ∙ h .2 in
       let a = absent-rest i (read-ends e) in
       let z : picturesEnd Avc s ≡ length s = at-end s (picturesEnd Avc s) (parsed Avc s e .within) (a .2) in
       (a .0, subst (PicturesEnd Avc s) z (to-good Avc s g e))
@@ -139,7 +125,7 @@ module _ (s : List ℕ) (g : Bytes s) where
   absent-exactly kind = (
     λ h. by-kind kind
         (λ z. let a = absent-avc (rw z at h) in (z, a .0, a .1))
-        (λ z. let q = ap (λ (r : Record). tag (r .fields .trailer)) (found-as 1 Svc s refl (rw z at (h .1))) ∙ ap tag (h .2) in absurd (omega arith))
+        (λ z. let q = ap (λ (r : Record). tag (r .fields .trailer)) (accepted-known 1 Svc s refl (rw z at (h .1)) .1) ∙ ap tag (h .2) in absurd (omega arith))
         (λ u v. ok-refused (sym (read-none kind s u v) ∙ h .1)),
     λ h. rw (h .0) (avc-absent (h .1) (h .2)),
   )

@@ -36,7 +36,7 @@ use Rattle.promise_rules.specs.Bundles.{two, three, four, total, entry, 
 use Rattle.promise_rules.specs.Reading.{ReadRefused}
 use Rattle.promise_rules.specs.BundleFaults.{PartFault, TrackFault, BytesFault, BundleRefused}
 use Rattle.promise_rules.proofs.FirstLaws.{Judges, at-some, by-and, and-here, Section, by-section, section-count, section-entry}
-use Rattle.promise_rules.proofs.RecordLaws.{read-known, known-read}
+use Rattle.promise_rules.proofs.RecordLaws.{refused-known, known-refused}
 use Rattle.promise_rules.proofs.ReadLaws.{read-refused}
 use Rattle.promise_rules.proofs.CallLaws.{part-bytes}
 use Rattle.promise_rules.proofs.BundleLaws.{count-at, track-at, reference-at, entry-rules, count-none, track-none, reference-none, entry-none, tracks-of, of-tracks, references-of, of-references, samples-of, of-samples, bytes-none, none-bytes, bytes-are}
@@ -45,12 +45,12 @@ use Rattle.promise_rules.proofs.BundleLaws.{count-at, track-at, referen
 module _ (kind : ℕ) (s : List ℕ) (g : Bytes s) where
   read-some : (k : MaybeKind) → kindOf kind ≡ k → 0 < recordFaultAs k s → ReadRefused kind s (recordFaultAs k s) 0
   unfolding readRecord
-  read-some (Known k) q h = read-refused kind s g (recordFault k s) 0 .0 (known-read kind k s q refl h)
+  read-some (Known k) q h = read-refused kind s g (recordFault k s) 0 .0 (known-refused kind k s q refl h)
   read-some Unknown q h = read-refused kind s g 4 0 .0 (rw q)
 
   read-is : (k : MaybeKind) → kindOf kind ≡ k → {m : ℕ} → ReadRefused kind s m 0 → (recordFaultAs k s ≡ m) × (0 < m)
   unfolding readRecord
-  read-is (Known k) q {m} w = let i = read-known kind k s q (read-refused kind s g m 0 .1 w) in (i .0, i .1)
+  read-is (Known k) q {m} w = let i = refused-known kind k s q (read-refused kind s g m 0 .1 w) in (i .0, i .1)
   read-is Unknown q {m} w = let i = refused-same (rw q at (read-refused kind s g m 0 .1 w)) .0 in (i, omega arith)
 
 module _ (b : List ℕ) where

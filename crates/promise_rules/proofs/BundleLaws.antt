@@ -12,7 +12,7 @@ use Rattle.words.specs.Refusals.{_atPlace_, ok}
 use Rattle.words.specs.Lists.{_∈_, nth, upto}
 use Rattle.words.specs.Walks.{entries}
 use Rattle.words.specs.Bytes.{Bytes, byteAt, big}
-use Rattle.words.proofs.Tests.{by-bool, by-number, within-count}
+use Rattle.words.proofs.Tests.{by-bool, within-count}
 use Rattle.words.proofs.Refusals.{if-none, and-ok, at-ok, at-none, first-all, ok-refused}
 use Rattle.words.proofs.Lists.{upto-from, nth-mem}
 use Rattle.words.proofs.Joined.{nth-map}
@@ -20,10 +20,9 @@ use Rattle.words.proofs.Entries.{entries-length}
 use Rattle.numbers.specs.Sizes.{inBytes, lengthSizeOf}
 use Rattle.numbers.specs.declared.Kind.the-variants.{Avc, Svc}
 use Rattle.numbers.specs.Kinds.{kindOf}
-use Rattle.numbers.specs.declared.Kind.{Kind}
 use Rattle.numbers.specs.declared.MaybeKind.{MaybeKind}
 use Rattle.numbers.specs.declared.MaybeKind.the-variants.{Known, Unknown}
-use Rattle.record_rules.specs.Read.{lengthSize, recordFault, recordOf, readAs, readRecord}
+use Rattle.record_rules.specs.Read.{lengthSize, recordOf, readRecord}
 use Rattle.record_rules.specs.Answers.{partBytes}
 use Rattle.record_rules.specs.declared.Fields.{Fields}
 use Rattle.record_rules.specs.declared.Record.{Record}
@@ -38,7 +37,8 @@ use Rattle.bundles.specs.Bundles.{byteCountFault, lengthVerdict, bytesVerdict, 
 use Rattle.bundles.proofs.Promises.{means, samples-tile}
 use Rattle.bundles.proofs.Sections as sections
 use Rattle.promise_rules.specs.Records.{RecordOf}
-use Rattle.promise_rules.proofs.RecordLaws.{found-as, accepted-exactly}
+use Rattle.promise_rules.proofs.RecordLaws.{accepted-known, known-accepted, accepted-exactly}
+use Rattle.record_rules.proofs.Answers.{read-unknown}
 use Rattle.promise_rules.specs.Bundles.{two, three, four, entry, trackPlaces, referencePlaces, total, CountAt, TrackAt, TrackSize, ReferenceAt, EntryAt, TracksOf, ReferencesOf, SamplesOf, BytesOf, BundleOf, TrackMeans, Means}
 use Rattle.promise_rules.proofs.CallLaws.{part-bytes}
 
@@ -50,30 +50,19 @@ record Read (kind : ℕ) (s : List ℕ) : Type 0 where
   pub extensions : List ℕ
   pub valid : RecordOf fields sequences pictures extensions kind s
 
-read-as : (kind : ℕ) (k : Kind) (s : List ℕ) → kindOf kind ≡ Known k → recordFault k s ≡ 0 → readRecord kind s ≡ ok (recordOf k s)
-unfolding readRecord readAs
-read-as kind k s q e = rw (q, e)
-
-as-read : (kind : ℕ) (k : Kind) (s : List ℕ) {r : Record} → kindOf kind ≡ Known k → readRecord kind s ≡ ok r → recordFault k s ≡ 0
-unfolding readRecord readAs
-as-read kind k s q e =
-    let h = rw q at e in
-    by-number (recordFault k s) (λ z. z) (λ m z. ok-refused (rw z at h))
-
 unknown-read : (kind : ℕ) (s : List ℕ) {r : Record} → kindOf kind ≡ Unknown → readRecord kind s ≡ ok r → recordFaultAs Unknown s ≡ 0
-unfolding readRecord
-unknown-read kind s q e = ok-refused (rw q at e)
+unknown-read kind s q e = ok-refused (sym (read-unknown kind s q) ∙ e)
 
 read-of : (kind : ℕ) (s : List ℕ) → Bytes s → (m : MaybeKind) → kindOf kind ≡ m → recordFaultAs m s ≡ 0 → Read kind s
 read-of kind s g (Known k) q e =
     let r = recordOf k s in
     let h : Holds kind s (r .fields) (partBytes s (r .sequences)) (partBytes s (r .pictures)) (partBytes s (r .extensions)) =
-    record { found = r; read = read-as kind k s q e; fields = refl; sequences = refl; pictures = refl; extensions = refl } in
+    record { found = r; read = known-accepted kind k s q e; fields = refl; sequences = refl; pictures = refl; extensions = refl } in
     record { fields = r .fields; sequences = _; pictures = _; extensions = _; valid = accepted-exactly (r .fields) _ _ _ kind s g .0 h }
 read-of kind s g Unknown q e = absurd (omega arith)
 
 of-read : (kind : ℕ) (s : List ℕ) → Bytes s → (m : MaybeKind) → kindOf kind ≡ m → Read kind s → recordFaultAs m s ≡ 0
-of-read kind s g (Known k) q w = as-read kind k s q (accepted-exactly (w .fields) _ _ _ kind s g .1 (w .valid) .read)
+of-read kind s g (Known k) q w = accepted-known kind k s q (accepted-exactly (w .fields) _ _ _ kind s g .1 (w .valid) .read) .0
 of-read kind s g Unknown q w = unknown-read kind s q (accepted-exactly (w .fields) _ _ _ kind s g .1 (w .valid) .read)
 
 module _ (b : List ℕ) where
@@ -111,7 +100,7 @@ module _ (b : List ℕ) where
       lengthSize (knownKind m) s ≡ f .«length_size»
   size-stated kind s g (Known k) q f a c x w =
       let h = accepted-exactly f a c x kind s g .1 w in
-      ap (λ (r : Record). r .fields .«length_size») (found-as kind k s q (h .read)) ∙ ap (λ (r : Fields). r .«length_size») (h .fields)
+      ap (λ (r : Record). r .fields .«length_size») (accepted-known kind k s q (h .read) .1) ∙ ap (λ (r : Fields). r .«length_size») (h .fields)
   size-stated kind s g Unknown q f a c x w =
       let h = accepted-exactly f a c x kind s g .1 w in
       let z : recordFaultAs Unknown s ≡ 0 = unknown-read kind s q (h .read) in absurd (omega arith)

@@ -39,9 +39,10 @@ use Rattle.record_numbers.specs.Numbers.{numbersOf, asNumbers, readNumbers, fla
 use Rattle.record_numbers.specs.Numbers as numbers
 use Rattle.promise_rules.specs.Records.{RecordOf, WriteRefused}
 use Rattle.promise_rules.specs.Numbers.{SetsStand, trailerHead, flagNumber, trailerNumbers, numbersFor, FlagIn, TrailerIn, FieldsIn, NumbersRead, NumbersReadRefused, NumbersWritten, NumbersWriteRefused}
-use Rattle.promise_rules.proofs.RecordLaws.{fitted, found-as, by-kind, accepted-exactly, written-exactly, write-refused-exactly}
+use Rattle.promise_rules.proofs.RecordLaws.{fitted, accepted-known, by-kind, accepted-exactly, written-exactly, write-refused-exactly}
 use Rattle.promise_rules.proofs.ReadLaws.{read-refused}
-use Rattle.promise_rules.proofs.ReturnLaws.{fault-31, write-known, write-fault, write-unknown}
+use Rattle.promise_rules.proofs.ReturnLaws.{fault-31, write-fault, write-unknown}
+use Rattle.record_numbers.proofs.Promise.{write-known}
 
 -- what a record that was read says is where its sets are put
 module _ (f : Fields) (a c x : List ℕ) (kind : ℕ) (s : List ℕ) where
@@ -49,7 +50,7 @@ module _ (f : Fields) (a c x : List ℕ) (kind : ℕ) (s : List ℕ) where
   found-placed w e =
       let v = fitted f a c x w in
       let g = fitting (v .known) f a c x (v .fits) in
-      sym (found-as kind (v .known) s (v .is) e)
+      sym (accepted-known kind (v .known) s (v .is) e .1)
       ∙ (ap (recordOf (v .known)) (sym (v .bytes))
       ∙ bytes-record (v .known) f a c x (g .numbers) (g .sequences) (g .pictures) (g .extensions) (g .belongs))
 

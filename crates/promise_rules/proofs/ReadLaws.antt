@@ -32,12 +32,12 @@ use Rattle.record_rules.specs.Trailers.{trailerBelongs, chromaShape, depthShape
 use Rattle.record_rules.specs.Read.{lengthSize, headFault, sequenceCount, sequencesFault, sequencesEnd, pictureCount, picturesFault, picturesEnd, recordEnd, recordFault, readRecord}
 use Rattle.record_rules.specs.declared.Shape.{Shape}
 use Rattle.record_rules.proofs.Parsed.{pictures-in}
-use Rattle.record_rules.proofs.Endings.{by-ending, ending-none, ending-absent, ending-with}
+use Rattle.record_rules.proofs.Endings.{by-ending, ending-none, ending-absent, ending-present}
 use Rattle.promise_rules.specs.Records.{SetAt, SetsTo}
 use Rattle.promise_rules.specs.Reading.{ByteAt, ByteRefused, SetRefused, SetsRefused, SizeBits, CountBits, sequencesIn, sequenceTypes, TrailerBelongs, FormatBits, DepthBits}
 use Rattle.promise_rules.specs.Reading.{Head, HeadRefused, SequencesEnd, PicturesEnd, EndsAt, EndRefused, BytesRefused, ReadRefused}
 use Rattle.promise_rules.proofs.FirstLaws.{Judges}
-use Rattle.promise_rules.proofs.RecordLaws.{sets-to, one-in, in-one, two-in, in-two, high-in, in-high, by-kind, read-none, read-known, known-read}
+use Rattle.promise_rules.proofs.RecordLaws.{sets-to, one-in, in-one, two-in, in-two, high-in, in-high, by-kind, read-none, refused-known, known-refused}
 
 -- one after the other: the second counts where the first is good
 judge-then : {f g : ℕ} {R Q : ℕ → Type 0} {G H : Type 0} → Judges f R G → (G → Judges g Q H) → Judges (f orElse g) (λ n. R n ⊎ (G × Q n)) (G × H)
@@ -361,13 +361,13 @@ module _ (k : Kind) (s : List ℕ) (bytes : Bytes s) where
     end-one e w = by-ending k s q
         (λ t. rw (ending-none k s q t) (nothing-end (λ h l. no-trailer t h) w))
         (λ t l. rw (ending-absent k s q t l) (nothing-end (λ h m. absurd (omega arith)) w))
-        (λ t l. rw (ending-with k s q t l) (trailer-end (trailer-belongs k s t) l w))
+        (λ t l. rw (ending-present k s q t l) (trailer-end (trailer-belongs k s t) l w))
 
     end-judged : Judges endFault (EndRefused k s q) (EndsAt k s q endPlace)
     end-judged = by-ending k s q
         (λ t. rw (ending-none k s q t) (nothing (EndsAt.nothing (no-trailer t)) (λ n w. no-trailer t (refused-has n w .0))))
         (λ t l. rw (ending-absent k s q t l) (nothing (EndsAt.absent (trailer-belongs k s t) l) (λ n w. let m = refused-has n w .1 in absurd (omega arith))))
-        (λ t l. rw (ending-with k s q t l) (trailer-judged (trailer-belongs k s t) l))
+        (λ t l. rw (ending-present k s q t l) (trailer-judged (trailer-belongs k s t) l))
 
   -- where the sequence sets and the picture sets end
   sequences-judged : Judges (sequencesFault k s) (SetsRefused (sequenceTypes k) s (sequencesIn k (byteAt s 5)) 6) (SetsTo (sequenceTypes k) s (sequencesIn k (byteAt s 5)) 6 (sequencesEnd k s))
@@ -483,11 +483,11 @@ module _ (k : Kind) (s : List ℕ) (bytes : Bytes s) where
 module _ (kind : ℕ) (s : List ℕ) (bytes : Bytes s) where
   refused-as : (k : Kind) {n p : ℕ} → kindOf kind ≡ Known k → readRecord kind s ≡ refused n p → BytesRefused k s n × (p ≡ 0)
   refused-as k is e =
-      let w = read-known kind k s is e in
+      let w = refused-known kind k s is e in
       (subst (BytesRefused k s) (w .0) (bytes-judged k s bytes .because (omega (arith, w .0, w .1))), w .2)
 
   as-refused : (k : Kind) {n : ℕ} → kindOf kind ≡ Known k → BytesRefused k s n → readRecord kind s ≡ refused n 0
-  as-refused k {n} is r = let w = bytes-judged k s bytes .refuses n r in known-read kind k s is (w .0) (w .1)
+  as-refused k {n} is r = let w = bytes-judged k s bytes .refuses n r in known-refused kind k s is (w .0) (w .1)
 
   because : (n p : ℕ) → readRecord kind s ≡ refused n p → ReadRefused kind s n p
   because n p e = by-kind kind

@@ -6,7 +6,7 @@
 --   accepted-exactly          a record is accepted with these fields and sets exactly if it is what they spell
 --   written-exactly           they are written exactly if they are valid and there is room: with the bytes that they spell
 --   write-refused-exactly     when writing is refused
---   read-none, read-known, known-read    reading refused, by the first refusal of the bytes
+--   accepted-known, known-accepted, read-none, refused-known, known-refused    the answer of reading, by the first refusal of the bytes
 --   read-number               with which numbers
 use Prim.Native.Nat.{ℕ, zero, suc, _+_, _-_, _*_, _≤_, _<_}
 use mathlib.Core.Path.{_≡_, refl, sym, _∙_, subst}
@@ -23,7 +23,7 @@ use Rattle.words.specs.Walks.{entries, skip}
 use Rattle.words.specs.Bytes.{Bytes, big}
 use Rattle.words.specs.Buffers.{within, overwrite, Wrote}
 use Rattle.words.proofs.Tests.{by-bool, all-first, true-false}
-use Rattle.words.proofs.Refusals.{orElse-none, ok-same, ok-refused, refused-same}
+use Rattle.words.proofs.Refusals.{orElse-none, ok-refused, refused-same}
 use Rattle.words.proofs.Buffers.{within-room, within-not}
 use Rattle.numbers.specs.Kinds.{kindOf}
 use Rattle.numbers.specs.declared.Kind.{Kind}
@@ -43,16 +43,18 @@ use Rattle.record_rules.specs.declared.Trailer.the-variants.{None, Absent, Pres
 use Rattle.record_rules.specs.declared.Fields.{Fields}
 use Rattle.record_rules.specs.declared.Record.{Record}
 use Rattle.record_rules.proofs.Numbers.{Numbers, numbers, numbers-true, high-numbers, high-true}
-use Rattle.record_rules.proofs.Fits.{fits-by-parts}
-use Rattle.record_rules.specs.Read.{recordFault, recordOf, readAs, readRecord}
+use Rattle.record_rules.proofs.Answers as answers
+use Rattle.record_rules.proofs.Answers.{accepted-as, good-read, refused-as, fault-read}
+use Rattle.record_rules.proofs.ReadsBack.{no-bytes}
+use Rattle.record_rules.proofs.Fits.{sets-exact, fits-by-parts}
+use Rattle.record_rules.specs.Read.{recordFault, recordOf, readRecord}
 use Rattle.record_rules.proofs.Refusals.{record-refusal}
 use Rattle.words.specs.RefusalNumbers.{recordRefusals}
 use Rattle.words.proofs.Refusals.{none-or-some}
-use Rattle.words.proofs.Tests.{by-number}
 use Rattle.record_writer.specs.Write.{writeAs, writeRecord}
 use Rattle.record_writer.specs.Promise.{Holds}
 use Rattle.record_writer.proofs.Laws.{write-misfit, write-fits}
-use Rattle.record_writer.proofs.Promise.{writes-back, reads-back}
+use Rattle.record_writer.proofs.Promise.{within-ok, written, writes-back, reads-back}
 use Rattle.promise_rules.specs.Records.{SetsTo, Sets, trailerProfiles, Shared, RecordEnds, RecordOf, WriteRefused}
 
 -- sets
@@ -139,10 +141,6 @@ in-size l m = ⊎-elim (λ e. rw e (record { some = omega arith; most = omega ar
     (List·Memᴰ·cases-cons m1))
     (List·Memᴰ·cases-cons m)
 
-empty-list : (x : List ℕ) → length x ≡ 0 → x ≡ []
-empty-list [] e = refl
-empty-list (a ∷ x) e = absurd (omega arith)
-
 -- what fits by parts
 pub record Parts (k : Kind) (f : Fields) (a b x : List ℕ) : Type 0 where
   pub numbers : Numbers k f
@@ -199,7 +197,7 @@ shared k f a b x e w =
     }
 
 none-left : (x : List ℕ) → setsFit extensionTypes x 0 ≡ true → x ≡ []
-none-left x e = empty-list x (sym (sets-fit extensionTypes (13 ∷ []) (one-in 13) (in-one 13) x 0 e))
+none-left x e = no-bytes x (sets-exact extensionTypes x 0 e .0)
 
 nothing-fits : setsFit extensionTypes [] 0 ≡ true
 nothing-fits = fit-of-sets extensionTypes (13 ∷ []) (one-in 13) (in-one 13) [] 0 refl
@@ -328,11 +326,11 @@ module _ (f : Fields) (a b x : List ℕ) where
       }
 
 -- what is read
-pub found-as : (kind : ℕ) (k : Kind) (s : List ℕ) {r : Record} → kindOf kind ≡ Known k → readRecord kind s ≡ ok r → recordOf k s ≡ r
-unfolding readRecord readAs
-found-as kind k s q e =
-    let h = rw q at e in
-    by-number (recordFault k s) (λ z. ok-same (rw z at h)) (λ m z. ok-refused (rw z at h))
+pub accepted-known : (kind : ℕ) (k : Kind) (s : List ℕ) {r : Record} → kindOf kind ≡ Known k → readRecord kind s ≡ ok r → (recordFault k s ≡ 0) × (recordOf k s ≡ r)
+accepted-known kind k s q e = let w = accepted-as k s (sym (answers.read-known kind k s q) ∙ e) in (w .0, sym (w .1))
+
+pub known-accepted : (kind : ℕ) (k : Kind) (s : List ℕ) → kindOf kind ≡ Known k → recordFault k s ≡ 0 → readRecord kind s ≡ ok (recordOf k s)
+known-accepted kind k s q e = answers.read-known kind k s q ∙ good-read k s e
 
 -- of a kind's number
 pub record Fitted (kind : ℕ) (f : Fields) (a b x s : List ℕ) : Type 0 where
@@ -364,19 +362,6 @@ pub by-kind : {G : Type 0} (kind : ℕ) → (kind ≡ 0 → G) → (kind ≡ 1 �
 by-kind kind f g h = by-bool (kind ≡? 0)
     (λ t. f (eqb-true _ _ t))
     (λ t. by-bool (kind ≡? 1) (λ u. g (eqb-true _ _ u)) (λ u. h (eqb-false _ _ t) (eqb-false _ _ u)))
-
--- an answer within its room
-within-ok : (room : ℕ) (v : Answer (List ℕ)) {s : List ℕ} → within room v ≡ ok s → (v ≡ ok s) × (length s ≤ room)
-within-ok room (refused n p) e = ok-refused e
-within-ok room (ok out) {s} e = by-bool (room <? length out)
-    (λ t. ok-refused (rw t at e))
-    (λ t. let q : ok out ≡ ok s = rw t at e in let l : length out ≤ room = ltb-false _ _ t in (q, subst (λ (z : List ℕ). length z ≤ room) (ok-same q) l))
-
-written : (k : Kind) (f : Fields) (a b x : List ℕ) {s : List ℕ} → writeAs k f a b x ≡ ok s → (fits k f a b x ≡ true) × (recordBytes k f a b x ≡ s)
-written k f a b x e =
-    by-bool (fits k f a b x)
-    (λ t. (t, ok-same (sym (write-fits k f a b x t) ∙ e)))
-    (λ t. ok-refused (sym (write-misfit k f a b x t) ∙ e))
 
 module _ (f : Fields) (a b x : List ℕ) where
   write-avc : (room : ℕ) → writeRecord 0 f a b x room ≡ within room (writeAs Avc f a b x)
@@ -475,21 +460,15 @@ pub read-none : (kind : ℕ) (s : List ℕ) → (kind ≡ 0 → ⊥) → (kind �
 unfolding readRecord
 read-none kind s g h = rw (ne-eqb kind 0 g, ne-eqb kind 1 h)
 
-pub read-known : (kind : ℕ) (k : Kind) (s : List ℕ) {n p : ℕ} → kindOf kind ≡ Known k → readRecord kind s ≡ refused n p → (recordFault k s ≡ n) × (0 < n) × (p ≡ 0)
-unfolding readRecord readAs
-read-known kind k s {n} {p} is e =
-    let h = rw is at e in
-    by-number (recordFault k s)
-    (λ z. ok-refused (sym (rw z at h)))
-    (λ m z. let q = refused-same (rw z at h) in (z ∙ q .0, omega (arith, q .0), sym (q .1)))
+pub refused-known : (kind : ℕ) (k : Kind) (s : List ℕ) {n p : ℕ} → kindOf kind ≡ Known k → readRecord kind s ≡ refused n p → (recordFault k s ≡ n) × (0 < n) × (p ≡ 0)
+refused-known kind k s {n} {p} is e = refused-as k s (sym (answers.read-known kind k s is) ∙ e)
 
-pub known-read : (kind : ℕ) (k : Kind) (s : List ℕ) {n : ℕ} → kindOf kind ≡ Known k → recordFault k s ≡ n → 0 < n → readRecord kind s ≡ refused n 0
-unfolding readRecord readAs
-known-read kind k s {n} is e l = rw (is, e) (by-number n (λ z. absurd (omega arith)) (λ m z. rw z))
+pub known-refused : (kind : ℕ) (k : Kind) (s : List ℕ) {n : ℕ} → kindOf kind ≡ Known k → recordFault k s ≡ n → 0 < n → readRecord kind s ≡ refused n 0
+known-refused kind k s {n} is e l = answers.read-known kind k s is ∙ fault-read k s e l
 
 of-record : (kind : ℕ) (k : Kind) (s : List ℕ) {n p : ℕ} → kindOf kind ≡ Known k → readRecord kind s ≡ refused n p → n ∈ recordRefusals
 of-record kind k s is e =
-    let w = read-known kind k s is e in
+    let w = refused-known kind k s is e in
     subst (λ (y : ℕ). y ∈ recordRefusals) (w .0) (none-or-some recordRefusals (record-refusal k s) (omega (arith, w .0, w .1)))
 
 pub read-number : (kind : ℕ) (s : List ℕ) {n p : ℕ} → readRecord kind s ≡ refused n p → (n ≡ 4) ⊎ (n ∈ recordRefusals)

@@ -21,7 +21,6 @@ use Rattle.numbers.specs.declared.MaybeKind.{MaybeKind}
 use Rattle.numbers.specs.declared.MaybeKind.the-variants.{Known, Unknown}
 use Rattle.record_rules.specs.Read.{readRecord}
 use Rattle.record_rules.specs.declared.Record.{Record}
-use Rattle.record_writer.specs.Write.{writeRecord}
 use Rattle.record_numbers.specs.Numbers.{numbersOf, asNumbers, readNumbers, _at_, flagMost, numbersFault, fieldsFrom, writeNumbersAs, writeNumbers}
 use Rattle.record_numbers.specs.Indices.{numberCount, completeRepresentation, trailer, trailerPresent}
 use Rattle.record_numbers.proofs.Promise as numbered
@@ -142,10 +141,6 @@ fault-31 k ns = none-or-orElse (31 ∷ []) _ _ (none-or-if (31 ∷ []) fieldsFit
     (none-or-orElse (31 ∷ []) _ _ (none-or-if (31 ∷ []) fieldsFitNoRecord (flagMost k <? ns at completeRepresentation) (has-from _ _ refl))
     (none-or-if (31 ∷ []) fieldsFitNoRecord (trailerPresent <? ns at trailer) (has-from _ _ refl)))
 
-pub write-known : (kind : ℕ) (k : Kind) (ns a c x : List ℕ) (room : ℕ) → kindOf kind ≡ Known k → numbersFault k ns ≡ 0 → writeNumbers kind ns a c x room ≡ writeRecord kind (fieldsFrom k ns) a c x room
-unfolding writeNumbers writeNumbersAs writeRecord
-write-known kind k ns a c x room q e = rw (q, e)
-
 pub write-fault : (kind : ℕ) (k : Kind) (ns a c x : List ℕ) (room n : ℕ) → kindOf kind ≡ Known k → numbersFault k ns ≡ suc n → writeNumbers kind ns a c x room ≡ refused (suc n) 0
 unfolding writeNumbers writeNumbersAs
 write-fault kind k ns a c x room n q e = rw (q, e)
@@ -157,7 +152,7 @@ write-unknown kind ns a c x room q = rw q
 write-by : (kind : ℕ) (ns a c x : List ℕ) (room : ℕ) (k : MaybeKind) → kindOf kind ≡ k → {m p : ℕ} → writeNumbers kind ns a c x room ≡ refused m p → m ∈ refusalNumbers
 unfolding some
 write-by kind ns a c x room (Known k) q {m} {p} e = by-number (numbersFault k ns)
-    (λ z. write-number (records.write-refused-exactly (fieldsFrom k ns) a c x kind room m p .0 (sym (write-known kind k ns a c x room q z) ∙ e)))
+    (λ z. write-number (records.write-refused-exactly (fieldsFrom k ns) a c x kind room m p .0 (sym (numbered.write-known kind k ns a c x room q z) ∙ e)))
     (λ n z.
     let w : suc n ∈ (31 ∷ []) = subst (λ (j : ℕ). j ∈ (31 ∷ [])) z (none-or-some (31 ∷ []) (fault-31 k ns) (omega arith)) in
     subst (λ (j : ℕ). j ∈ refusalNumbers) (refused-same (sym (write-fault kind k ns a c x room n q z) ∙ e) .0) (Memᴰ·append-right bundleRefusals (Memᴰ·append-right sampleRefusals (Memᴰ·append-right (29 ∷ 30 ∷ []) w))))

@@ -2,8 +2,9 @@
 --
 --   numbers-back      the numbers of a record that was read give its fields
 --   writes-back       an accepted record, written again from its numbers, gives the same bytes
+--   write-known       the call that writes numbers, by their fields
 --   reads-back        what was written reads back as what was given
-use Prim.Native.Nat.{ℕ, _+_, _/_, _%_, _≤_}
+use Prim.Native.Nat.{ℕ, _+_, _-_, _/_, _%_, _≤_}
 use mathlib.Core.Path.{_≡_, refl, sym, _∙_}
 use mathlib.Core.Bool.{false}
 use mathlib.Core.List.{List}
@@ -11,7 +12,6 @@ use native.Mathlib.Omega.{arith}
 use native.Mathlib.Nat.{sub-self}
 use lib.ListN.{length}
 use Rattle.words.specs.Tests.{_<?_, _≡?_, pick}
-use Rattle.words.specs.RefusalNumbers.{unknownKind}
 use Rattle.words.specs.Refusals.{Answer, refused, ok}
 use Rattle.words.specs.Bytes.{Bytes, byteAt}
 use Rattle.words.specs.Buffers.{within}
@@ -20,13 +20,14 @@ use Rattle.words.proofs.Refusals.{ok-same, ok-refused}
 use Rattle.numbers.specs.Kinds.{kindOf}
 use Rattle.numbers.specs.declared.Kind.{Kind}
 use Rattle.numbers.specs.declared.Kind.the-variants.{Avc, Svc}
-use Rattle.numbers.specs.declared.MaybeKind.{MaybeKind}
-use Rattle.numbers.specs.declared.MaybeKind.the-variants.{Known, Unknown}
+use Rattle.numbers.specs.declared.MaybeKind.the-variants.{Known}
 use Rattle.record_rules.specs.Layout.{recordLayout, bit, flagOf}
 use Rattle.record_rules.specs.Trailers.{extensionTypes}
+use Rattle.sets.specs.Sets.{setsEnd}
 use Rattle.sets.proofs.Laws.{sets-none}
 use Rattle.record_rules.proofs.Shapes.{flag-back}
-use Rattle.record_rules.specs.Read.{recordFault, recordOf, trailerOf, readAs, readRecord, picturesEnd}
+use Rattle.record_rules.proofs.Answers.{accepted-as, kind-cases, read-known, read-unknown}
+use Rattle.record_rules.specs.Read.{recordOf, trailerOf, readRecord, picturesEnd}
 use Rattle.record_rules.specs.Answers.{partBytes}
 use Rattle.record_rules.specs.declared.Trailer.{Trailer}
 use Rattle.record_rules.specs.declared.Trailer.the-variants.{None, Absent, Present}
@@ -39,27 +40,6 @@ use Rattle.record_numbers.specs.Indices.{numberCount, trailerAbsent, tra
 use Rattle.record_numbers.specs.Numbers.{trailerNumbers, numbersOf, asNumbers, readNumbers, numbersFault, hasComplete, flagMost, fieldsFrom, writeNumbersAs, writeNumbers, _at_}
 use Rattle.record_numbers.specs.Promise.{sequencesIn, picturesIn, extensionsIn, Same, NumbersBack, WritesBack, ReadsBack}
 use Rattle.record_numbers.proofs.Laws.{trailer-length, read-fits, fault-none}
-
--- cases of a kind's number
-by-kind : {G : Type 0} (m : MaybeKind) → ((k : Kind) → m ≡ Known k → G) → (m ≡ Unknown → G) → G
-by-kind (Known k) f g = f k refl
-by-kind Unknown f g = g refl
-
--- a record that was read is what its bytes mean
-accepted : (k : Kind) (s : List ℕ) {r : Record} → readAs k s ≡ ok r → r ≡ recordOf k s
-unfolding readAs
-accepted k s e =
-    by-number (recordFault k s)
-    (λ z. sym (ok-same (rw z at e)))
-    (λ n z. ok-refused (rw z at e))
-
-read-known : (kind : ℕ) (k : Kind) (s : List ℕ) → kindOf kind ≡ Known k → readRecord kind s ≡ readAs k s
-unfolding readRecord
-read-known kind k s e = rw e
-
-read-unknown : (kind : ℕ) (s : List ℕ) → kindOf kind ≡ Unknown → readRecord kind s ≡ refused unknownKind 0
-unfolding readRecord
-read-unknown kind s e = rw e
 
 -- the number of a trailer is known, and gives it back
 trailer-known : (t : Trailer) (x : Part) → (trailerPresent <? trailerNumbers t x at 0) ≡ false
@@ -87,10 +67,14 @@ module _ (k : Kind) (s : List ℕ) where
   unfolding fieldsFrom numbersOf
   fields-back = rw (flag-back (hasComplete k) (byteAt s 4 / 128 % 2), trailer-back (trailerOf k s) (recordOf k s .extensions))
 
+  -- without one no bytes are read as its sets
+  none-read : setsEnd s 0 (picturesEnd k s + 0) - (picturesEnd k s + 0) ≡ 0
+  none-read = let n = sets-none extensionTypes s {n = 0} (picturesEnd k s + 0) (omega arith) in rw (n .1) (sub-self (picturesEnd k s + 0))
+
   extensions-by : (t : Trailer) → trailerOf k s ≡ t → extensionsIn s (numbersOf (recordOf k s)) ≡ partBytes s (recordOf k s .extensions)
   unfolding numbersOf
-  extensions-by None e = let n = sets-none extensionTypes s {n = 0} (picturesEnd k s + 0) (omega arith) in rw (e, n .1, sub-self (picturesEnd k s + 0))
-  extensions-by Absent e = let n = sets-none extensionTypes s {n = 0} (picturesEnd k s + 0) (omega arith) in rw (e, n .1, sub-self (picturesEnd k s + 0))
+  extensions-by None e = rw (e, none-read)
+  extensions-by Absent e = rw (e, none-read)
   extensions-by (Present t) e = rw e
 
   extensions-back : extensionsIn s (numbersOf (recordOf k s)) ≡ partBytes s (recordOf k s .extensions)
@@ -98,11 +82,11 @@ module _ (k : Kind) (s : List ℕ) where
 
 pub numbers-back : NumbersBack
 numbers-back kind k s r q e =
-    let h = accepted k s (sym (read-known kind k s q) ∙ e) in
+    let h = accepted-as k s (sym (read-known kind k s q) ∙ e) .1 in
     rw h (no-fault k s, fields-back k s)
 
 -- the call that writes numbers is the call that writes their fields
-write-known : (kind : ℕ) (k : Kind) (ns a b x : List ℕ) (room : ℕ) → kindOf kind ≡ Known k → numbersFault k ns ≡ 0 → writeNumbers kind ns a b x room ≡ writeRecord kind (fieldsFrom k ns) a b x room
+pub write-known : (kind : ℕ) (k : Kind) (ns a b x : List ℕ) (room : ℕ) → kindOf kind ≡ Known k → numbersFault k ns ≡ 0 → writeNumbers kind ns a b x room ≡ writeRecord kind (fieldsFrom k ns) a b x room
 unfolding writeNumbers writeRecord
 write-known kind k ns a b x room q e = rw (q, fault-none k ns a b x e)
 
@@ -121,7 +105,7 @@ read-numbered kind s room e = numbered room (readRecord kind s) e
 -- what stands where the numbers of a record say
 module _ (kind : ℕ) (k : Kind) (s : List ℕ) (r : Record) (q : kindOf kind ≡ Known k) (e : readRecord kind s ≡ ok r) where
   extensions-there : extensionsIn s (numbersOf r) ≡ partBytes s (r .extensions)
-  extensions-there = rw (accepted k s (sym (read-known kind k s q) ∙ e)) (extensions-back k s)
+  extensions-there = rw (accepted-as k s (sym (read-known kind k s q) ∙ e) .1) (extensions-back k s)
 
   held : Holds kind s (fieldsFrom k (numbersOf r)) (sequencesIn s (numbersOf r)) (picturesIn s (numbersOf r)) (extensionsIn s (numbersOf r))
   unfolding numbersOf
@@ -143,7 +127,7 @@ module _ (kind : ℕ) (k : Kind) (s : List ℕ) (r : Record) (q : kindOf kind �
 pub writes-back : WritesBack
 writes-back kind s ns numbers room g e l =
     let w = read-numbered kind s numbers e in
-    by-kind (kindOf kind)
+    kind-cases (kindOf kind)
     (λ k q. rw (← w .2) (again kind k s (w .0) q (w .1) room g l))
     (λ q. ok-refused (sym (read-unknown kind s q) ∙ w .1))
 

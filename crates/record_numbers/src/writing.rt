@@ -21,6 +21,31 @@ use record_rules::High;
 use record_rules::Trailer;
 use record_rules::layouts;
 
+// Where the numbers stand that are looked at.
+const PROFILE_AT: usize = 0;
+
+const COMPATIBILITY_AT: usize = 1;
+
+const LEVEL_AT: usize = 2;
+
+const COMPLETE_AT: usize = 3;
+
+const LENGTH_SIZE_AT: usize = 4;
+
+const SEQUENCE_COUNT_AT: usize = 5;
+
+const PICTURE_COUNT_AT: usize = 8;
+
+const TRAILER_AT: usize = 11;
+
+const CHROMA_FORMAT_AT: usize = 12;
+
+const LUMA_DEPTH_AT: usize = 13;
+
+const CHROMA_DEPTH_AT: usize = 14;
+
+const EXTENSION_COUNT_AT: usize = 15;
+
 // The most that complete_representation may be.
 fn flag_most(k: Kind) -> u64
     ensures { λ r. ⌜ r ≡ flagMost k ⌝ }
@@ -39,10 +64,10 @@ fn numbers_fault(k: Kind, numbers: &[u64]) -> u8
     if numbers.len() < NUMBER_COUNT {
         return refusals::FIELDS_FIT_NO_RECORD;
     }
-    if flag_most(k) < numbers[3] {
+    if flag_most(k) < numbers[COMPLETE_AT] {
         return refusals::FIELDS_FIT_NO_RECORD;
     }
-    if TRAILER_PRESENT < numbers[11] {
+    if TRAILER_PRESENT < numbers[TRAILER_AT] {
         return refusals::FIELDS_FIT_NO_RECORD;
     }
     0
@@ -67,10 +92,10 @@ fn high_from(numbers: &[u64]) -> High
     ensures { λ r. ⌜ r ≡ highFrom (now (numbers .entry)) ⌝ }
 {
     High {
-        format: numbers[12] as usize,
-        luma: numbers[13] as usize,
-        chroma: numbers[14] as usize,
-        extensions: numbers[15] as usize,
+        format: numbers[CHROMA_FORMAT_AT] as usize,
+        luma: numbers[LUMA_DEPTH_AT] as usize,
+        chroma: numbers[CHROMA_DEPTH_AT] as usize,
+        extensions: numbers[EXTENSION_COUNT_AT] as usize,
     }
 }
 
@@ -79,11 +104,11 @@ fn trailer_from(numbers: &[u64]) -> Trailer
     requires { ⌜ numberCount ≤ length (now numbers) ⌝ }
     ensures { λ r. ⌜ r ≡ trailerFrom (now (numbers .entry)) ⌝ }
 {
-    if numbers[11] == TRAILER_PRESENT {
+    if numbers[TRAILER_AT] == TRAILER_PRESENT {
         let high = high_from(numbers);
         return Trailer::Present(high);
     }
-    if numbers[11] == TRAILER_ABSENT {
+    if numbers[TRAILER_AT] == TRAILER_ABSENT {
         return Trailer::Absent;
     }
     Trailer::None
@@ -95,16 +120,16 @@ fn fields_from(k: Kind, numbers: &[u64]) -> Fields
     ensures { λ r. ⌜ r ≡ fieldsFrom k (now (numbers .entry)) ⌝ }
 {
     let l = layouts::record_layout(k);
-    let complete = flag_from(0 < l.flags, numbers[3]);
+    let complete = flag_from(0 < l.flags, numbers[COMPLETE_AT]);
     let trailer = trailer_from(numbers);
     Fields {
-        profile: numbers[0] as usize,
-        compatibility: numbers[1] as usize,
-        level: numbers[2] as usize,
+        profile: numbers[PROFILE_AT] as usize,
+        compatibility: numbers[COMPATIBILITY_AT] as usize,
+        level: numbers[LEVEL_AT] as usize,
         complete,
-        length_size: numbers[4] as usize,
-        sequences: numbers[5] as usize,
-        pictures: numbers[8] as usize,
+        length_size: numbers[LENGTH_SIZE_AT] as usize,
+        sequences: numbers[SEQUENCE_COUNT_AT] as usize,
+        pictures: numbers[PICTURE_COUNT_AT] as usize,
         trailer,
     }
 }

@@ -17,7 +17,7 @@ use Rattle.record_rules.specs.Read.{recordFault, lengthSize, sequencesEn
 use Rattle.record_rules.specs.Fields.{recordBytes}
 use Rattle.record_rules.specs.Answers.{partBytes, writtenAgain}
 use Rattle.record_rules.proofs.Shapes.{row, byte-rest, plain-byte, flags-made}
-use Rattle.record_rules.proofs.Endings.{by-ending, ending-none, ending-absent, ending-with}
+use Rattle.record_rules.proofs.Endings.{by-ending, ending-none, ending-absent, ending-present}
 use Rattle.record_rules.proofs.Parsed.{Head, Trailed, Parsed, parsed}
 
 -- the bytes of a trailer before its sets, with what follows them, are what stands from q on
@@ -37,7 +37,7 @@ module _ (k : Kind) (s : List ℕ) (g : Bytes s) (w : Parsed k s) where
       (by-ending k s (picturesEnd k s)
       (λ t. rw (ending-none k s (picturesEnd k s) t, add-zero (picturesEnd k s)))
       (λ t l. rw (ending-absent k s (picturesEnd k s) t l, add-zero (picturesEnd k s)))
-      (λ t l. rw (ending-with k s (picturesEnd k s) t l) (high-back s (picturesEnd k s) g (w .trailed t l))))
+      (λ t l. rw (ending-present k s (picturesEnd k s) t l) (high-back s (picturesEnd k s) g (w .trailed t l))))
 
   back : writtenAgain k s (recordOf k s) ≡ s
   unfolding recordBytes

@@ -1,7 +1,7 @@
 -- The ways to end a record: callers use these, not the text of `endingOf`. Assumes nothing.
 --
 --   by-ending                                  no trailer belongs there; one does and no byte follows; one does and a byte follows
---   ending-none, ending-absent, ending-with    the way that the record ends then
+--   ending-none, ending-absent, ending-present    the way that the record ends then
 use Prim.Native.Nat.{ℕ, _≤_, _<_}
 use mathlib.Core.Path.{_≡_}
 use mathlib.Core.Bool.{true, false}
@@ -30,5 +30,5 @@ module _ (k : Kind) (s : List ℕ) (q : ℕ) where
   pub ending-absent : trailerBelongs k (byteAt s 1) ≡ true → length s ≤ q → endingOf k s q ≡ Absent
   ending-absent t l = rw (t, le-leb (length s) q l)
 
-  pub ending-with : trailerBelongs k (byteAt s 1) ≡ true → q < length s → endingOf k s q ≡ Present (highOf s q)
-  ending-with t l = rw (t, lt-leb (length s) q l)
+  pub ending-present : trailerBelongs k (byteAt s 1) ≡ true → q < length s → endingOf k s q ≡ Present (highOf s q)
+  ending-present t l = rw (t, lt-leb (length s) q l)

@@ -1,6 +1,7 @@
 -- What fits a record: set by set, as the writer finds it; and every record that is read. Assumes nothing.
 --
 --   fits-by-parts     `fits` is `fitsByParts`
+--   sets-exact        sets that fit are exactly so many, without a refusal
 --   Fitting, fitting  what fits, taken apart
 --   bytes-bytes       what fits makes bytes
 --   read-fits         the fields and the parts of an accepted record fit
@@ -35,7 +36,7 @@ use Rattle.record_rules.specs.declared.Trailer.{Trailer}
 use Rattle.record_rules.specs.declared.Trailer.the-variants.{None, Absent, Present}
 use Rattle.record_rules.specs.declared.Fields.{Fields}
 use Rattle.record_rules.proofs.Shapes.{row, value-below, byte-below, plain-below, flagged, flags-fit, sound-chroma, sound-depth}
-use Rattle.record_rules.proofs.Endings.{by-ending, ending-none, ending-absent, ending-with}
+use Rattle.record_rules.proofs.Endings.{by-ending, ending-none, ending-absent, ending-present}
 use Rattle.record_rules.proofs.Parsed.{Parsed, parsed, Trailed}
 use Rattle.record_rules.proofs.BytesBack.{bytes-back}
 use Rattle.record_rules.proofs.Numbers.{Numbers, numbers, numbers-true, high-numbers, high-true}
@@ -101,7 +102,7 @@ exact-sets : (types : SetTypes) (s : List ℕ) (n : ℕ) → exactly s n ≡ tru
 unfolding exactly
 exact-sets types s n x e = fit-true types s n e (eqb-true _ _ x)
 
-sets-exact : (types : SetTypes) (s : List ℕ) (n : ℕ) → setsFit types s n ≡ true → (exactly s n ≡ true) × (setsFault types s n 0 ≡ 0)
+pub sets-exact : (types : SetTypes) (s : List ℕ) (n : ℕ) → setsFit types s n ≡ true → (exactly s n ≡ true) × (setsFault types s n 0 ≡ 0)
 unfolding setsFit
 sets-exact types s n e = let w = and-both (setsFault types s n 0 ≡? 0) (exactly s n) e in (w .1, eqb-true _ _ (w .0))
 
@@ -166,7 +167,7 @@ module _ (k : Kind) (s : List ℕ) (g : Bytes s) (w : Parsed k s) where
       by-ending k s (picturesEnd k s)
       (λ t. rw (ending-none k s (picturesEnd k s) t))
       (λ t l. rw (ending-absent k s (picturesEnd k s) t l))
-      (λ t l. rw (ending-with k s (picturesEnd k s) t l) (high-true (highOf s (picturesEnd k s))
+      (λ t l. rw (ending-present k s (picturesEnd k s) t l) (high-true (highOf s (picturesEnd k s))
       (record {
         format = value-below chromaShape (byteAt s (picturesEnd k s)) sound-chroma;
         luma = value-below depthShape (byteAt s (picturesEnd k s + 1)) sound-depth;
@@ -196,7 +197,7 @@ module _ (k : Kind) (s : List ℕ) (g : Bytes s) (w : Parsed k s) where
       by-ending k s (picturesEnd k s)
       (λ t. rw (ending-none k s (picturesEnd k s) t, t))
       (λ t l. rw (ending-absent k s (picturesEnd k s) t l, t))
-      (λ t l. rw (ending-with k s (picturesEnd k s) t l, t))
+      (λ t l. rw (ending-present k s (picturesEnd k s) t l, t))
 
   sequences-exact : exactly (part s 6 (sequencesEnd k s - 6)) (sequenceCount k s) ≡ true
   unfolding sequencesEnd

@@ -2,6 +2,7 @@
 --
 --   Shapes       a byte as flags, fixed bits and a value; what holds of each kind's row
 --   Endings      the ways to end a record
+--   Answers      what the reader's answer says
 --   Parsed       an accepted record, taken apart
 --   BytesBack    a record that was read makes the bytes that were read
 --   Numbers      what numbers that fit say
@@ -10,6 +11,7 @@
 --   Refusals     every refusal is one of the table
 pub mod Shapes
 pub mod Endings
+pub mod Answers
 pub mod Parsed
 pub mod BytesBack
 pub mod Numbers

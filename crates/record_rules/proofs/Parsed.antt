@@ -25,7 +25,7 @@ use Rattle.record_rules.specs.Trailers.{extensionTypes, chromaShape, dep
 use Rattle.record_rules.specs.Read.{lengthSize, headFault, sequenceCount, sequencesFault, sequencesEnd, pictureCount, picturesFault, picturesEnd, trailerOf, followFault, extensionsAt, recordEnd, recordFault}
 use Rattle.record_rules.specs.declared.Shape.{Shape}
 use Rattle.record_rules.proofs.Shapes.{row, value-below}
-use Rattle.record_rules.proofs.Endings.{by-ending, ending-none, ending-absent, ending-with}
+use Rattle.record_rules.proofs.Endings.{by-ending, ending-none, ending-absent, ending-present}
 
 pub there : (s : List ℕ) (p : ℕ) → missing s p ≡ 0 → p < length s
 there s p e = leb-false _ _ (if-none _ _ e)
@@ -118,11 +118,11 @@ parsed k s e =
     let j = pictures-in k s l (m .1) in
     let f : length s ≤ recordEnd k s = ltb-false _ _ (if-none _ _ (d .1)) in
     let g = orElse-none (ending (trailerOf k s) .fault s (picturesEnd k s)) _ (d .0) in
-    let t : trailerBelongs k (byteAt s 1) ≡ true → picturesEnd k s < length s → Trailed s (picturesEnd k s) = λ q u. values-good s (picturesEnd k s) (rw (ending-with k s (picturesEnd k s) q u) at (g .0)) in
+    let t : trailerBelongs k (byteAt s 1) ≡ true → picturesEnd k s < length s → Trailed s (picturesEnd k s) = λ q u. values-good s (picturesEnd k s) (rw (ending-present k s (picturesEnd k s) q u) at (g .0)) in
     let x = sets-within extensionTypes s (ending (trailerOf k s) .sets) (extensionsAt k s) (by-ending k s (picturesEnd k s)
     (λ q. rw (ending-none k s (picturesEnd k s) q) (omega (arith, j .1)))
     (λ q u. rw (ending-absent k s (picturesEnd k s) q u) (omega (arith, j .1)))
-    (λ q u. let y = t q u in rw (ending-with k s (picturesEnd k s) q u) (omega (arith, y .there)))) (g .1) in
+    (λ q u. let y = t q u in rw (ending-present k s (picturesEnd k s) q u) (omega (arith, y .there)))) (g .1) in
     record {
       head = h;
       sequences = b .0;

@@ -1,6 +1,7 @@
 -- Fields and sets are read back from the bytes that they make, byte after byte. Assumes nothing.
 --
 --   Start, start            the first bytes that fields and sets make
+--   no-bytes                no sets have no bytes
 --   Ended, ended            what ends a record is read from the bytes that it makes
 --   bytes-fault             the refusal of the bytes of fields and sets: only a length size of 3, or a set
 --   bytes-record          what these bytes mean: the fields, and where the sets stand
@@ -33,7 +34,7 @@ use Rattle.record_rules.specs.declared.Trailer.{Trailer}
 use Rattle.record_rules.specs.declared.Trailer.the-variants.{None, Absent, Present}
 use Rattle.record_rules.specs.declared.Fields.{Fields}
 use Rattle.record_rules.specs.declared.Record.{Record}
-use Rattle.record_rules.proofs.Endings.{ending-none, ending-absent, ending-with}
+use Rattle.record_rules.proofs.Endings.{ending-none, ending-absent, ending-present}
 use Rattle.record_rules.proofs.Shapes.{sound-chroma, sound-depth, row, byte-below, plain-rest, fixed-back, value-back, Flagged, flagged}
 use Rattle.record_rules.proofs.Numbers.{Numbers, HighNumbers, high-numbers}
 
@@ -105,7 +106,7 @@ high-back s q t x w n =
     )
 
 -- no sets have no bytes
-no-bytes : (x : List ℕ) → exactly x 0 ≡ true → x ≡ []
+pub no-bytes : (x : List ℕ) → exactly x 0 ≡ true → x ≡ []
 unfolding exactly
 no-bytes [] e = refl
 no-bytes (a ∷ x) e =
@@ -125,7 +126,7 @@ read-ending k s q Absent x h e n i g =
 read-ending k s q (Present t) x h e n i g =
     let f = at-four s q _ _ _ _ x e in
     let w = high-back s q t x f (high-numbers t n) in
-    (ending-with k s q g (omega (arith, f .there)) ∙ ap Present (w .0), w .1)
+    (ending-present k s q g (omega (arith, f .there)) ∙ ap Present (w .0), w .1)
 
 pub ended :
     (k : Kind) (s : List ℕ) (q : ℕ) (t : Trailer) (x : List ℕ) → q ≤ length s → drop q s ≡ ending t .head ++ x →

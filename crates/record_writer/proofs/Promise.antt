@@ -3,32 +3,31 @@
 --   writes-back       an accepted record, written again, gives the same bytes
 --   reads-back        what was written reads back as what was given
 --   misfits-exactly   31 arises exactly if no accepted record has those fields and sets
+--   within-ok, written               what was written, by the answer within its room, and by the fields
 --   read-refusals, write-refusals    every refusal is one of the named, at place 0
-use Prim.Native.Nat.{ℕ, zero, suc, _≤_, _<_}
-use mathlib.Core.Path.{_≡_, refl, ap, sym, _∙_}
+use Prim.Native.Nat.{ℕ, _≤_, _<_}
+use mathlib.Core.Path.{_≡_, refl, ap, sym, _∙_, subst}
 use mathlib.Core.Bool.{Bool, true, false, not}
 use mathlib.Core.List.{List, List·Memᴰ·head, List·Memᴰ·tail}
 use mathlib.Core.Logic.{_⊎_, inl, inr, ⊎-elim}
 use native.Mathlib.Omega.{arith}
-use native.Mathlib.Nat.{pos-of-ne-zero}
+use borrow.Author.Tests.{ltb-false}
 use lib.ListN.{length}
 use Rattle.words.specs.Tests.{_<?_}
 use Rattle.words.specs.RefusalNumbers.{unknownKind, recordRefusals, fieldsFitNoRecord, outputTooLong}
-use Rattle.words.specs.Refusals.{_if_, Answer, refused, ok, _atPlace_, _andThen_}
+use Rattle.words.specs.Refusals.{_if_, Answer, refused, ok}
 use Rattle.words.specs.Bytes.{Bytes}
 use Rattle.words.specs.Buffers.{within}
-use Rattle.words.proofs.Tests.{by-bool, by-number, true-false}
+use Rattle.words.proofs.Tests.{by-bool, true-false}
 use Rattle.words.proofs.Refusals.{ok-same, ok-refused, none-or-some, refused-same}
 use Rattle.words.proofs.Buffers.{within-room, within-not}
 use Rattle.numbers.specs.Kinds.{kindOf, onKind}
 use Rattle.numbers.specs.declared.Kind.{Kind}
-use Rattle.numbers.specs.declared.MaybeKind.{MaybeKind}
 use Rattle.numbers.specs.declared.MaybeKind.the-variants.{Known, Unknown}
-use Rattle.record_rules.specs.Read.{recordFault, recordOf, readAs, readRecord}
 use Rattle.record_rules.specs.Fields.{recordBytes, placed, fits}
 use Rattle.record_rules.specs.Answers.{partBytes, writtenAgain}
 use Rattle.record_rules.specs.declared.Fields.{Fields}
-use Rattle.record_rules.specs.declared.Record.{Record}
+use Rattle.record_rules.proofs.Answers.{accepted-as, good-read, refused-as, kind-cases, read-known, read-unknown}
 use Rattle.record_rules.proofs.BytesBack.{bytes-back}
 use Rattle.record_rules.proofs.ReadsBack.{bytes-record, bytes-parts}
 use Rattle.record_rules.proofs.Fits.{Fitting, fitting, bytes-bytes, read-fits}
@@ -37,29 +36,8 @@ use Rattle.record_writer.specs.Write.{writeAs, writeRecord}
 use Rattle.record_writer.specs.Promise.{Holds, WritesBack, ReadsBack, MisfitsExactly, ReadRefusals, WriteRefusals}
 use Rattle.record_writer.proofs.Laws.{write-misfit, write-fits}
 
--- cases of a kind's number
-by-kind : {G : Type 0} (m : MaybeKind) → ((k : Kind) → m ≡ Known k → G) → (m ≡ Unknown → G) → G
-by-kind (Known k) f g = f k refl
-by-kind Unknown f g = g refl
-
--- an accepted record of a kind
-accepted-as : (k : Kind) (s : List ℕ) {r : Record} → readAs k s ≡ ok r → (recordFault k s ≡ 0) × (r ≡ recordOf k s)
-unfolding readAs
-accepted-as k s {r} e =
-    by-number (recordFault k s)
-    (λ z. (z, sym (ok-same (rw z at e))))
-    (λ n z. ok-refused (rw z at e))
-
--- what reading and writing a kind says of the call with its number
+-- what writing a kind says of the call with its number
 module _ (kind : ℕ) where
-  read-known : (k : Kind) (s : List ℕ) → kindOf kind ≡ Known k → readRecord kind s ≡ readAs k s
-  unfolding readRecord
-  read-known k s e = rw e
-
-  read-unknown : (s : List ℕ) → kindOf kind ≡ Unknown → readRecord kind s ≡ refused unknownKind 0
-  unfolding readRecord
-  read-unknown s e = rw e
-
   write-known : (k : Kind) (f : Fields) (a b x : List ℕ) (room : ℕ) → kindOf kind ≡ Known k → writeRecord kind f a b x room ≡ within room (writeAs k f a b x)
   unfolding writeRecord
   write-known k f a b x room e = rw e
@@ -77,21 +55,20 @@ held kind k s f a b x q g h =
 
 pub writes-back : WritesBack
 writes-back kind s f a b x room g h l =
-    by-kind (kindOf kind)
+    kind-cases (kindOf kind)
     (λ k q. let w = held kind k s f a b x q g h in
     write-known kind k f a b x room q ∙ ap (within room) (write-fits k f a b x (w .0) ∙ ap ok (w .1)) ∙ within-room room s l)
     (λ q. ok-refused (sym (read-unknown kind s q) ∙ h .read))
 
 -- an answer within its room
-within-ok : (room : ℕ) (v : Answer (List ℕ)) {s : List ℕ} → within room v ≡ ok s → v ≡ ok s
+pub within-ok : (room : ℕ) (v : Answer (List ℕ)) {s : List ℕ} → within room v ≡ ok s → (v ≡ ok s) × (length s ≤ room)
 within-ok room (refused n p) e = ok-refused e
-within-ok room (ok out) e =
-    by-bool (room <? length out)
+within-ok room (ok out) {s} e = by-bool (room <? length out)
     (λ t. ok-refused (rw t at e))
-    (λ t. rw t at e)
+    (λ t. let q : ok out ≡ ok s = rw t at e in let l : length out ≤ room = ltb-false _ _ t in (q, subst (λ (z : List ℕ). length z ≤ room) (ok-same q) l))
 
 -- what is written fits, and is what the fields make
-written : (k : Kind) (f : Fields) (a b x : List ℕ) {s : List ℕ} → writeAs k f a b x ≡ ok s → (fits k f a b x ≡ true) × (recordBytes k f a b x ≡ s)
+pub written : (k : Kind) (f : Fields) (a b x : List ℕ) {s : List ℕ} → writeAs k f a b x ≡ ok s → (fits k f a b x ≡ true) × (recordBytes k f a b x ≡ s)
 written k f a b x e =
     by-bool (fits k f a b x)
     (λ t. (t, ok-same (sym (write-fits k f a b x t) ∙ e)))
@@ -99,13 +76,13 @@ written k f a b x e =
 
 -- what fits is held by the bytes that it makes
 holds : (kind : ℕ) (k : Kind) (f : Fields) (a b x : List ℕ) → kindOf kind ≡ Known k → fits k f a b x ≡ true → Holds kind (recordBytes k f a b x) f a b x
-unfolding readAs
 holds kind k f a b x q t =
     let w = fitting k f a b x t in
     let p = bytes-parts k f a b x (w .numbers) (w .sequences) (w .pictures) (w .extensions) (w .belongs) in
     record {
       found = placed f a b x;
-      read = read-known kind k (recordBytes k f a b x) q ∙ rw (w .good, bytes-record k f a b x (w .numbers) (w .sequences) (w .pictures) (w .extensions) (w .belongs));
+      read = read-known kind k (recordBytes k f a b x) q ∙ good-read k (recordBytes k f a b x) (w .good)
+          ∙ ap ok (bytes-record k f a b x (w .numbers) (w .sequences) (w .pictures) (w .extensions) (w .belongs));
       fields = refl;
       sequences = p .0;
       pictures = p .1;
@@ -114,8 +91,8 @@ holds kind k f a b x q t =
 
 pub reads-back : ReadsBack
 reads-back kind s f a b x room e =
-    by-kind (kindOf kind)
-    (λ k q. let w = written k f a b x (within-ok room (writeAs k f a b x) (sym (write-known kind k f a b x room q) ∙ e)) in
+    kind-cases (kindOf kind)
+    (λ k q. let w = written k f a b x (within-ok room (writeAs k f a b x) (sym (write-known kind k f a b x room q) ∙ e) .0) in
     rw (w .1) at (holds kind k f a b x q (w .0)))
     (λ q. ok-refused (sym (write-unknown kind f a b x room q) ∙ e))
 
@@ -136,18 +113,12 @@ misfits-exactly kind k f a b x room q ga gb gx = (
       (λ t. write-known kind k f a b x room q ∙ ap (within room) (write-misfit k f a b x t)),
 )
 
--- a refusal's number and place
-at-zero : {A : Type 0} (n : ℕ) (a : A) {m p : ℕ} → (n atPlace 0 andThen ok a) ≡ refused m p → (m ≡ n) × (p ≡ 0) × (n ≡ 0 → ⊥)
-at-zero zero a e = ok-refused (sym e)
-at-zero (suc n) a e = let w = refused-same e in (sym (w .0), sym (w .1), λ z. omega arith)
-
 pub read-refusals : ReadRefusals
-unfolding readAs
 read-refusals kind s n p e =
-    by-kind (kindOf kind)
+    kind-cases (kindOf kind)
     (λ k q.
-    let w = at-zero (recordFault k s) (recordOf k s) (sym (read-known kind k s q) ∙ e) in
-    (w .1, rw (w .0) (List·Memᴰ·tail (none-or-some recordRefusals (record-refusal k s) (pos-of-ne-zero (w .2))))))
+    let w = refused-as k s (sym (read-known kind k s q) ∙ e) in
+    (w .2, rw (← w .0) (List·Memᴰ·tail (none-or-some recordRefusals (record-refusal k s) (omega (arith, w .0, w .1))))))
     (λ q. let w = refused-same (sym (read-unknown kind s q) ∙ e) in (sym (w .1), List·Memᴰ·head (sym (w .0))))
 
 within-refused : (room : ℕ) (v : Answer (List ℕ)) {n p : ℕ} → within room v ≡ refused n p → (v ≡ refused n p) ⊎ ((n ≡ outputTooLong) × (p ≡ 0))
@@ -159,7 +130,7 @@ within-refused room (ok out) e =
 
 pub write-refusals : WriteRefusals
 write-refusals kind f a b x room n p e =
-    by-kind (kindOf kind)
+    kind-cases (kindOf kind)
     (λ k q. ⊎-elim
     (λ r. by-bool (fits k f a b x)
     (λ t. ok-refused (sym (sym (write-fits k f a b x t) ∙ r)))

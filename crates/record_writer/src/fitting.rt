@@ -64,13 +64,13 @@ fn facts(head: usize, sets: usize, fits: bool, belongs: bool) -> Facts
 pub(crate) fn facts_of(k: Kind, profile: usize, trailer: Trailer) -> Facts
     ensures { λ r. ⌜ (r ≡ factsOf k profile trailer) × (r .head ≤ 4) ⌝ }
 {
-    let has = layouts::trailer_belongs(k, profile);
+    let wanted = layouts::trailer_belongs(k, profile);
     match trailer {
-        Trailer::None => facts(0, 0, true, !has),
-        Trailer::Absent => facts(0, 0, true, has),
+        Trailer::None => facts(0, 0, true, !wanted),
+        Trailer::Absent => facts(0, 0, true, wanted),
         Trailer::Present(t) => {
             let fits = high_fits(t);
-            facts(layouts::TRAILER_HEAD, t.extensions, fits, has)
+            facts(layouts::TRAILER_HEAD, t.extensions, fits, wanted)
         }
     }
 }

@@ -3,7 +3,7 @@
 --   head-on               the bytes after the version
 --   walked                what a walk over sets has found
 --   cut-walk              a walk that is refused before its sets
---   follow-none, follow-absent, follow-refused, follow-with    what follows the picture sets
+--   follow-none, follow-absent, follow-refused, follow-present    what follows the picture sets
 --   refused-head, -sequences, -pictures, -follow, -after, whole-record, accepted    the reader's answer, from its steps
 use Prim.Native.Nat.{ℕ, _+_, _≤_, _<_}
 use mathlib.Core.Path.{_≡_, refl, ap, sym, _∙_}
@@ -31,7 +31,7 @@ use Rattle.record_rules.specs.declared.High.{High}
 use Rattle.record_rules.specs.declared.Trailer.{Trailer}
 use Rattle.record_rules.specs.declared.Trailer.the-variants.{None, Absent, Present}
 use Rattle.record_rules.specs.declared.Record.{Record}
-use Rattle.record_rules.proofs.Endings.{ending-none, ending-absent, ending-with}
+use Rattle.record_rules.proofs.Endings.{ending-none, ending-absent, ending-present}
 
 pub head-on : (k : Kind) (s : List ℕ) → 0 < length s → byteAt s 0 ≡ 1 → headFault k s ≡ (byteFault s (recordLayout k .«length_size») 4 orElse badLengthSize if lengthSize k s ≡? 3 orElse byteFault s (recordLayout k .count) 5)
 unfolding headFault
@@ -66,25 +66,25 @@ module _ (k : Kind) (s : List ℕ) (q : ℕ) (at-end : q ≡ picturesEnd k s) wh
     follow-absent l = follow-nothing Absent (ending-absent k s (picturesEnd k s) t (omega arith)) refl
 
     module _ (w : Walk) (l : q < length s) (v : Walked w (valuesFault s q orElse setsFault extensionTypes s (byteAt s (q + 3)) (q + 4)) (setsEnd s (byteAt s (q + 3)) (q + 4))) where
-      is-with : trailerOf k s ≡ Present (highOf s q)
-      is-with = rw at-end (ending-with k s (picturesEnd k s) t (omega arith))
+      is-present : trailerOf k s ≡ Present (highOf s q)
+      is-present = rw at-end (ending-present k s (picturesEnd k s) t (omega arith))
 
       pub follow-refused : (w .fault ≡ 0 → ⊥) → Followed k s (record { fault = w .fault; trailer = None; start = 0; end = 0 })
       follow-refused f =
           record {
-            refusal = rw (is-with, ← at-end) (v .refusal);
+            refusal = rw (is-present, ← at-end) (v .refusal);
             trailer = λ z. absurd (f z);
             sets = λ z. absurd (f z);
             place = λ z. absurd (f z);
           }
 
-      pub follow-with : (h : High) → w .fault ≡ 0 → h ≡ highOf s q → Followed k s (record { fault = 0; trailer = Present h; start = q + 4; end = w .end })
-      follow-with h f e =
+      pub follow-present : (h : High) → w .fault ≡ 0 → h ≡ highOf s q → Followed k s (record { fault = 0; trailer = Present h; start = q + 4; end = w .end })
+      follow-present h f e =
           record {
-            refusal = rw (is-with, ← at-end) (sym f ∙ v .refusal);
-            trailer = λ z. rw (is-with, e);
-            sets = λ z. rw (is-with, ← at-end);
-            place = λ z. rw (is-with, ← at-end) (v .place f);
+            refusal = rw (is-present, ← at-end) (sym f ∙ v .refusal);
+            trailer = λ z. rw (is-present, e);
+            sets = λ z. rw (is-present, ← at-end);
+            place = λ z. rw (is-present, ← at-end) (v .place f);
           }
 
 -- the reader's answer, from the refusals of its steps

@@ -1,4 +1,4 @@
--- Without a trailer, with none where one belongs, with one that is refused, and with one. Assumes nothing.
+-- No trailer belongs there; it is absent; it is refused; it is there. Assumes nothing.
 use borrow.Author.Needs.{needs}
 use native.Mathlib.Omega.{arith}
 use mathlib.Core.Path.{_≡_, sym, _∙_}
@@ -11,7 +11,7 @@ use Rattle.words.specs.Bytes.{byteAt}
 use Rattle.words.proofs.Refusals.{orElse-none}
 use Rattle.record_rules.specs.Trailers.{trailerBelongs, valuesFault}
 use Rattle.record_rules.proofs.Parsed.{values-good}
-use Rattle.records.proofs.Walked.{follow-none, follow-absent, follow-refused, follow-with}
+use Rattle.records.proofs.Walked.{follow-none, follow-absent, follow-refused, follow-present}
 use Rattle.records.proofs.steps.follow_of.Tie as tie
 
 -- a trailer belongs there
@@ -79,7 +79,7 @@ returns-4 : tie.Need-returns-4
 returns-4 c =
     let w = c .before .before .before in
     let b = begun w in
-    follow-with (b .args .k) (b .args .s .now) (b .args .at) (b .pre .2) (belongs (w .before .before)) (w .walk-trailer .result) (some w) (w .walk-trailer .ensures) (c .high-of .result) (c .before .if3 .left) (c .high-of .ensures)
+    follow-present (b .args .k) (b .args .s .now) (b .args .at) (b .pre .2) (belongs (w .before .before)) (w .walk-trailer .result) (some w) (w .walk-trailer .ensures) (c .high-of .result) (c .before .if3 .left) (c .high-of .ensures)
 
 pub follow-of-spec : {M : Type 1} → statement M
 follow-of-spec =
