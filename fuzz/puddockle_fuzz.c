@@ -5,89 +5,29 @@
  * the number is one that the call may give, what is written ends at the count, nothing is written on a refusal, the
  * input is unchanged, both calls agree. Between calls: a record read and written again is the same bytes; a record is
  * accepted up to its trailer, and not with a part of it; the units of a resolved sample are those asked for one by one;
- * the audit's line agrees with resolving.
+ * the audit's line agrees with resolving; contents.c has the calls on the contents of a bundle.
  *
  * The answers themselves are fed back to the fuzzer as counters, since the library brings none of its own.
  */
-#include <stdio.h>
-#include <stdlib.h>
 #include <string.h>
 
 #include "../include/puddockle.h"
+#include "answer.h"
 #include "build.h"
+#include "contents.h"
 #include "input.h"
 #include "lend.h"
 
 /* Room for what is built and for most outputs; an output that is longer gives 29. */
 #define ROOM 8192
-#define UNSET 0xDEADBEEF5A5AA5A5u
 
-enum call { READ_RECORD, WRITE_RECORD, CHECK_SAMPLE, CHECK_BUNDLE, RESOLVE, UNIT, NAMES, AUDIT, CALLS };
-
-static const char *const names[CALLS] = {"read_record", "write_record", "check_sample", "check_bundle",
-                                         "resolve",     "unit",         "names",        "audit"};
-
-/* Bit n is set where the call may give number n. */
-#define RANGE(first, last) (((uint64_t)2 << (last)) - ((uint64_t)1 << (first)))
-static const uint64_t allowed[CALLS] = {
-    RANGE(0, 0) | RANGE(4, 4) | RANGE(8, 13) | RANGE(29, 29),
-    RANGE(0, 0) | RANGE(4, 4) | RANGE(29, 29) | RANGE(31, 31),
-    RANGE(0, 0) | RANGE(4, 4) | RANGE(11, 11) | RANGE(14, 22),
-    RANGE(0, 13),
-    RANGE(0, 30),
-    RANGE(0, 28) | RANGE(30, 30),
-    RANGE(0, 13) | RANGE(29, 30),
-    RANGE(0, 13) | RANGE(29, 29),
-};
-
-__attribute__((section("__libfuzzer_extra_counters"))) static uint8_t counters[CALLS * 32 * 16];
-static uint64_t reached[CALLS][32];
 /* Records read and written, by PUDDOCKLE_TRAILER. */
 static uint64_t trailers[2][3];
 
-#define MUST(condition)                                                       \
-    do {                                                                      \
-        if (!(condition)) {                                                   \
-            fprintf(stderr, "%s:%d: %s\n", __FILE__, __LINE__, #condition);   \
-            abort();                                                          \
-        }                                                                     \
-    } while (0)
-
-/* What a call returned and set. */
-struct answer {
-    uint32_t number;
-    uint64_t place, count, start, length, passed, empty, refused;
-};
-
-static const struct answer unset = {0, UNSET, UNSET, UNSET, UNSET, UNSET, UNSET, UNSET};
-
-/* What holds of every answer; `detail` tells like answers apart for the fuzzer. */
-static void judge(enum call call, const struct answer *a, uint64_t detail) {
-    MUST(a->number < 32 && (allowed[call] >> a->number & 1));
-    MUST(a->place != UNSET);
-    MUST(a->number != 0 || a->place == 0);
-    MUST(a->number < 29 || a->place == 0);
-    reached[call][a->number]++;
-    counters[(call * 32 + a->number) * 16 + detail % 16] = 1;
-}
-
-/* What holds of the slice lent for the output. */
-static void judge_output(const struct answer *a, const uint8_t *out, size_t room) {
-    MUST(a->count <= room);
-    MUST(a->number == 0 || a->count == 0);
-    MUST(untouched(out, a->count, room));
-}
-
-static void print_reached(void) {
-    for (int call = 0; call < CALLS; call++) {
-        fprintf(stderr, "%12s ", names[call]);
-        for (int number = 0; number < 32; number++)
-            if (allowed[call] >> number & 1)
-                fprintf(stderr, " %d:%llu", number, (unsigned long long)reached[call][number]);
-        fprintf(stderr, "\n");
-    }
+static void print_all(void) {
+    print_reached();
     for (int call = READ_RECORD; call <= WRITE_RECORD; call++)
-        fprintf(stderr, "%12s  trailer none:%llu absent:%llu present:%llu\n", names[call],
+        fprintf(stderr, "%12s  trailer none:%llu absent:%llu present:%llu\n", call_names[call],
                 (unsigned long long)trailers[call][0], (unsigned long long)trailers[call][1],
                 (unsigned long long)trailers[call][2]);
 }
@@ -95,7 +35,7 @@ static void print_reached(void) {
 int LLVMFuzzerInitialize(int *argc, char ***argv) {
     (void)argc, (void)argv;
     lend_init();
-    atexit(print_reached);
+    atexit(print_all);
     return 0;
 }
 
@@ -336,7 +276,7 @@ static struct answer audit(const uint8_t *bundle, size_t length, uint8_t *lines,
     MUST(a.passed + a.empty + a.refused == a.count / PUDDOCKLE_LINE && a.count % PUDDOCKLE_LINE == 0);
     for (size_t at = 0; at < a.count; at += PUDDOCKLE_LINE) {
         MUST(lines[at] == 0 || (lines[at] >= 14 && lines[at] <= 28));
-        counters[(AUDIT * 32 + lines[at]) * 16 + 15] = 1;
+        note_line(lines[at]);
     }
     return a;
 }
@@ -357,37 +297,38 @@ static void compare_units(const uint8_t *bundle, size_t length, uint64_t sample,
     MUST(unit(bundle, length, sample, 0).number == 30);
 }
 
-/* All calls on one bundle. */
-static void try_bundle(const uint8_t *bundle, size_t length, struct input *in, enum side side, struct answer all[5]) {
+/* All calls on one bundle; all[CALL] is what CALL answers. */
+static void try_bundle(const uint8_t *bundle, size_t length, struct input *in, enum side side,
+                       struct answer all[CALLS]) {
     static uint8_t lines[ROOM];
-    all[0] = check_bundle(bundle, length);
-    all[1] = audit(bundle, length, lines, sizeof lines);
-    MUST(all[1].number == all[0].number && all[1].place == all[0].place);
-    uint64_t sample = take_mostly_small(in), samples = all[1].count / PUDDOCKLE_LINE;
+    all[CHECK_BUNDLE] = check_bundle(bundle, length);
+    all[AUDIT] = audit(bundle, length, lines, sizeof lines);
+    MUST(all[AUDIT].number == all[CHECK_BUNDLE].number && all[AUDIT].place == all[CHECK_BUNDLE].place);
+    uint64_t sample = take_mostly_small(in), samples = all[AUDIT].count / PUDDOCKLE_LINE;
     uint8_t *out = lend(OUT, side, ROOM);
-    all[2] = resolve(bundle, length, sample, out, ROOM);
-    if (all[0].number != 0) {
-        MUST(all[2].number == all[0].number && all[2].place == all[0].place);
+    all[RESOLVE] = resolve(bundle, length, sample, out, ROOM);
+    if (all[CHECK_BUNDLE].number != 0) {
+        MUST(all[RESOLVE].number == all[CHECK_BUNDLE].number && all[RESOLVE].place == all[CHECK_BUNDLE].place);
     } else if (sample == 0 || sample > samples) {
-        MUST(all[2].number == 30);
+        MUST(all[RESOLVE].number == 30);
     } else {
         const uint8_t *line = lines + (sample - 1) * PUDDOCKLE_LINE;
         uint64_t place = (uint64_t)line[1] << 24 | line[2] << 16 | line[3] << 8 | line[4], units = 0;
         for (int i = 5; i < PUDDOCKLE_LINE; i++)
             units = units << 8 | line[i];
-        MUST(all[2].number == 29 || (all[2].number == line[0] && all[2].place == place));
-        if (all[2].number == 0)
-            compare_units(bundle, length, sample, out, all[2].count, units);
+        MUST(all[RESOLVE].number == 29 || (all[RESOLVE].number == line[0] && all[RESOLVE].place == place));
+        if (all[RESOLVE].number == 0)
+            compare_units(bundle, length, sample, out, all[RESOLVE].count, units);
     }
     /* Exact rooms are enough, one byte less is not. */
-    if (all[2].number == 0 && all[2].count > 0) {
-        uint64_t count = all[2].count;
+    if (all[RESOLVE].number == 0 && all[RESOLVE].count > 0) {
+        uint64_t count = all[RESOLVE].count;
         MUST(resolve(bundle, length, sample, lend(OUT, side, count), count).number == 0);
         MUST(resolve(bundle, length, sample, lend(OUT, side, count - 1), count - 1).number == 29);
     }
-    all[3] = list(bundle, length, sample, lend(OUT, side, ROOM), ROOM);
-    if (all[3].number == 0 && all[3].count > 0) {
-        uint64_t count = all[3].count;
+    all[NAMES] = list(bundle, length, sample, lend(OUT, side, ROOM), ROOM);
+    if (all[NAMES].number == 0 && all[NAMES].count > 0) {
+        uint64_t count = all[NAMES].count;
         MUST(list(bundle, length, sample, lend(OUT, side, count), count).number == 0);
         MUST(list(bundle, length, sample, lend(OUT, side, count - 1), count - 1).number == 29);
     }
@@ -396,11 +337,17 @@ static void try_bundle(const uint8_t *bundle, size_t length, struct input *in, e
         MUST(audit(bundle, length, lend(OUT, side, room), room).number == 0);
         MUST(audit(bundle, length, lend(OUT, side, room - 1), room - 1).number == 29);
     }
-    all[4] = unit(bundle, length, sample, take_mostly_small(in));
+    uint64_t number = take_mostly_small(in);
+    all[UNIT] = unit(bundle, length, sample, number);
+    try_contents(bundle, length, sample, number, side, all);
+    /* Resolving and the list of units refuse alike, but for the room. */
+    MUST(all[RESOLVE].number == 29 || all[UNITS].number == 29 ||
+         (all[UNITS].number == all[RESOLVE].number && all[UNITS].place == all[RESOLVE].place));
 }
 
 static void try_both_sides(const uint8_t *bundle, size_t length, struct input in) {
-    struct answer all[2][5];
+    struct answer all[2][CALLS];
+    memset(all, 0, sizeof all);
     for (int side = AT_END; side <= AT_START; side++) {
         struct input same = in;
         const uint8_t *lent = lend_copy(IN_1, side, bundle, length);

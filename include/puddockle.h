@@ -1,67 +1,46 @@
 /*
  * Puddockle: verified reading of inspection video, for C.
  *
- * Decoder configuration records read and written, samples checked and resolved to plain NAL units, a whole
- * recording (a bundle) audited, the extractors that name a sample listed. Layouts are those of
+ * Decoder configuration records read and written, samples checked and resolved to plain NAL units, what is in a
+ * recording (a bundle) told, the whole of it audited, the extractors that name a sample listed. Layouts are those of
  * ISO/IEC 14496-15:2010, 5.2.4.1 and Annexes A and B.
  * docs/FORMAT.md has all rules: the bundle, records, units, resolving, and what to do about each refusal.
  *
  * Link with libpuddockle.a:  cc -Iinclude program.c -Ltarget/staticlib -lpuddockle
+ * The library is code for x86-64 Linux and for no other machine; elsewhere the programs ./audit and ./names run by the
+ * Rattle kit's emulator. Of the C library it needs memcpy and memset.
  *
  * How every function behaves
  *
  * - It returns 0 where the input is accepted, else the number of the refusal (see below).
- * - A byte slice is a pointer and a length in bytes. The pointer may be NULL where the length is 0. A slice of
- *   fields is a pointer to uint64_t and a length in numbers. Slices that are written to must not overlap others.
- * - place, count, start, length, passed, empty and refused point to one uint64_t each, must not be NULL, must not
- *   overlap anything else, and are set on every call: 0 where there is nothing to say.
+ * - A byte slice is a pointer and a length in bytes; a slice of numbers is a pointer to uint64_t and a length in
+ *   numbers. Either pointer may be NULL where the length is 0. Slices that are written to must not overlap others.
+ * - Every other pointer points to one uint64_t, must not be NULL, and must not overlap anything else. All these
+ *   numbers are set on every call: 0 where there is nothing to say, and on a refusal, but for *place.
  * - On a refusal the output slice is untouched and *count is 0. Where accepted, the output slice is written up to
- *   *count and not past it.
+ *   *count (puddockle_read_record: PUDDOCKLE_FIELDS) and not past it.
  * - Any bytes and any numbers may be given: nothing needs to be checked before a call. A number that is out of
  *   range is refused, never cut.
  * - Nothing is kept between calls, nothing is allocated, no pointer is held. Functions may be called from several
  *   threads at once on slices of their own. Calls on a bundle use up to 160 KB of stack.
  *
- * Numbers are big-endian wherever they stand in bytes. kind is 0 for AVC and 1 for SVC. L is the length size: the
- * number of bytes, 1, 2 or 4, of the length before each NAL unit. Tracks, samples and delivered units are numbered
- * from 1.
+ * Numbers are big-endian wherever they stand in bytes. L is the length size: the number of bytes, 1, 2 or 4, of the
+ * length before each NAL unit. Tracks, references, samples and delivered units are numbered from 1.
  *
- * The refusals, with the place of each
+ * How much room an output needs
  *
- *    1  bundle longer than 16,777,216 bytes: 0
- *    2  bundle ends inside a count, an entry or the sample bytes: start of that count or entry; for sample bytes
- *       the fourth count
- *    3  count beyond its limits: the count
- *    4  unknown kind: the track entry; 0 outside a bundle
- *    5  bad reference, a track that is not there, the same track, or another L: the reference entry
- *    6  sample in a track that is not there, or track number or time out of order: the sample entry
- *    7  count of sample bytes differs from the sum of the lengths, or bytes follow: that count
- *    8  record cut short: the track entry; 0 for a record alone
- *    9  record's version is not 1: as 8
- *   10  fixed bits of the record are wrong: as 8
- *   11  record's length size is 3: as 8; a length size given to puddockle_check_sample is not 1, 2 or 4: 0
- *   12  set is empty, has its top bit set or a wrong type: as 8
- *   13  bytes after the record: as 8
- *   14  length field is cut: where it starts
- *   15  unit longer than what is left: its length field
- *   16  unit of length 0: its length field
- *   17  unit's top header bit is 1: its length field
- *   18  unit under 4 bytes (types 14, 20, 31) or under 4 + L (type 30): its length field
- *   19  aggregator in an aggregator: its length field
- *   20  unit of type 1 to 5 included in an aggregator in an AVC track: its length field
- *   21  additional_bytes do not end on a unit border or cover an aggregator: the aggregator's length field
- *   22  extractor is not 6 + 2L bytes: its length field
- *   23  track_ref_index is 0 or past the last: the extractor's length field
- *   24  no sample is named: as 23
- *   25  sample named is not well formed: as 23
- *   26  data_offset is not the start of a top-level unit: as 23
- *   27  data_length does not end on a top-level border: as 23
- *   28  an extractor in the copy: as 23
- *   29  output longer than the slice lent for it: 0
- *   30  sample number, or number of a delivered unit, is 0 or past the last: 0
- *   31  fields fit no record: 0
+ *   puddockle_audit    PUDDOCKLE_LINE bytes a sample of puddockle_counts; at most PUDDOCKLE_LINES_MOST
+ *   puddockle_units    PUDDOCKLE_SPAN numbers for each unit that the sample's audit line says
+ *   puddockle_resolve  the sum of 4 and the length of each unit of puddockle_units
+ *   puddockle_names    never more bytes than the bundle has
  *
- * Places of 1 to 13 are offsets in the bundle, of 14 to 28 offsets in the sample that was asked for or given.
+ * How time grows
+ *
+ * The head of a bundle is its sections one to three (tracks with their records, references, sample entries), at most
+ * 1.1 MB. puddockle_check_bundle goes over it once, every other call on a bundle twice: checked, then put in a table of
+ * 134 KB on the stack. Of the sample bytes a call reads only what it is asked for. To judge a sample takes time as its
+ * own bytes and, for each of its extractors, as the samples of the linked track and the bytes of the sample named,
+ * which is checked and walked for each extractor anew. Each function says what it does of that.
  */
 #ifndef PUDDOCKLE_H
 #define PUDDOCKLE_H
@@ -72,6 +51,88 @@
 #ifdef __cplusplus
 extern "C" {
 #endif
+
+#define PUDDOCKLE_VERSION "0.1.0"
+#define PUDDOCKLE_VERSION_MAJOR 0
+#define PUDDOCKLE_VERSION_MINOR 1
+#define PUDDOCKLE_VERSION_PATCH 0
+
+/* What a function returns: 0, or a refusal. After each its place. Those of 1 to 13 are offsets in the bundle, those of
+ * 14 to 28 offsets in the sample that was asked for or given. */
+enum {
+    PUDDOCKLE_ACCEPTED = 0,
+
+    /* the bundle */
+    PUDDOCKLE_REFUSED_BUNDLE_TOO_LONG = 1,          /* longer than PUDDOCKLE_BUNDLE_MOST: 0 */
+    PUDDOCKLE_REFUSED_BUNDLE_CUT = 2,               /* ends inside a count, an entry or the sample bytes: start of that
+                                                       count or entry; for sample bytes the fourth count */
+    PUDDOCKLE_REFUSED_COUNT_OUT_OF_LIMITS = 3,      /* the count */
+    PUDDOCKLE_REFUSED_UNKNOWN_KIND = 4,             /* the track entry; 0 outside a bundle */
+    PUDDOCKLE_REFUSED_BAD_REFERENCE = 5,            /* a track that is not there, the same track, or another L: the
+                                                       reference entry */
+    PUDDOCKLE_REFUSED_BAD_TRACK_OR_TIME = 6,        /* a track that is not there, or track number or time out of order:
+                                                       the sample entry */
+    PUDDOCKLE_REFUSED_BAD_BYTE_COUNT = 7,           /* count of sample bytes differs from the sum of the lengths, or
+                                                       bytes follow: that count */
+
+    /* a configuration record */
+    PUDDOCKLE_REFUSED_RECORD_CUT = 8,               /* the track entry; 0 for a record alone */
+    PUDDOCKLE_REFUSED_BAD_VERSION = 9,              /* not 1: as 8 */
+    PUDDOCKLE_REFUSED_WRONG_FIXED_BITS = 10,        /* as 8 */
+    PUDDOCKLE_REFUSED_BAD_LENGTH_SIZE = 11,         /* L is 3: as 8; given to puddockle_check_sample and not 1, 2 or
+                                                       4: 0 */
+    PUDDOCKLE_REFUSED_BAD_SET = 12,                 /* empty, its top bit set, or a wrong type: as 8 */
+    PUDDOCKLE_REFUSED_BYTES_AFTER_RECORD = 13,      /* as 8 */
+
+    /* the units of a sample */
+    PUDDOCKLE_REFUSED_LENGTH_FIELD_CUT = 14,        /* where it starts */
+    PUDDOCKLE_REFUSED_UNIT_TOO_LONG = 15,           /* longer than what is left: its length field */
+    PUDDOCKLE_REFUSED_EMPTY_UNIT = 16,              /* its length field */
+    PUDDOCKLE_REFUSED_TOP_BIT_SET = 17,             /* of the unit's header: its length field */
+    PUDDOCKLE_REFUSED_UNIT_TOO_SHORT = 18,          /* under 4 bytes (types 14, 20, 31) or under 4 + L (type 30): its
+                                                       length field */
+    PUDDOCKLE_REFUSED_NESTED_AGGREGATOR = 19,       /* an aggregator in an aggregator: its length field */
+    PUDDOCKLE_REFUSED_SLICE_IN_AVC_AGGREGATOR = 20, /* type 1 to 5 included in an AVC track: its length field */
+    PUDDOCKLE_REFUSED_BAD_ADDITIONAL_BYTES = 21,    /* they do not end on a unit border or cover an aggregator: the
+                                                       aggregator's length field */
+    PUDDOCKLE_REFUSED_BAD_EXTRACTOR_SIZE = 22,      /* not 6 + 2L bytes: its length field */
+
+    /* what an extractor names and copies; the place is the extractor's length field */
+    PUDDOCKLE_REFUSED_BAD_TRACK_REF_INDEX = 23,     /* 0 or past the last */
+    PUDDOCKLE_REFUSED_NO_SAMPLE_NAMED = 24,
+    PUDDOCKLE_REFUSED_NAMED_ILL_FORMED = 25,        /* the sample named is not well formed */
+    PUDDOCKLE_REFUSED_BAD_DATA_OFFSET = 26,         /* not the start of a top-level unit */
+    PUDDOCKLE_REFUSED_BAD_DATA_LENGTH = 27,         /* does not end on a top-level border */
+    PUDDOCKLE_REFUSED_EXTRACTOR_COPIED = 28,        /* an extractor in the copy */
+
+    /* what was asked for; the place is 0 */
+    PUDDOCKLE_REFUSED_OUTPUT_TOO_LONG = 29,         /* longer than the slice lent for it */
+    PUDDOCKLE_REFUSED_NO_SUCH_NUMBER = 30,          /* of a track, reference, sample or delivered unit: 0 or past the
+                                                       last; no extractor at that place */
+    PUDDOCKLE_REFUSED_FIELDS_FIT_NO_RECORD = 31
+};
+
+/* Kinds of tracks and records. */
+enum {
+    PUDDOCKLE_AVC = 0,
+    PUDDOCKLE_SVC = 1
+};
+
+/* The most that a bundle may have. It has at least one track. */
+enum {
+    PUDDOCKLE_BUNDLE_MOST = 16777216, /* bytes */
+    PUDDOCKLE_TRACKS_MOST = 16,
+    PUDDOCKLE_REFERENCES_MOST = 64,
+    PUDDOCKLE_SAMPLES_MOST = 4096
+};
+
+/* Sizes of what is written. */
+enum {
+    PUDDOCKLE_LINE = 13,       /* bytes of an audit line: refusal 1, place 4, units delivered 8 */
+    PUDDOCKLE_LINES_MOST = PUDDOCKLE_SAMPLES_MOST * PUDDOCKLE_LINE, /* bytes of the lines of any audit: 53,248 */
+    PUDDOCKLE_NAMES_ENTRY = 6, /* bytes of a naming list entry: sample number 2, place 4 */
+    PUDDOCKLE_SPAN = 2         /* numbers of a delivered unit: its start, its length */
+};
 
 /*
  * A record as numbers: which number stands where. PUDDOCKLE_FIELDS is how many there are.
@@ -106,12 +167,6 @@ enum {
     PUDDOCKLE_TRAILER_PRESENT = 2 /* one belongs there, and is there: an AVC record of profile 100, 110, 122 or 144 */
 };
 
-/* Sizes of what is written. */
-enum {
-    PUDDOCKLE_LINE = 13,      /* an audit line: refusal 1 byte, place 4, units delivered 8 */
-    PUDDOCKLE_NAMES_ENTRY = 6 /* a naming list entry: sample number 2 bytes, place 4 */
-};
-
 /*
  * Reads a decoder configuration record: avcC (kind 0) or svcC (kind 1).
  *
@@ -124,6 +179,7 @@ enum {
  * where its first set would stand; numbers 12 to 17 are 0 unless a trailer is present. An AVC record of profile 100,
  * 110, 122 or 144 that ends after its picture sets has PUDDOCKLE_TRAILER_ABSENT; with one byte more the whole trailer
  * must follow. Refused: none is written.
+ * Time: linear in the record.
  */
 uint32_t puddockle_read_record(uint32_t kind,
                                const uint8_t *record, size_t record_len,
@@ -144,8 +200,10 @@ uint32_t puddockle_read_record(uint32_t kind,
  * does not fit its bits, the sets are not exactly the count, a trailer is given or said to be absent where none
  * belongs, one that belongs there is neither given nor said to be absent, or the record would be refused by
  * puddockle_read_record); 29 (it is longer than out_len). *place is always 0. An absent trailer is written as nothing.
- * Accepted: *count bytes are written, which puddockle_read_record accepts. What was read and is written again with
- * the sets where they stand gives the same bytes. Refused: nothing is written, *count is 0.
+ * Accepted: *count bytes are written, which puddockle_read_record accepts: 7 and the sequence and picture sets; where a
+ * trailer is present, also 4 and the extension sets. What was read and is written again with the sets where they stand
+ * gives the same bytes. Refused: nothing is written, *count is 0.
+ * Time: linear in the sets.
  */
 uint32_t puddockle_write_record(uint32_t kind,
                                 const uint64_t *fields, size_t fields_len,
@@ -165,6 +223,7 @@ uint32_t puddockle_write_record(uint32_t kind,
  * over all top-level units 14, 15, 16, 17, 18, unit by unit. Then over them again: for an aggregator its included
  * units (for each 14 to 18, 19, 20, 22) and then its 21; for an extractor 22. *place is an offset in the sample.
  * Where extractors lead is not judged here: that needs the bundle.
+ * Time: linear in the sample.
  */
 uint32_t puddockle_check_sample(uint32_t kind, uint32_t length_size,
                                 const uint8_t *sample, size_t sample_len,
@@ -176,9 +235,64 @@ uint32_t puddockle_check_sample(uint32_t kind, uint32_t length_size,
  *
  * Refusals: 1; then front to back 2 to 13, a whole entry being there (2) before anything in it is judged. In the
  * last section 7 for the sum comes first, then 2, then 7 for bytes that follow. *place is an offset in the bundle.
+ * Time: linear in the head of the bundle; the sample bytes are not read.
  */
 uint32_t puddockle_check_bundle(const uint8_t *bundle, size_t bundle_len,
                                 uint64_t *place);
+
+/*
+ * How many tracks, references and samples a bundle has.
+ *
+ * Refusals: 1 to 13 as puddockle_check_bundle. *place is an offset in the bundle.
+ * Time: linear in the head of the bundle.
+ */
+uint32_t puddockle_counts(const uint8_t *bundle, size_t bundle_len,
+                          uint64_t *place, uint64_t *tracks, uint64_t *references, uint64_t *samples);
+
+/*
+ * One track of a bundle.
+ *
+ * track  its number, from 1
+ *
+ * Refusals, first that applies first: 1 to 13 as puddockle_check_bundle; 30 (no track of that number). *place is an
+ * offset in the bundle for 1 to 13, else 0.
+ * Accepted: *kind is PUDDOCKLE_AVC or PUDDOCKLE_SVC, and its configuration record is the *record_length bytes from
+ * bundle + *record_start on, which lie in the bundle and which puddockle_read_record accepts for that kind.
+ * Time: linear in the head of the bundle.
+ */
+uint32_t puddockle_track(const uint8_t *bundle, size_t bundle_len,
+                         uint64_t track,
+                         uint64_t *place, uint64_t *kind, uint64_t *record_start, uint64_t *record_length);
+
+/*
+ * One reference of a bundle: extractors in samples of track *from may name samples of track *to.
+ *
+ * reference  its number, from 1, in the order of the entries; the nth of those with the same *from is that track's
+ *            track_ref_index n
+ *
+ * Refusals, first that applies first: 1 to 13 as puddockle_check_bundle; 30 (no reference of that number). *place is
+ * an offset in the bundle for 1 to 13, else 0.
+ * Accepted: *from and *to are numbers of tracks that are there, from 1.
+ * Time: linear in the head of the bundle.
+ */
+uint32_t puddockle_reference(const uint8_t *bundle, size_t bundle_len,
+                             uint64_t reference,
+                             uint64_t *place, uint64_t *from, uint64_t *to);
+
+/*
+ * One sample of a bundle, as it stands there. Its form is not judged.
+ *
+ * sample  its number, from 1
+ *
+ * Refusals, first that applies first: 1 to 13 as puddockle_check_bundle; 30 (no sample of that number). *place is an
+ * offset in the bundle for 1 to 13, else 0.
+ * Accepted: *track is the number of its track and *time its decode time; its bytes are the *length bytes from
+ * bundle + *start on, which lie in the bundle. *length is 0 for an empty sample.
+ * Time: linear in the head of the bundle, so over all samples it grows with the square of their number.
+ */
+uint32_t puddockle_sample(const uint8_t *bundle, size_t bundle_len,
+                          uint64_t sample,
+                          uint64_t *place, uint64_t *track, uint64_t *time, uint64_t *start, uint64_t *length);
 
 /*
  * Resolves one sample of a bundle to plain NAL units: aggregators opened, extractors replaced by what they copy.
@@ -190,11 +304,30 @@ uint32_t puddockle_check_bundle(const uint8_t *bundle, size_t bundle_len,
  * puddockle_check_sample for this sample; then for each extractor in the order of delivery 23, 24, 25, 26, 27, 28;
  * then 29. *place is an offset in the bundle for 1 to 13 and in the sample for 14 to 28, else 0.
  * Accepted: *count bytes are written (0 where nothing is delivered). Refused: nothing is written, *count is 0.
+ * Time: the head of the bundle, the sample judged (see above) and once more gone over, and the bytes written.
  */
 uint32_t puddockle_resolve(const uint8_t *bundle, size_t bundle_len,
                            uint64_t sample,
                            uint8_t *out, size_t out_len,
                            uint64_t *place, uint64_t *count);
+
+/*
+ * Finds all delivered units of a sample, without a copy.
+ *
+ * sample            its number, from 1
+ * spans, spans_len  where the units' starts and lengths go, PUDDOCKLE_SPAN numbers a unit; spans_len is in numbers
+ *
+ * Refusals as puddockle_resolve, first that applies first: 1 to 13; 30 (no sample of that number); 14 to 28 of the
+ * sample; 29 (spans_len is less than two numbers a unit). Places as there; 29 and 30 are at 0.
+ * Accepted: *count numbers are written, for each unit in the order of delivery its start and its length: its bytes are
+ * the length bytes from bundle + start on, which lie in the bundle. Joined, each after its length in 4 bytes, they are
+ * what puddockle_resolve writes. Refused: no number is written, *count is 0.
+ * Time: as puddockle_resolve, without the bytes written.
+ */
+uint32_t puddockle_units(const uint8_t *bundle, size_t bundle_len,
+                         uint64_t sample,
+                         uint64_t *spans, size_t spans_len,
+                         uint64_t *place, uint64_t *count);
 
 /*
  * Finds one delivered unit of a sample, without a copy.
@@ -206,6 +339,8 @@ uint32_t puddockle_resolve(const uint8_t *bundle, size_t bundle_len,
  * unit of that number). Places as in puddockle_resolve; 30 is at 0.
  * Accepted: the unit's bytes are the *length bytes from bundle + *start on. They stand in the sample itself or in
  * the sample that an extractor names. Refused: *start and *length are 0.
+ * Time: as puddockle_units for every call, so over all units it grows with the square of their number: for more than
+ * a few units use puddockle_units.
  */
 uint32_t puddockle_unit(const uint8_t *bundle, size_t bundle_len,
                         uint64_t sample, uint64_t unit,
@@ -223,11 +358,28 @@ uint32_t puddockle_unit(const uint8_t *bundle, size_t bundle_len,
  * Refusals, first that applies first: 1 to 13; 30 (no sample of that number); 29. *place is an offset in the bundle
  * for 1 to 13, else 0.
  * Accepted: *count bytes are written, PUDDOCKLE_NAMES_ENTRY for each. Refused: nothing is written, *count is 0.
+ * Time: linear in the bundle, and for each extractor in the samples of its linked track.
  */
 uint32_t puddockle_names(const uint8_t *bundle, size_t bundle_len,
                          uint64_t sample,
                          uint8_t *out, size_t out_len,
                          uint64_t *place, uint64_t *count);
+
+/*
+ * Which sample an extractor names: the other way round.
+ *
+ * sample     the number of the extractor's own sample, from 1
+ * extractor  its place: the offset of its length field in that sample. It may stand at top level or in an aggregator
+ *
+ * Refusals, first that applies first: 1 to 13; 30 (no sample of that number); 14 to 22 of the sample; 30 (no extractor
+ * stands at that place); 23, 24 of this extractor, at its place. Other extractors of the sample, and 25 to 28 of this
+ * one, are not judged. *place is an offset in the bundle for 1 to 13 and in the sample for 14 to 24; 30 is at 0.
+ * Accepted: *named is the number of the sample named; puddockle_names of that sample lists this extractor.
+ * Time: the head of the bundle, linear in the sample's own bytes and in the samples of the linked track.
+ */
+uint32_t puddockle_named(const uint8_t *bundle, size_t bundle_len,
+                         uint64_t sample, uint64_t extractor,
+                         uint64_t *place, uint64_t *named);
 
 /*
  * Audits a bundle: would each of its samples resolve?
@@ -241,6 +393,8 @@ uint32_t puddockle_names(const uint8_t *bundle, size_t bundle_len,
  * 1 to 13, else 0. A refused sample does not make the audit refuse.
  * Accepted: *count bytes are written, PUDDOCKLE_LINE for each sample. Refused: nothing is written, *count and the
  * three tallies are 0.
+ * Time: the head of the bundle, and every sample judged once (see above): linear in the bundle where there are no
+ * extractors, else also in extractors times the size of what they name.
  */
 uint32_t puddockle_audit(const uint8_t *bundle, size_t bundle_len,
                          uint8_t *lines, size_t lines_len,

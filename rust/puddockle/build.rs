@@ -13,7 +13,11 @@ fn main() {
     let library = directory.join("libpuddockle.a");
     println!("cargo:rerun-if-changed={}", library.display());
     if !library.is_file() {
-        eprintln!("{} is not there: build it, or set PUDDOCKLE_LIB_DIR to its directory", library.display());
+        eprintln!("{} is not there.", library.display());
+        eprintln!(
+            "Build it with `rt staticlib puddockle` at the repository's root, which leaves it in target/staticlib,"
+        );
+        eprintln!("or set PUDDOCKLE_LIB_DIR to the directory that has it (an absolute path).");
         std::process::exit(1);
     }
     let directory = directory.canonicalize().expect("the library's directory");

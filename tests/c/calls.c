@@ -442,6 +442,279 @@ static void call_bundle(void)
     SAME(length, 0);
 }
 
+/* Each constant of the header that document 01 settles. */
+static void constants(void)
+{
+    SAME(PUDDOCKLE_ACCEPTED, 0);
+    SAME(PUDDOCKLE_REFUSED_BUNDLE_TOO_LONG, 1);
+    SAME(PUDDOCKLE_REFUSED_BUNDLE_CUT, 2);
+    SAME(PUDDOCKLE_REFUSED_COUNT_OUT_OF_LIMITS, 3);
+    SAME(PUDDOCKLE_REFUSED_UNKNOWN_KIND, 4);
+    SAME(PUDDOCKLE_REFUSED_BAD_REFERENCE, 5);
+    SAME(PUDDOCKLE_REFUSED_BAD_TRACK_OR_TIME, 6);
+    SAME(PUDDOCKLE_REFUSED_BAD_BYTE_COUNT, 7);
+    SAME(PUDDOCKLE_REFUSED_RECORD_CUT, 8);
+    SAME(PUDDOCKLE_REFUSED_BAD_VERSION, 9);
+    SAME(PUDDOCKLE_REFUSED_WRONG_FIXED_BITS, 10);
+    SAME(PUDDOCKLE_REFUSED_BAD_LENGTH_SIZE, 11);
+    SAME(PUDDOCKLE_REFUSED_BAD_SET, 12);
+    SAME(PUDDOCKLE_REFUSED_BYTES_AFTER_RECORD, 13);
+    SAME(PUDDOCKLE_REFUSED_LENGTH_FIELD_CUT, 14);
+    SAME(PUDDOCKLE_REFUSED_UNIT_TOO_LONG, 15);
+    SAME(PUDDOCKLE_REFUSED_EMPTY_UNIT, 16);
+    SAME(PUDDOCKLE_REFUSED_TOP_BIT_SET, 17);
+    SAME(PUDDOCKLE_REFUSED_UNIT_TOO_SHORT, 18);
+    SAME(PUDDOCKLE_REFUSED_NESTED_AGGREGATOR, 19);
+    SAME(PUDDOCKLE_REFUSED_SLICE_IN_AVC_AGGREGATOR, 20);
+    SAME(PUDDOCKLE_REFUSED_BAD_ADDITIONAL_BYTES, 21);
+    SAME(PUDDOCKLE_REFUSED_BAD_EXTRACTOR_SIZE, 22);
+    SAME(PUDDOCKLE_REFUSED_BAD_TRACK_REF_INDEX, 23);
+    SAME(PUDDOCKLE_REFUSED_NO_SAMPLE_NAMED, 24);
+    SAME(PUDDOCKLE_REFUSED_NAMED_ILL_FORMED, 25);
+    SAME(PUDDOCKLE_REFUSED_BAD_DATA_OFFSET, 26);
+    SAME(PUDDOCKLE_REFUSED_BAD_DATA_LENGTH, 27);
+    SAME(PUDDOCKLE_REFUSED_EXTRACTOR_COPIED, 28);
+    SAME(PUDDOCKLE_REFUSED_OUTPUT_TOO_LONG, 29);
+    SAME(PUDDOCKLE_REFUSED_NO_SUCH_NUMBER, 30);
+    SAME(PUDDOCKLE_REFUSED_FIELDS_FIT_NO_RECORD, 31);
+    SAME(PUDDOCKLE_AVC, 0);
+    SAME(PUDDOCKLE_SVC, 1);
+    SAME(PUDDOCKLE_BUNDLE_MOST, 16777216);
+    SAME(PUDDOCKLE_TRACKS_MOST, 16);
+    SAME(PUDDOCKLE_REFERENCES_MOST, 64);
+    SAME(PUDDOCKLE_SAMPLES_MOST, 4096);
+    SAME(PUDDOCKLE_LINE, 13);
+    SAME(PUDDOCKLE_LINES_MOST, 53248);
+    SAME(PUDDOCKLE_NAMES_ENTRY, 6);
+    SAME(PUDDOCKLE_SPAN, 2);
+    SAME(PUDDOCKLE_FIELDS, 18);
+    char version[32];
+    snprintf(version, sizeof version, "%d.%d.%d", PUDDOCKLE_VERSION_MAJOR, PUDDOCKLE_VERSION_MINOR, PUDDOCKLE_VERSION_PATCH);
+    SAME(strcmp(version, PUDDOCKLE_VERSION), 0);
+}
+
+/* A byte longer than any bundle. */
+static uint8_t too_long[PUDDOCKLE_BUNDLE_MOST + 1];
+
+/* Numbers that no track, reference or sample of B0 has. */
+static const uint64_t NO_NUMBER[] = { 0, 3, 257, UINT64_C(0x100000001), UINT64_C(1) << 63, UINT64_MAX };
+
+static void counts_of_bundle(void)
+{
+    uint64_t place, tracks, references, samples;
+    place = tracks = references = samples = UNSET;
+    SAME(puddockle_counts(B0, sizeof B0, &place, &tracks, &references, &samples), 0);
+    SAME(place, 0);
+    SAME(tracks, 2);
+    SAME(references, 1);
+    SAME(samples, 2);
+    /* cut, empty, a byte too long */
+    const struct { const uint8_t *bytes; size_t length; uint32_t number; uint64_t place; } refused[] = {
+        { B0, 15, 2, 11 }, { NULL, 0, 2, 0 }, { B0, sizeof B0 - 1, 2, 52 }, { too_long, sizeof too_long, 1, 0 }, { too_long, 20, 3, 0 },
+    };
+    for (size_t i = 0; i < sizeof refused / sizeof *refused; i++) {
+        place = tracks = references = samples = UNSET;
+        SAME(puddockle_counts(refused[i].bytes, refused[i].length, &place, &tracks, &references, &samples), refused[i].number);
+        SAME(place, refused[i].place);
+        SAME(tracks, 0);
+        SAME(references, 0);
+        SAME(samples, 0);
+    }
+}
+
+/* What a track, a reference or a sample gives: its refusal, and the numbers set, those that it does not set left UNSET. */
+enum part { TRACK, REFERENCE, SAMPLE };
+static uint32_t part(enum part part, size_t length, uint64_t number, uint64_t *place, uint64_t set[4])
+{
+    *place = set[0] = set[1] = set[2] = set[3] = UNSET;
+    if (part == TRACK)
+        return puddockle_track(B0, length, number, place, &set[0], &set[1], &set[2]);
+    if (part == REFERENCE)
+        return puddockle_reference(B0, length, number, place, &set[0], &set[1]);
+    return puddockle_sample(B0, length, number, place, &set[0], &set[1], &set[2], &set[3]);
+}
+
+static void parts_of_bundle(void)
+{
+    static const unsigned numbers[] = { [TRACK] = 3, [REFERENCE] = 2, [SAMPLE] = 4 };
+    static const struct { enum part part; uint64_t number, set[4]; } there[] = {
+        { TRACK, 1, { PUDDOCKLE_AVC, 4, 7, UNSET } },  { TRACK, 2, { PUDDOCKLE_SVC, 14, 7, UNSET } },
+        { REFERENCE, 1, { 2, 1, UNSET, UNSET } },
+        { SAMPLE, 1, { 1, 0, 56, 3 } },                { SAMPLE, 2, { 2, 0, 59, 9 } },
+    };
+    uint64_t place, set[4];
+    for (size_t i = 0; i < sizeof there / sizeof *there; i++) {
+        SAME(part(there[i].part, sizeof B0, there[i].number, &place, set), 0);
+        SAME(place, 0);
+        SAME(memcmp(set, there[i].set, sizeof set), 0);
+    }
+    SAME(part(REFERENCE, sizeof B0, 2, &place, set), 30);
+    for (enum part p = TRACK; p <= SAMPLE; p++) {
+        for (size_t i = 0; i < sizeof NO_NUMBER / sizeof *NO_NUMBER; i++) {
+            SAME(part(p, sizeof B0, NO_NUMBER[i], &place, set), 30);
+            SAME(place, 0);
+            for (unsigned at = 0; at < 4; at++)
+                SAME(set[at], at < numbers[p] ? 0 : UNSET);
+            /* the bundle is judged before the number */
+            SAME(part(p, 15, NO_NUMBER[i], &place, set), 2);
+            SAME(place, 11);
+        }
+        SAME(part(p, 15, 1, &place, set), 2);
+        SAME(place, 11);
+        for (unsigned at = 0; at < 4; at++)
+            SAME(set[at], at < numbers[p] ? 0 : UNSET);
+    }
+}
+
+/* B0 with other samples. Answers its length. */
+static size_t with_samples(uint8_t *bundle, const uint8_t *first, size_t first_len, const uint8_t *second, size_t second_len)
+{
+    memcpy(bundle, B0, 56);
+    bundle[38] = (uint8_t)first_len;
+    bundle[51] = (uint8_t)second_len;
+    bundle[55] = (uint8_t)(first_len + second_len);
+    memcpy(bundle + 56, first, first_len);
+    memcpy(bundle + 56 + first_len, second, second_len);
+    return 56 + first_len + second_len;
+}
+
+/* Two units; an ill-formed sample. */
+static const uint8_t TWO[] = { 0x02, 0x65, 0x88, 0x01, 0x09 };
+static const uint8_t BAD[] = { 0x00 };
+/* Extractors: the whole of a sample of 5 bytes; one by a reference that is there, two by others that are not (23), one by the first with a data_offset of 3;
+ * by an offset that names none (24); by a wrong data_offset (26). One in an aggregator. One that is too short (22). */
+static const uint8_t WHOLE[] = { 0x01, 0x06, 0x08, 0x7F, 0x80, 0x00, 0x03, 0x01, 0x00, 0x00, 0x05 };
+static const uint8_t NO_REFERENCE[] = {
+    0x08, 0x7F, 0x80, 0x00, 0x03, 0x01, 0x00, 0x00, 0x00, 0x08, 0x7F, 0x80, 0x00, 0x03, 0x02, 0x00, 0x00, 0x00,
+    0x08, 0x7F, 0x80, 0x00, 0x03, 0x00, 0x00, 0x00, 0x00, 0x08, 0x7F, 0x80, 0x00, 0x03, 0x01, 0x00, 0x03, 0x00,
+};
+static const uint8_t NO_SAMPLE[] = { 0x01, 0x06, 0x08, 0x7F, 0x80, 0x00, 0x03, 0x01, 0xFF, 0x00, 0x00 };
+static const uint8_t WRONG_OFFSET[] = { 0x08, 0x7F, 0x80, 0x00, 0x03, 0x01, 0x00, 0x01, 0x00 };
+static const uint8_t INCLUDED[] = { 0x0E, 0x7E, 0x80, 0x00, 0x03, 0x00, 0x08, 0x7F, 0x80, 0x00, 0x03, 0x01, 0x00, 0x00, 0x00 };
+static const uint8_t SHORT[] = { 0x07, 0x7F, 0x80, 0x00, 0x03, 0x01, 0x00, 0x00 };
+
+#define SAMPLES(bundle, first, second) with_samples(bundle, first, sizeof first, second, sizeof second)
+
+/* The units of sample `sample` in a room of so many numbers: a refusal at a place, and nothing is written. */
+static void units_refused(const uint8_t *bundle, size_t length, uint64_t sample, size_t room, uint32_t number, uint64_t at, int line)
+{
+    uint64_t spans[8], place = UNSET, count = UNSET;
+    memset(spans, FILL, sizeof spans);
+    same("number", puddockle_units(bundle, length, sample, room ? spans : NULL, room, &place, &count), number, line);
+    same("place", place, at, line);
+    same("count", count, 0, line);
+    same("untouched", untouched(spans, sizeof spans), 1, line);
+}
+
+static void units_of_samples(void)
+{
+    /* sample 2: its own unit, then sample 1's two */
+    static const uint64_t expected[] = { 62, 1, 57, 2, 60, 1 };
+    uint64_t spans[8], place, count;
+    uint8_t bundle[128], out[32];
+    size_t length = SAMPLES(bundle, TWO, WHOLE);
+    for (size_t room = 6; room <= 8; room++) {
+        memset(spans, FILL, sizeof spans);
+        place = count = UNSET;
+        SAME(puddockle_units(bundle, length, 2, spans, room, &place, &count), 0);
+        SAME(place, 0);
+        SAME(count, 6);
+        SAME(memcmp(spans, expected, sizeof expected), 0);
+        SAME(untouched(spans + 6, 2 * sizeof *spans), 1);
+    }
+    /* joined, each after its length, they are what resolves, and each is the unit of its number */
+    size_t at = 0;
+    uint8_t joined[32];
+    for (size_t i = 0; i < 6; i += PUDDOCKLE_SPAN) {
+        uint64_t start = UNSET, size = UNSET;
+        SAME(puddockle_unit(bundle, length, 2, i / PUDDOCKLE_SPAN + 1, &place, &start, &size), 0);
+        SAME(start, spans[i]);
+        SAME(size, spans[i + 1]);
+        memset(joined + at, 0, 3);
+        joined[at + 3] = (uint8_t)spans[i + 1];
+        memcpy(joined + at + 4, bundle + spans[i], spans[i + 1]);
+        at += 4 + spans[i + 1];
+    }
+    SAME(puddockle_resolve(bundle, length, 2, out, sizeof out, &place, &count), 0);
+    SAME(count, at);
+    SAME(memcmp(out, joined, at), 0);
+    /* 29 for every smaller room, none among them */
+    for (size_t room = 0; room < 6; room++)
+        units_refused(bundle, length, 2, room, 29, 0, __LINE__);
+    /* the bundle before the number, that before the sample, that before the room */
+    units_refused(bundle, 15, 0, 0, 2, 11, __LINE__);
+    units_refused(too_long, sizeof too_long, 0, 0, 1, 0, __LINE__);
+    for (size_t i = 0; i < sizeof NO_NUMBER / sizeof *NO_NUMBER; i++)
+        units_refused(bundle, length, NO_NUMBER[i], 0, 30, 0, __LINE__);
+    length = SAMPLES(bundle, TWO, BAD);
+    units_refused(bundle, length, 3, 0, 30, 0, __LINE__);
+    units_refused(bundle, length, 2, 0, 16, 0, __LINE__);
+    length = SAMPLES(bundle, TWO, NO_REFERENCE);
+    units_refused(bundle, length, 2, 0, 23, 9, __LINE__);
+    length = SAMPLES(bundle, TWO, NO_SAMPLE);
+    units_refused(bundle, length, 2, 0, 24, 2, __LINE__);
+    length = SAMPLES(bundle, BAD, WHOLE);
+    units_refused(bundle, length, 2, 8, 25, 2, __LINE__);
+    length = SAMPLES(bundle, TWO, WRONG_OFFSET);
+    units_refused(bundle, length, 2, 8, 26, 0, __LINE__);
+    /* nothing is delivered by an empty sample, and no room is enough for that */
+    length = with_samples(bundle, TWO, 0, TWO, sizeof TWO);
+    place = count = UNSET;
+    SAME(puddockle_units(bundle, length, 1, NULL, 0, &place, &count), 0);
+    SAME(place, 0);
+    SAME(count, 0);
+}
+
+/* What the extractor at that place of sample `sample` names: the refusal and its place, or the number of the sample. */
+static void name(const uint8_t *bundle, size_t length, uint64_t sample, uint64_t extractor, uint32_t number, uint64_t at, uint64_t expected, int line)
+{
+    uint64_t place = UNSET, named = UNSET;
+    same("number", puddockle_named(bundle, length, sample, extractor, &place, &named), number, line);
+    same("place", place, at, line);
+    same("named", named, expected, line);
+}
+
+static void named_by_extractors(void)
+{
+    uint8_t bundle[128];
+    size_t length;
+    name(B0, sizeof B0, 2, 0, 0, 0, 1, __LINE__);
+    /* no extractor: another unit's place, inside one, past the sample, a number that only looks like 0 */
+    name(B0, sizeof B0, 1, 0, 30, 0, 0, __LINE__);
+    static const uint64_t none[] = { 1, 5, 8, 9, 10, UINT64_C(1) << 32, UINT64_MAX };
+    for (size_t i = 0; i < sizeof none / sizeof *none; i++)
+        name(B0, sizeof B0, 2, none[i], 30, 0, 0, __LINE__);
+    /* the bundle before the sample's number, that before the sample, that before the place */
+    name(B0, 15, 0, 0, 2, 11, 0, __LINE__);
+    name(too_long, sizeof too_long, 0, 0, 1, 0, 0, __LINE__);
+    for (size_t i = 0; i < sizeof NO_NUMBER / sizeof *NO_NUMBER; i++)
+        name(B0, sizeof B0, NO_NUMBER[i], 0, 30, 0, 0, __LINE__);
+    length = SAMPLES(bundle, TWO, SHORT);
+    name(bundle, length, 2, 0, 22, 0, 0, __LINE__);
+    name(bundle, length, 2, 3, 22, 0, 0, __LINE__);
+    name(bundle, length, 3, 0, 30, 0, 0, __LINE__);
+    length = SAMPLES(bundle, TWO, BAD);
+    name(bundle, length, 2, 9, 16, 0, 0, __LINE__);
+    /* 23 and 24 at its own place; another extractor's 23 is not judged */
+    length = SAMPLES(bundle, TWO, NO_REFERENCE);
+    name(bundle, length, 2, 0, 0, 0, 1, __LINE__);
+    name(bundle, length, 2, 9, 23, 9, 0, __LINE__);
+    name(bundle, length, 2, 18, 23, 18, 0, __LINE__);
+    name(bundle, length, 2, 27, 0, 0, 1, __LINE__);
+    length = SAMPLES(bundle, TWO, NO_SAMPLE);
+    name(bundle, length, 2, 0, 30, 0, 0, __LINE__);
+    name(bundle, length, 2, 2, 24, 2, 0, __LINE__);
+    /* included in an aggregator, whose own place is none */
+    length = SAMPLES(bundle, TWO, INCLUDED);
+    name(bundle, length, 2, 6, 0, 0, 1, __LINE__);
+    name(bundle, length, 2, 0, 30, 0, 0, __LINE__);
+    /* 25 and 26 are not judged */
+    length = SAMPLES(bundle, BAD, WHOLE);
+    name(bundle, length, 2, 2, 0, 0, 1, __LINE__);
+    length = SAMPLES(bundle, TWO, WRONG_OFFSET);
+    name(bundle, length, 2, 0, 0, 0, 1, __LINE__);
+}
+
 int main(void)
 {
     read_records();
@@ -449,6 +722,11 @@ int main(void)
     trailer_absent();
     check_samples();
     call_bundle();
+    constants();
+    counts_of_bundle();
+    parts_of_bundle();
+    units_of_samples();
+    named_by_extractors();
     printf("%u checks, %u failed\n", checks, failures);
     return failures != 0;
 }

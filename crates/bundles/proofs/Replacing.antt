@@ -4,6 +4,7 @@
 --   verdict-same, layout-same, lengths-same    two bundles of one length that agree below `contentsAt`
 --   length-is                                  the length of a sample, as its entry says
 --   replace                                    one sample's bytes replaced, length kept
+--   records-replaced                           the records stand where they did
 use Prim.Native.Nat.{ℕ, zero, suc, _+_, _-_, _*_, _≤_, _<_}
 use mathlib.Core.Path.{_≡_, refl, ap, ap₂, sym, _∙_}
 use mathlib.Core.List.{List, [], _∷_, _++_, map, List·Memᴰ}
@@ -17,17 +18,18 @@ use Rattle.words.specs.Lists.{sum, nth}
 use Rattle.words.specs.Walks.{entries, skip}
 use Rattle.words.specs.Bytes.{big, byteAt, part, splice, cuts}
 use Rattle.words.proofs.Refusals.{first-cong, and-ok}
-use Rattle.words.proofs.Lists.{map-cong, upto-from}
+use Rattle.words.proofs.Entries.{entries-length}
+use Rattle.words.proofs.Lists.{map-cong, upto-from, nth-mem}
 use Rattle.words.proofs.Walks.{skip-grows, skip-stride, entries-end, entries-same}
 use Rattle.words.proofs.Splices.{part-ext, splice-length, splice-before, cuts-splice, cuts-lengths, take-sum}
 use Rattle.bundles.specs.Limits.{bundleMost, trackLeast, trackMost, referenceMost, sampleMost, countFault}
 use Rattle.bundles.specs.Fields.{trackCountSize, recordLengthSize, recordLengthOffset, trackHeadSize, referenceCountSize, trackNumberSize, toOffset, referenceSize, sampleCountSize, timeSize, sampleLengthSize, timeOffset, lengthOffset, sampleEntrySize, byteCountSize}
 use Rattle.bundles.specs.Recordings.{Layout, Recording, replaced, sampleCount, contentOf}
-use Rattle.bundles.specs.Tracks.{trackCount, tracksAt, recordLength, trackEnd, recordAt, sizeAt, trackFault, trackPlaces, tracksVerdict, trackOn, tracks, referencesAt}
+use Rattle.bundles.specs.Tracks.{trackCount, tracksAt, recordLength, trackEnd, recordAt, sizeAt, trackFault, trackPlaces, tracksVerdict, trackOn, tracks, recordPart, referencesAt}
 use Rattle.bundles.specs.References.{referenceCount, noSuchTrack, referenceFault, referencePlaces, referencesVerdict, referenceOn, references, samplesAt}
 use Rattle.bundles.specs.Samples.{entryCount, entriesAt, entryAt, entryFault, entryNumbers, samplesVerdict, entryOn, sampleEntries, lengthAt, lengths, byteCountAt}
 use Rattle.bundles.specs.Bundles.{byteCountFault, bytesVerdict, bundleVerdict, layoutOf, contentsAt, recordingOf, meaning, contentAt}
-use Rattle.bundles.proofs.Sections.{trackEnd-grows, Accepted, accepted, sample-count, lengths-count}
+use Rattle.bundles.proofs.Sections.{trackEnd-grows, Accepted, accepted, track-count, sample-count, lengths-count}
 
 module _ (b c : List ℕ) (same : length c ≡ length b) (agree : (q : ℕ) → q < contentsAt b → getD c q 0 ≡ getD b q 0) where
   abbrev Below : ℕ → Type 0
@@ -94,6 +96,13 @@ module _ (b c : List ℕ) (same : length c ≡ length b) (agree : (q : ℕ) → 
   tracks-same : tracks c ≡ tracks b
   unfolding tracks
   tracks-same = ap (map (trackOn c)) trackPlaces-same ∙ map-cong (trackOn c) (trackOn b) (trackPlaces b) (λ p m. trackOn-same p (track-below p m))
+
+  part-same : (k : ℕ) → 0 < k → k ≤ trackCount b → recordPart c k ≡ recordPart b k
+  unfolding recordPart
+  part-same k h l =
+      let m = nth-mem (trackPlaces b) k 0 h (rw (entries-length (trackEnd b) (trackCount b) (tracksAt b)) l) in
+      let z = track-below (nth (trackPlaces b) k 0) m in
+      rw (trackPlaces-same, head-big (nth (trackPlaces b) k 0 + recordLengthOffset) recordLengthSize (omega arith))
 
   -- section two
   referenceCount-same : referenceCount c ≡ referenceCount b
@@ -211,6 +220,9 @@ module _ (b : List ℕ) (n : ℕ) (new : List ℕ) (good : bundleVerdict b ≡ o
   verdict-kept : bundleVerdict c ≡ ok tt
   verdict-kept = verdict-same b c same-length agree-below ∙ good
 
+  record-kept : (k : ℕ) → 0 < k → k ≤ trackCount b → recordPart c k ≡ recordPart b k
+  record-kept = part-same b c same-length agree-below
+
   contents-same : cuts c (lengths c) (contentsAt c) ≡ set (cuts b (lengths b) (contentsAt b)) n new
   contents-same = rw (lengths-same b c same-length agree-below, byteCountAt-same b c same-length agree-below)
       (cuts-splice b new (lengths b) (contentsAt b) n _ at-content (let a = ends in omega arith) is long)
@@ -228,16 +240,32 @@ pub length-is : (b : List ℕ) (n : ℕ) → bundleVerdict b ≡ ok tt → n < l
 unfolding recordingOf nth
 length-is b n e h = cuts-lengths b (lengths b) (contentsAt b) n (let a = accepted b e .bytes .end in omega arith) h
 
-pub replace :
-    (b : List ℕ) (r : Recording) (n : ℕ) (new : List ℕ) → meaning b ≡ ok r →
+-- what is asked of the bytes that replace those of a sample
+replaces :
+    {G : Type 0} (b : List ℕ) (r : Recording) (n : ℕ) (new : List ℕ) → meaning b ≡ ok r →
     0 < n → n ≤ sampleCount (r .layout) → length new ≡ length (contentOf r n) →
-    meaning (splice b (contentAt b n) new) ≡ ok (replaced r n new)
+    ((i : ℕ) → n ≡ suc i → bundleVerdict b ≡ ok tt → recordingOf b ≡ r → i < length (lengths b) → length new ≡ getD (lengths b) i 0 → G) → G
 unfolding meaning
-replace b r zero new e l u k = absurd (omega arith)
-replace b r (suc n) new e l u k =
+replaces b r zero new e l u k f = absurd (omega arith)
+replaces b r (suc n) new e l u k f =
     let a = and-ok (bundleVerdict b) (ok (recordingOf b)) e in
     let q : recordingOf b ≡ r = cc in
     let v : suc n ≤ sampleCount (recordingOf b .layout) = rw q u in
     let is : n < length (lengths b) = rw count-is at v in
     let lo : length new ≡ getD (lengths b) n 0 = (let w : length new ≡ length (contentOf (recordingOf b) (suc n)) = rw q k in w ∙ length-is b n (a .0) is) in
-    rw (verdict-kept b n new (a .0) is lo, recording-same b n new (a .0) is lo, q)
+    f n refl (a .0) q is lo
+
+module _
+    (b : List ℕ) (r : Recording) (n : ℕ) (new : List ℕ) (e : meaning b ≡ ok r)
+    (h : 0 < n) (l : n ≤ sampleCount (r .layout)) (k : length new ≡ length (contentOf r n))
+  where
+    pub replace : meaning (splice b (contentAt b n) new) ≡ ok (replaced r n new)
+    unfolding meaning
+    replace = replaces b r n new e h l k (λ i z a q is lo. rw (z, verdict-kept b i new a is lo, recording-same b i new a is lo, q))
+
+    pub records-replaced : (j : ℕ) → 0 < j → j ≤ length (r .layout .tracks) → recordPart (splice b (contentAt b n) new) j ≡ recordPart b j
+    unfolding recordingOf layoutOf
+    records-replaced j some there = replaces b r n new e h l k (λ i z a q is lo.
+        let c : length (tracks b) ≡ length (r .layout .tracks) = ap (λ (x : Recording). length (x .layout .tracks)) q in
+        let t = track-count b in
+        rw z (record-kept b i new a is lo j some (omega arith)))

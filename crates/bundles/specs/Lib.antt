@@ -1,6 +1,7 @@
 -- The bundle. Read in this order.
 --
 --   Recordings   what a bundle means: tracks, references, samples with their bytes
+--   Parts        parts of a bundle
 --   Limits       the limits, and refusals 2 and 3
 --   Fields       the sizes of the fields
 --   Tracks       section one
@@ -11,6 +12,7 @@
 --   Steps        what the steps of the check say to each other
 --   Answers      what the code's answers say
 pub mod Recordings
+pub mod Parts
 pub mod Limits
 pub mod Fields
 pub mod Tracks

@@ -4,17 +4,20 @@
 --   trackCount b, tracksAt b     the count, and where the first entry stands
 --   kindAt b p, recordAt b p     the kind and the record of the entry at p
 --   recordLength b p, trackEnd b p    the record's length, and where the entry ends
+--   recordPartAt b p             where its record stands
 --   sizeAt b p                   L, its length size, as a number
 --   trackFault b p               its refusal: 2, 4, or the record's
 --   tracksVerdict b              the section's first refusal
 --   tracks b                     what it means
+--   recordPart b k               where the record of track k stands
 --   referencesAt b               where section two starts
 use Prim.Native.Nat.{ℕ, _+_}
 use mathlib.Core.List.{List, map}
 use Rattle.words.specs.RefusalNumbers.{unknownKind}
 use Rattle.words.specs.Refusals.{_orElse_, Verdict, _andThen_, _atPlace_, first}
+use Rattle.words.specs.Lists.{nth}
 use Rattle.words.specs.Walks.{entries, skip}
-use Rattle.words.specs.Bytes.{byteAt, big, part}
+use Rattle.words.specs.Bytes.{byteAt, big}
 use Rattle.numbers.specs.Kinds.{kindOf}
 use Rattle.numbers.specs.Sizes.{lengthSizeOf}
 use Rattle.numbers.specs.declared.Kind.{Kind}
@@ -27,6 +30,7 @@ use Rattle.numbers.specs.declared.MaybeLengthSize as M
 use Rattle.record_rules.specs.Read.{recordFault, lengthSize}
 use Rattle.bundles.specs.Limits.{cut, countFault, trackLeast, trackMost}
 use Rattle.bundles.specs.Fields.{trackCountSize, recordLengthSize, recordLengthOffset, trackHeadSize}
+use Rattle.bundles.specs.Parts.{BundlePart, bytesIn}
 use Rattle.bundles.specs.Recordings.{Track}
 
 -- the kind and the length size that a number says; a number that says none is refused (4, 11) wherever this matters
@@ -60,8 +64,12 @@ module _ (b : List ℕ) where
   abbrev pub kindAt : ℕ → MaybeKind
   kindAt p = kindOf (byteAt b p)
 
+  -- where the record of the entry at p stands, after the entry's head; its bytes
+  abbrev pub recordPartAt : ℕ → BundlePart
+  recordPartAt p = record { start = p + trackHeadSize; size = recordLength p }
+
   abbrev pub recordAt : ℕ → List ℕ
-  recordAt p = part b (p + trackHeadSize) (recordLength p)
+  recordAt p = bytesIn b (recordPartAt p)
 
   -- L as a number
   unfoldable pub sizeAt : ℕ → ℕ
@@ -87,6 +95,10 @@ module _ (b : List ℕ) where
 
   unfoldable pub tracks : List Track
   tracks = map trackOn trackPlaces
+
+  -- the record of track k
+  unfoldable pub recordPart : ℕ → BundlePart
+  recordPart k = recordPartAt (nth trackPlaces k 0)
 
   -- where section two starts
   unfoldable pub referencesAt : ℕ

@@ -1,6 +1,5 @@
 -- What the calls for one delivered unit answer, step by step as the code takes them. Assumes nothing.
 --
---   number-some                            a number without 30
 --   find-refused, find-past, find-good     one delivered unit, with where it comes from
 --   spanAnswer, span-answer                without that, it is the unit that is asked for
 --   unit-inside                            a unit that a good sample delivers lies in its sample
@@ -42,12 +41,7 @@ use Rattle.resolution_rules.proofs.Delivered.{Inside}
 use Rattle.resolution_rules.proofs.Good.{good-rules}
 use Rattle.resolution_rules.proofs.Exactly.{delivered-plain, delivered-there}
 use Rattle.resolution_rules.proofs.Readers.{firstLayout-sound, verdict-refuses}
-use Rattle.resolution_rules.proofs.Calls.{number-bad, by-count, unit-means, span-in}
-
-pub number-some : (count n : ℕ) → numberFault count n ≡ 0 → (0 < n) × (n ≤ count)
-number-some count n e = by-count count n
-    (λ h. let z = sym (number-bad count n h) ∙ e in absurd (omega arith))
-    (λ h l. (h, l))
+use Rattle.resolution_rules.proofs.Calls.{number-there, unit-means, span-in}
 
 -- 30, or 14 to 28
 pub find-refused : (b t : List ℕ) (n : ℕ) → length b ≤ bundleMost → {m q : ℕ} → judgementIn b t n ≡ refused m q → (i : ℕ) → resolveDelivery (recordingIn b t) n i ≡ refused m q
@@ -103,7 +97,7 @@ module _ (r : Recording) (n i : ℕ) where
     pub found-mem : List·Memᴰ d (deliveries r n)
     found-mem =
         let w = parts in
-        let s = number-some _ _ (w .2) in
+        let s = number-there _ _ (w .2) in
         let l : length (delivered r n) ≡ length (deliveries r n) = ap length (sym (deliveries-spans r n)) ∙ length-map (deliveries r n) _ in
         rw (← w .3) (nth-mem (deliveries r n) i noDelivery (s .0) (omega arith))
 
@@ -119,7 +113,7 @@ module _ (r : Recording) (n i : ℕ) where
     found-inside = let w = found in delivered-plain r n (w .1) u (w .2) .inside
 
     pub found-there : (0 < u .sample) × (u .sample ≤ sampleCount (r .layout))
-    found-there = let w = found in let k = number-some _ _ (w .0) in delivered-there r n (w .1) (k .0) (k .1) u (w .2)
+    found-there = let w = found in let k = number-there _ _ (w .0) in delivered-there r n (w .1) (k .0) (k .1) u (w .2)
 
 -- a bundle that is accepted by a sound reader
 module _ (reader : Reader) (sound : Sound reader) (b : List ℕ) (r : Recording) (e : reader .means b ≡ ok r) (n i : ℕ) where

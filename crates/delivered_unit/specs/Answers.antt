@@ -11,7 +11,8 @@ use Rattle.words.specs.Refusals.{Answer, refused, ok}
 use Rattle.words.specs.Lists.{nth}
 use Rattle.bundles.specs.Recordings.{Recording}
 use Rattle.resolution_rules.specs.Resolving.{Span}
-use Rattle.resolution_rules.specs.Calls.{BundlePart, spanBytes, onUnit}
+use Rattle.bundles.specs.Parts.{BundlePart}
+use Rattle.resolution_rules.specs.Calls.{spanBytes, onUnit}
 use Rattle.delivery.specs.Deliveries.{Delivery, spanFor, unitFor, deliveries, noDelivery}
 use Rattle.delivered_unit.specs.declared.finding.DeliveryFound as delivery
 use Rattle.delivered_unit.specs.declared.finding.DeliveryFound.the-variants as found

@@ -6,9 +6,11 @@
 --   Others     samples that are not in the list resolve as before
 --   Entries    the bytes of the list read back
 --   Calls      what the naming call answers
+--   Sizes      how long the list is, at most
 pub mod Promises
 pub mod Replaced
 pub mod Listing
 pub mod Others
 pub mod Entries
 pub mod Calls
+pub mod Sizes

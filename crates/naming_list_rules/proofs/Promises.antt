@@ -19,6 +19,9 @@
 --   others-resolve         the call that resolves it answers as before
 --   others-answer          two such calls with buffers of the same length: the same number, place and count, and the same bytes up to that count
 --
+-- a bundle that the first layout accepts
+--   list-in-bundle         the list of any sample is never longer than the bundle
+--
 -- the naming call, by any reader
 --   names-listed-exactly, names-refused-exactly    it answers, or is refused, exactly if ..
 --   names-refused-with     with a number of the reader's at a place in the bundle or at its end, or 29 or 30 at 0
@@ -37,7 +40,7 @@ use Rattle.words.proofs.Refusals.{ok-same}
 use Rattle.words.proofs.Lists.{Rising}
 use Rattle.numbers.specs.Places.{placeSize}
 use Rattle.bundles.specs.Recordings.{Recording, sampleCount, contentOf, replaced}
-use Rattle.bundles.specs.Readers.{Reader}
+use Rattle.bundles.specs.Readers.{Reader, firstLayout}
 use Rattle.resolution_rules.specs.Calls.{resolveCall}
 use Rattle.resolution_rules.specs.Readers.{DifferentTracks, Sound}
 use Rattle.resolution_rules.proofs.Calls.{call-means}
@@ -47,6 +50,7 @@ use Rattle.naming_list_rules.proofs.Listing as listing
 use Rattle.naming_list_rules.proofs.Others as others
 use Rattle.naming_list_rules.proofs.Entries as entries
 use Rattle.naming_list_rules.proofs.Calls as calls
+use Rattle.naming_list_rules.proofs.Sizes as sizes
 
 -- the list
 module _ (r : Recording) (s : ℕ) where
@@ -119,6 +123,10 @@ module _
         others-answer {out} {out₁} {out'} {out₁'} {a} {a'} e w v =
             let x = ap (λ (y : ℕ). resolveCall reader after n y) (sym e) ∙ others-resolve (length out) in
             calls.same-answer (resolveCall reader b n (length out)) w (subst (Wrote out' out₁' a') x v)
+
+-- the list and the bundle
+pub list-in-bundle : (b : List ℕ) (r : Recording) → firstLayout .means b ≡ ok r → (s : ℕ) → length (namingList r s) * listEntrySize ≤ length b
+list-in-bundle = sizes.list-in-bundle
 
 -- the naming call
 module _ (reader : Reader) (b : List ℕ) (s room : ℕ) where

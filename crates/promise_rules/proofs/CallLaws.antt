@@ -174,7 +174,7 @@ module _ (b : List ℕ) (g : Bytes b) (r : Recording) (accepted : firstLayout .m
 
 -- the naming list
 module _ (b : List ℕ) (g : Bytes b) (r : Recording) (accepted : firstLayout .means b ≡ ok r) (s n p : ℕ) where
-  names-it : Names r s n p → NamesIt r s n p
+  pub names-it : Names r s n p → NamesIt r s n p
   unfolding named nameFaultAt extractors
   names-it w =
       let k = keep-from (isExtractor (sampleOf r n)) (units (sampleOf r n)) (w .extractor) in
@@ -189,7 +189,7 @@ module _ (b : List ℕ) (g : Bytes b) (r : Recording) (accepted : firstLayout .m
             (offset-byte b g r accepted n (w .some) (w .there) p) (w .names-some));
       }
 
-  it-names : NamesIt r s n p → Names r s n p
+  pub it-names : NamesIt r s n p → Names r s n p
   unfolding named nameFaultAt extractors
   it-names w =
       let k = by-names (r .layout) (rise b g r accepted) n (trackRefIndex (sampleOf r n) p) (sampleOffset (sampleOf r n) p)

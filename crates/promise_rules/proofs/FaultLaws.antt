@@ -152,6 +152,33 @@ module _ (r : Recording) (rise : TimesRise (r .layout)) (n : ℕ) (byte : (p : �
       and-true true c h = (refl, h)
       and-true false c h = true-false false h refl
 
+  -- 23 and 24 are those of the name, both ways
+  pub name-fault-of : {m : ℕ} → nameFaultAt r n p ≡ suc m → ExtractorFault r n p (suc m) × (suc m < 25)
+  unfolding nameFaultAt
+  name-fault-of {m} e = (
+    fault-of (name-first e) (omega arith),
+    by-name (r .layout) n index offset
+        (λ h. let f = sym e ∙ link-23 (r .layout) n index offset h in omega arith)
+        (λ h k z. let f = sym e ∙ name-24 (r .layout) n index offset h k z in omega arith)
+        (λ z. let f = sym e ∙ z in absurd (omega arith)),
+  )
+
+  name-none :
+      0 < index → index ≤ count (r .layout) n index offset → ((k : ℕ) → NamedBy (r .layout) n index offset k → ⊥) →
+      nameFault (r .layout) n index offset ≡ 24
+  name-none h k none = by-number (sampleNamed (r .layout) n index offset)
+      (λ z. name-24 (r .layout) n index offset h k z)
+      (λ j z. absurd (none (named r n p) (is-named (name-good (r .layout) n index offset (omega arith)))))
+
+  pub name-fault-is : {m : ℕ} → ExtractorFault r n p m → m < 25 → nameFaultAt r n p ≡ m
+  unfolding nameFaultAt
+  name-fault-is (ExtractorFault.index h) l = link-23 (r .layout) n index offset h
+  name-fault-is (ExtractorFault.name h k none) l = name-none h k none
+  name-fault-is (ExtractorFault.form k w z) l = absurd (omega arith)
+  name-fault-is (ExtractorFault.start k w f z) l = absurd (omega arith)
+  name-fault-is (ExtractorFault.end k e w f s c z) l = absurd (omega arith)
+  name-fault-is (ExtractorFault.chain k e q w f s c d u a b t) l = absurd (omega arith)
+
   -- back
   then : {k : ℕ} → NamedBy (r .layout) n index offset k → extractFault r n p ≡ copyFault (sampleOf r k) o l
   unfolding named
@@ -161,12 +188,7 @@ module _ (r : Recording) (rise : TimesRise (r .layout)) (n : ℕ) (byte : (p : �
 
   pub is-fault : {m : ℕ} → ExtractorFault r n p m → (extractFault r n p ≡ m) × (0 < m)
   is-fault (ExtractorFault.index h) = (name-first (link-23 (r .layout) n index offset h), omega arith)
-  is-fault (ExtractorFault.name h k none) = (
-    by-number (sampleNamed (r .layout) n index offset)
-        (λ z. name-first (name-24 (r .layout) n index offset h k z))
-        (λ j z. absurd (none (named r n p) (is-named (name-good (r .layout) n index offset (omega arith))))),
-    omega arith,
-  )
+  is-fault (ExtractorFault.name h k none) = (name-first (name-none h k none), omega arith)
   is-fault (ExtractorFault.form k w broken) = (
     then w ∙ by-verdict (check (sampleOf r k))
         (λ a c v. copy-25 (sampleOf r k) o l v)

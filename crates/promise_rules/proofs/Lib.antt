@@ -18,4 +18,7 @@ pub mod ReturnLaws
 pub mod SlipLaws
 pub mod NumberLaws
 pub mod AbsentLaws
+pub mod ContentLaws
+pub mod StandLaws
+pub mod NamedLaws
 pub mod Cited

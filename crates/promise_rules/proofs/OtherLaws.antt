@@ -1,5 +1,5 @@
--- The proofs of what Demands says of where a unit stands after another sample's bytes are replaced. The idea: where a sample
--- starts follows from the length of the bundle and the lengths of the samples, which are kept. Assumes nothing.
+-- The proofs of what Demands and Contents say of where units stand, and of what a bundle holds, after a sample's bytes are replaced.
+-- The idea: where a sample starts follows from the length of the bundle and the lengths of the samples, which are kept. Assumes nothing.
 use Prim.Native.Nat.{ℕ, zero, suc, _+_, _-_, _≤_, _<_}
 use mathlib.Core.Path.{_≡_, refl, ap, ap₂, sym, _∙_}
 use mathlib.Core.List.{List, [], _∷_, map}
@@ -8,17 +8,26 @@ use lib.ListN.{length, getD, take, set}
 use Rattle.words.specs.Refusals.{Answer, refused, ok}
 use Rattle.words.specs.Lists.{nth, sum}
 use Rattle.words.specs.Bytes.{splice}
+use Rattle.words.specs.Buffers.{within}
+use Rattle.words.proofs.Numbered.{nth-map as nth-number}
+use Rattle.words.proofs.Refusals.{by-verdict}
 use Rattle.words.proofs.Splices.{splice-length}
 use Rattle.bundles.specs.Recordings.{Recording, sampleCount, contentOf, setNth, replaced}
 use Rattle.bundles.specs.Readers.{firstLayout}
 use Rattle.bundles.specs.Samples.{lengths}
 use Rattle.bundles.specs.Bundles.{bundleVerdict, contentsAt, contentAt}
 use Rattle.bundles.proofs.Promises.{means, samples-tile}
+use Rattle.bundles.proofs.Replacing.{records-replaced}
 use Rattle.bundles.proofs.Sections as sections
-use Rattle.resolution_rules.specs.Resolving.{Span}
-use Rattle.resolution_rules.specs.Calls.{placedBy, unitCall, placeCall}
+use Rattle.resolution_rules.specs.Resolving.{Span, judged, delivered}
+use Rattle.resolution_rules.specs.Calls.{placedBy, unitCall, placeCall, partsBy, partsOf, partsCall, namedIn, namedCall}
+use Rattle.resolution_rules.proofs.Calls.{number-bad, by-count, parts-number, parts-sample, parts-good, parts-means, named-means}
 use Rattle.resolution_rules.proofs.Readers.{firstLayout-sound}
 use Rattle.naming_list_rules.specs.Rules.{Unlisted}
+use Rattle.naming_list_rules.proofs.Replaced.{layout-kept, sample-other, name-fault-other, named-other}
+use Rattle.naming_list_rules.proofs.Others.{sample-kept}
+use Rattle.unit_parts.proofs.Parts.{parts-same}
+use Rattle.contents.specs.Contents.{countsCall, trackCall, referenceCall, sampleCall}
 use Rattle.promise_rules.proofs.AuditLaws.{others-unit as unit-same}
 
 set-lengths : (cs : List (List ℕ)) (n : ℕ) (new : List ℕ) → length new ≡ length (getD cs n []) → map (λ c. length c) (set cs n new) ≡ map (λ c. length c) cs
@@ -79,3 +88,65 @@ module _ (b : List ℕ) (r : Recording) (accepted : firstLayout .means b ≡ ok 
       (n : ℕ) → (n ≡ s → ⊥) → Unlisted r s n → (k : ℕ) →
       (unitCall firstLayout after n k ≡ unitCall firstLayout b n k) × (placeCall firstLayout after n k ≡ placeCall firstLayout b n k)
   others-unit n other unlisted k = (unit-same b r accepted s some there new equal-length n other unlisted k, others-place n other unlisted k)
+
+  -- all its units, and where they stand
+  parts-kept : (n : ℕ) → (n ≡ s → ⊥) → Unlisted r s n → partsOf (replaced r s new) n (firstLayout .contentAt after) ≡ partsOf r n (firstLayout .contentAt b)
+  unfolding replaced
+  parts-kept n other unlisted = by-count (sampleCount (r .layout)) n
+      (λ z. parts-number (replaced r s new) n _ z ∙ sym (parts-number r n _ z))
+      (λ h l.
+      let w = sample-kept r s new n other h l unlisted in
+      by-verdict (judged r n)
+      (λ m p e. parts-sample (replaced r s new) n h l _ (w .verdict ∙ e) ∙ sym (parts-sample r n h l _ e))
+      (λ e.
+      parts-good (replaced r s new) n h l _ (w .verdict ∙ e)
+      ∙ ap ok (ap (partsBy (firstLayout .contentAt after)) (w .units e)
+      ∙ parts-same (firstLayout .contentAt after) (firstLayout .contentAt b) (delivered r n) (λ u m. starts-kept (u .sample)))
+      ∙ sym (parts-good r n h l _ e)))
+
+  pub others-units : (n : ℕ) → (n ≡ s → ⊥) → Unlisted r s n → (room : ℕ) → partsCall firstLayout after n room ≡ partsCall firstLayout b n room
+  others-units n other unlisted room =
+      parts-means firstLayout after n room (still-accepted .1)
+      ∙ ap (within room) (parts-kept n other unlisted)
+      ∙ sym (parts-means firstLayout b n room accepted)
+
+  -- which sample an extractor of another sample names, listed or not
+  named-kept : (n : ℕ) → (n ≡ s → ⊥) → (p : ℕ) → namedIn (replaced r s new) n p ≡ namedIn r n p
+  unfolding namedIn
+  named-kept n other p =
+      rw (sample-other r s new n other, name-fault-other r s new n p other, named-other r s new n p other, layout-kept r s new)
+
+  pub others-named : (n : ℕ) → (n ≡ s → ⊥) → (p : ℕ) → namedCall firstLayout after n p ≡ namedCall firstLayout b n p
+  others-named n other p =
+      named-means firstLayout after n p (still-accepted .1) ∙ named-kept n other p ∙ sym (named-means firstLayout b n p accepted)
+
+  -- what the bundle holds
+  length-kept : (n : ℕ) → length (contentOf (replaced r s new) n) ≡ length (contentOf r n)
+  length-kept n =
+      sym (nth-number length (replaced r s new .contents) n [])
+      ∙ ap (λ ns. nth ns n 0) (replaced-lengths r s new equal-length)
+      ∙ nth-number length (r .contents) n []
+
+  track-kept : (k : ℕ) → trackCall firstLayout after k ≡ trackCall firstLayout b k
+  unfolding trackCall
+  track-kept k = rw (still-accepted .1, accepted, layout-kept r s new)
+      (by-count (length (r .layout .tracks)) k
+      (λ z. rw (number-bad (length (r .layout .tracks)) k z))
+      (λ h l. rw (records-replaced b r s new accepted some there equal-length k h l)))
+
+  sample-same : (n : ℕ) → sampleCall firstLayout after n ≡ sampleCall firstLayout b n
+  unfolding sampleCall
+  sample-same n = rw (still-accepted .1, accepted, layout-kept r s new, starts-kept n, length-kept n)
+
+  pub contents-kept :
+      (countsCall firstLayout after ≡ countsCall firstLayout b)
+      × ((k : ℕ) → trackCall firstLayout after k ≡ trackCall firstLayout b k)
+      × ((i : ℕ) → referenceCall firstLayout after i ≡ referenceCall firstLayout b i)
+      × ((n : ℕ) → sampleCall firstLayout after n ≡ sampleCall firstLayout b n)
+  unfolding countsCall referenceCall
+  contents-kept = (
+    rw (still-accepted .1, accepted, layout-kept r s new),
+    track-kept,
+    (λ i. rw (still-accepted .1, accepted, layout-kept r s new)),
+    sample-same,
+  )

@@ -52,10 +52,10 @@ module _ (b : List ℕ) (g : Bytes b) where
   pub check-refused : (m p : ℕ) → (bundleVerdict b ≡ refused m p) ↔ BundleRefused b m p
   check-refused m p = (bundle-by b g, by-bundle b g)
 
-  bundle-refused : {m p : ℕ} → firstLayout .means b ≡ refused m p → BundleRefused b m p
+  pub bundle-refused : {m p : ℕ} → firstLayout .means b ≡ refused m p → BundleRefused b m p
   bundle-refused e = bundle-by b g (means-verdict e)
 
-  refused-bundle : {m p : ℕ} → BundleRefused b m p → firstLayout .means b ≡ refused m p
+  pub refused-bundle : {m p : ℕ} → BundleRefused b m p → firstLayout .means b ≡ refused m p
   refused-bundle w = verdict-means (by-bundle b g w)
 
   module _ (r : Recording) (accepted : firstLayout .means b ≡ ok r) (n : ℕ) (some : 0 < n) (there : n ≤ sampleCount (r .layout)) where
@@ -96,7 +96,7 @@ module _ (b : List ℕ) (g : Bytes b) where
         (λ w. SampleRefused.extractor some there (first-extractor w))
         (judged-first r n m p j)
 
-    resolved : judged r n ≡ ok tt → Resolved r n (delivered r n)
+    pub resolved : judged r n ≡ ok tt → Resolved r n (delivered r n)
     resolved j =
         let good = good-exactly b g r accepted n some there .0 j in
         record { some = some; there = there; good = good; delivery = delivers b g r accepted n some there good }
@@ -114,7 +114,7 @@ module _ (b : List ℕ) (g : Bytes b) where
   judged-exactly r e n h l =
       (good-exactly b g r e n h l, λ m p. (λ j. sample-refused r e n h l j, λ w. refused-sample r e n w .2))
 
-  unresolved : (r : Recording) (n : ℕ) (us : List Span) → firstLayout .means b ≡ ok r → Resolved r n us → (judged r n ≡ ok tt) × (us ≡ delivered r n)
+  pub unresolved : (r : Recording) (n : ℕ) (us : List Span) → firstLayout .means b ≡ ok r → Resolved r n us → (judged r n ≡ ok tt) × (us ≡ delivered r n)
   unresolved r n us e w =
       (good-exactly b g r e n (w .some) (w .there) .1 (w .good), delivers-only b g r e n (w .some) (w .there) us (w .delivery))
 

@@ -2,8 +2,8 @@
 use Prim.Native.Nat.{ℕ, suc, _≤_}
 use mathlib.Core.Path.{_≡_, refl, sym, _∙_, subst}
 use mathlib.Core.Bool.{true}
-use mathlib.Core.List.{List, [], _∷_, _++_, Memᴰ·append-left, Memᴰ·append-right}
-use mathlib.Core.Logic.{_⊎_, inl, inr}
+use mathlib.Core.List.{List, [], _∷_, _++_, map, Memᴰ·append-left, Memᴰ·append-right, List·Memᴰ·not-nil, List·Memᴰ·cases-cons}
+use mathlib.Core.Logic.{_⊎_, inl, inr, ⊎-elim}
 use native.Mathlib.Omega.{arith}
 use lib.ListN.{length, getD, drop}
 use Rattle.words.specs.Tests.{_<?_, _≡?_}
@@ -15,7 +15,7 @@ use Rattle.words.specs.Buffers.{within, leaves, overwrite, Wrote}
 use Rattle.words.proofs.Tests.{by-bool, by-number}
 use Rattle.words.proofs.Refusals.{ok-refused, refused-same, NoneOr, none-or-if, none-or-orElse, none-or-some}
 use Rattle.words.proofs.Lists.{has-from}
-use Rattle.numbers.specs.Kinds.{kindOf}
+use Rattle.numbers.specs.Kinds.{numberOfKind, kindOf}
 use Rattle.numbers.specs.declared.Kind.{Kind}
 use Rattle.numbers.specs.declared.MaybeKind.{MaybeKind}
 use Rattle.numbers.specs.declared.MaybeKind.the-variants.{Known, Unknown}
@@ -30,15 +30,22 @@ use Rattle.bundles.specs.Recordings.{Recording}
 use Rattle.bundles.proofs.Promises.{refusals-within}
 use Rattle.bundles.specs.Readers.{firstLayout}
 use Rattle.resolution_rules.specs.Resolving.{sampleOf}
-use Rattle.resolution_rules.specs.Calls.{BundlePart, placeCall}
+use Rattle.bundles.specs.Parts.{BundlePart}
+use Rattle.resolution_rules.specs.Calls.{placeCall, namedCall}
+use Rattle.contents.specs.Contents.{countsCall, trackCall, referenceCall, sampleCall}
 use Rattle.tally.specs.declared.Tally.{Tally}
 use Rattle.audit_rules.specs.Auditing.{tallyCall}
-use Rattle.puddockle.specs.Returns.{Returned, ReturnedOutput, ReturnedPart, ReturnedTally}
+use Rattle.puddockle.specs.Returns.{told, Returned, ReturnedOutput, ReturnedPart, ReturnedTally}
+use Rattle.puddockle.specs.Returns.{ReturnedCounts, ReturnedTrack, ReturnedReference, ReturnedSample, ReturnedNamed}
 use Rattle.promise_rules.specs.Records.{WriteRefused}
 use Rattle.promise_rules.specs.SampleFaults.{FormRefused}
 use Rattle.promise_rules.specs.BundleFaults.{BundleRefused}
 use Rattle.promise_rules.specs.Refused.{CheckRefused, ExtractorFault, SampleRefused, ResolveRefused, UnitRefused, NamesRefused, AuditRefused}
-use Rattle.promise_rules.specs.Returns.{OutputAnswer, VerdictAnswer, OutputGiven, NumbersGiven, VerdictGiven, PartGiven, TallyGiven}
+use Rattle.promise_rules.specs.Returns.{OutputAnswer, VerdictAnswer, OutputGiven, NumbersGiven, VerdictGiven, PartGiven, TallyGiven, ValuesGiven}
+use Rattle.promise_rules.specs.Contents.{NumberRefused, UnitsRefused, NamedRefused}
+use Rattle.promise_rules.proofs.ContentLaws as contents
+use Rattle.promise_rules.proofs.StandLaws.{units-refused}
+use Rattle.promise_rules.proofs.NamedLaws.{named-refused}
 use Rattle.promise_rules.proofs.RecordLaws as records
 use Rattle.promise_rules.proofs.SampleFaultLaws.{by-form}
 use Rattle.promise_rules.proofs.BundleFaultLaws.{by-bundle}
@@ -106,6 +113,26 @@ unfolding some
 audit-number b g (AuditRefused.bundle w) = bundle-number b g w
 audit-number b g (AuditRefused.room r e h) = in-table 29 refl
 
+units-number : (b : List ℕ) → Bytes b → {n room m p : ℕ} → UnitsRefused b n room m p → m ∈ refusalNumbers
+unfolding some
+units-number b g (UnitsRefused.bundle w) = bundle-number b g w
+units-number b g (UnitsRefused.number r e h) = in-table 30 refl
+units-number b g (UnitsRefused.sample r e w) = sample-number w
+units-number b g (UnitsRefused.room r us e w h) = in-table 29 refl
+
+entry-number : (b : List ℕ) → Bytes b → {count n m p : ℕ} → NumberRefused b count n m p → m ∈ refusalNumbers
+unfolding some
+entry-number b g (NumberRefused.bundle w) = bundle-number b g w
+entry-number b g (NumberRefused.number v h) = in-table 30 refl
+
+named-number : (b : List ℕ) → Bytes b → {n p m q : ℕ} → NamedRefused b n p m q → m ∈ refusalNumbers
+unfolding some
+named-number b g (NamedRefused.bundle w) = bundle-number b g w
+named-number b g (NamedRefused.number r e h) = in-table 30 refl
+named-number b g {n} (NamedRefused.form r e h l w) = form-number (sampleOf r n) w
+named-number b g (NamedRefused.none r e h l v z) = in-table 30 refl
+named-number b g (NamedRefused.extractor r e h l v u t w k) = extractor-number w
+
 check-number : {kind l : ℕ} {s : List ℕ} {m p : ℕ} → CheckRefused kind l s m p → m ∈ refusalNumbers
 unfolding some
 check-number (CheckRefused.kind a c) = in-table 4 refl
@@ -163,6 +190,7 @@ output-number o (OutputAnswer.write kind ns a c x) m p e = write-by kind ns a c 
 output-number o (OutputAnswer.resolve b g n) m p e = resolve-number b g (refusals.resolve-refused b g n (length o) m p .0 e)
 output-number o (OutputAnswer.names b g s) m p e = names-number b g (refusals.names-refused b g s (length o) m p .0 e)
 output-number o (OutputAnswer.audit b g) m p e = audit-number b g (refusals.audit-refused b g (length o) m p .0 e)
+output-number o (OutputAnswer.units b g n) m p e = units-number b g (units-refused b g n (length o) m p .0 e)
 
 verdict-number : {a : Verdict} → VerdictAnswer a → (m p : ℕ) → a ≡ refused m p → m ∈ refusalNumbers
 verdict-number (VerdictAnswer.bundle b) m p e = of-bundle (refusals-within b m p e .number)
@@ -239,6 +267,56 @@ tally-by (ok t) w =
 pub tally-returned :
     (b : List ℕ) (room : ℕ) {x y z : ℕ} → ReturnedTally x y z (tallyCall firstLayout b room) → TallyGiven (tallyCall firstLayout b room) x y z
 tally-returned b room r = tally-by (tallyCall firstLayout b room) r
+
+-- numbers that an answer tells
+zeros : {A : Type 0} (fs : List (A → ℕ)) (n p : ℕ) (v : ℕ) → v ∈ map (λ f. told f (refused n p)) fs → v ≡ 0
+zeros [] n p v m = absurd (List·Memᴰ·not-nil m)
+zeros (f ∷ fs) n p v m = ⊎-elim (λ e. e) (λ k. zeros fs n p v k) (List·Memᴰ·cases-cons m)
+
+told-by :
+    {A : Type 0} (fs : List (A → ℕ)) (a : Answer A) → ((m q : ℕ) → a ≡ refused m q → m ∈ refusalNumbers) → {n p : ℕ} → Returned n p a →
+    ValuesGiven a (λ x. map (λ f. f x) fs) n p (map (λ f. told f a) fs)
+told-by fs (refused m q) h w = let e = w .number in let f = w .place in rw (e, f) (ValuesGiven.refuses (h m q refl) refl (zeros fs m q))
+told-by fs (ok x) h w = let e = w .number in let f = w .place in rw (e, f) (ValuesGiven.accepted x refl)
+
+module _ (b : List ℕ) (g : Bytes b) where
+  pub counts-returned :
+      {n p x y z : ℕ} → ReturnedCounts n p x y z (countsCall firstLayout b) →
+      ValuesGiven (countsCall firstLayout b) (λ c. c .tracks ∷ c .references ∷ c .samples ∷ []) n p (x ∷ y ∷ z ∷ [])
+  counts-returned w =
+      let e = w .tracks in let f = w .references in let h = w .samples in
+      rw (e, f, h) (told-by ((λ c. c .tracks) ∷ (λ c. c .references) ∷ (λ c. c .samples) ∷ []) (countsCall firstLayout b)
+      (λ m q k. bundle-number b g (contents.counts-refused b g m q .0 k)) (w .returned))
+
+  pub track-returned :
+      (k : ℕ) {n p x y z : ℕ} → ReturnedTrack n p x y z (trackCall firstLayout b k) →
+      ValuesGiven (trackCall firstLayout b k) (λ e. numberOfKind (e .kind) ∷ e .stands .start ∷ e .stands .size ∷ []) n p (x ∷ y ∷ z ∷ [])
+  track-returned k w =
+      let e = w .kinds in let f = w .starts in let h = w .sizes in
+      rw (e, f, h) (told-by ((λ e. numberOfKind (e .kind)) ∷ (λ e. e .stands .start) ∷ (λ e. e .stands .size) ∷ []) (trackCall firstLayout b k)
+      (λ m q v. entry-number b g (contents.track-refused b g k m q .0 v)) (w .returned))
+
+  pub reference-returned :
+      (i : ℕ) {n p x y : ℕ} → ReturnedReference n p x y (referenceCall firstLayout b i) →
+      ValuesGiven (referenceCall firstLayout b i) (λ f. f .from ∷ f .to ∷ []) n p (x ∷ y ∷ [])
+  reference-returned i w =
+      let e = w .from in let f = w .to in
+      rw (e, f) (told-by ((λ f. f .from) ∷ (λ f. f .to) ∷ []) (referenceCall firstLayout b i)
+      (λ m q v. entry-number b g (contents.reference-refused b g i m q .0 v)) (w .returned))
+
+  pub sample-returned :
+      (s : ℕ) {n p w x y z : ℕ} → ReturnedSample n p w x y z (sampleCall firstLayout b s) →
+      ValuesGiven (sampleCall firstLayout b s) (λ e. e .track ∷ e .time ∷ e .stands .start ∷ e .stands .size ∷ []) n p (w ∷ x ∷ y ∷ z ∷ [])
+  sample-returned s r =
+      let e = r .tracks in let f = r .times in let h = r .starts in let k = r .sizes in
+      rw (e, f, h, k) (told-by ((λ e. e .track) ∷ (λ e. e .time) ∷ (λ e. e .stands .start) ∷ (λ e. e .stands .size) ∷ []) (sampleCall firstLayout b s)
+      (λ m q v. entry-number b g (contents.sample-refused b g s m q .0 v)) (r .returned))
+
+  pub named-returned :
+      (s q : ℕ) {n p x : ℕ} → ReturnedNamed n p x (namedCall firstLayout b s q) → ValuesGiven (namedCall firstLayout b s q) (λ m. m ∷ []) n p (x ∷ [])
+  named-returned s q w =
+      let e = w .names in
+      rw e (told-by ((λ m. m) ∷ []) (namedCall firstLayout b s q) (λ m j v. named-number b g (named-refused b g s q m j .0 v)) (w .returned))
 
 -- what a call that wrote leaves
 pub answer-leaves : {out out₁ x : List ℕ} {a : Answer ℕ} → Wrote out out₁ a (ok x) → (a ≡ ok (length x)) × (out₁ ≡ x ++ drop (length x) out)

@@ -7,6 +7,7 @@
 --   First, SampleFaults, BundleFaults    the first place at fault; with which number, and where, a sample or a bundle is refused
 --   Refused     with which number, and where, a call is refused
 --   Returns     which answers the C functions give back
+--   Contents    what is told of what a bundle holds
 pub mod Records
 pub mod Reading
 pub mod Numbers
@@ -20,3 +21,4 @@ pub mod BundleFaults
 pub mod Audits
 pub mod Refused
 pub mod Returns
+pub mod Contents

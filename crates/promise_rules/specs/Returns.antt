@@ -1,6 +1,6 @@
 -- The answers that the C functions give back (crates/puddockle/specs/Returns says how), one case a function.
 --
---   OutputAnswer o a   of a function that writes bytes to an output buffer, which was o, and returns their count
+--   OutputAnswer o a   of a function that writes bytes or numbers to an output buffer, which was o, and returns their count
 --   VerdictAnswer a    of a function that only checks
 --
 -- and what a caller gets for an answer a: the number returned, 0 exactly if accepted; the place; and
@@ -10,6 +10,7 @@
 --   VerdictGiven a n p             nothing besides
 --   PartGiven a n p start size     a part of the bundle
 --   TallyGiven a x y z             the three numbers of a tally
+--   ValuesGiven a numbers n p ns   the numbers of what is told of a bundle
 use Prim.Native.Nat.{ℕ}
 use mathlib.Core.Path.{_≡_}
 use mathlib.Core.List.{List, _++_}
@@ -22,7 +23,8 @@ use Rattle.record_numbers.specs.Numbers.{writeNumbers}
 use Rattle.samples.specs.Check.{checkAlone}
 use Rattle.bundles.specs.Bundles.{bundleVerdict}
 use Rattle.bundles.specs.Readers.{firstLayout}
-use Rattle.resolution_rules.specs.Calls.{BundlePart, resolveCall}
+use Rattle.bundles.specs.Parts.{BundlePart}
+use Rattle.resolution_rules.specs.Calls.{resolveCall, partsCall}
 use Rattle.naming_list_rules.specs.Naming.{namesCall}
 use Rattle.tally.specs.declared.Tally.{Tally}
 use Rattle.audit_rules.specs.Auditing.{auditCall}
@@ -34,6 +36,7 @@ pub data OutputAnswer (o : List ℕ) : Answer (List ℕ) → Type 0 where
   resolve : (b : List ℕ) → Bytes b → (n : ℕ) → OutputAnswer o (resolveCall firstLayout b n (length o))
   names : (b : List ℕ) → Bytes b → (s : ℕ) → OutputAnswer o (namesCall firstLayout b s (length o))
   audit : (b : List ℕ) → Bytes b → OutputAnswer o (auditCall firstLayout b (length o))
+  units : (b : List ℕ) → Bytes b → (n : ℕ) → OutputAnswer o (partsCall firstLayout b n (length o))
 
 pub data VerdictAnswer : Verdict → Type 0 where
   bundle : (b : List ℕ) → VerdictAnswer (bundleVerdict b)
@@ -59,3 +62,9 @@ pub data PartGiven (a : Answer BundlePart) : ℕ → ℕ → ℕ → ℕ → Typ
 pub data TallyGiven (a : Answer Tally) : ℕ → ℕ → ℕ → Type 0 where
   accepted : (x y z : ℕ) → a ≡ ok (record { passed = x; empty = y; refused = z }) → TallyGiven a x y z
   refuses : {n p : ℕ} → a ≡ refused n p → TallyGiven a 0 0 0
+
+-- all numbers of an answer
+pub data ValuesGiven {A : Type 0} (a : Answer A) (numbers : A → List ℕ) : ℕ → ℕ → List ℕ → Type 0 where
+  accepted : (x : A) → a ≡ ok x → ValuesGiven a numbers 0 0 (numbers x)
+  refuses :
+      {n p : ℕ} {ns : List ℕ} → n ∈ refusalNumbers → a ≡ refused n p → ((v : ℕ) → v ∈ ns → v ≡ 0) → ValuesGiven a numbers n p ns

@@ -1,5 +1,6 @@
 -- The demands, in their order and nearly in their words, each as theorems in plain facts about the definitions that the contracts
 -- of the code cite. The numbers are those of document 01, as changed by document 02: RequestNN says what a request asks for.
+-- Of the calls that tell what a bundle holds, where all units stand and what an extractor names, Contents says the same.
 -- What a word means stands in the file that Demands/Words names for it; the files crates/promise_rules/proofs/*Laws prove.
 -- Assumes nothing.
 --

@@ -4,14 +4,18 @@
 --   output        and count and buffer
 --   part          and a part of the bundle
 --   tally         the three numbers of a tally
+--   counts, track, reference, sample, named    what a bundle holds
 use Prim.Native.Nat.{ℕ}
 use mathlib.Core.Path.{_≡_, refl, ap, _∙_}
 use mathlib.Core.List.{List}
 use Rattle.words.specs.Refusals.{Answer, refused, ok, numberOf, placeOf, countOf}
 use Rattle.words.specs.Buffers.{counted, Wrote}
-use Rattle.resolution_rules.specs.Calls.{BundlePart}
+use Rattle.numbers.specs.Kinds.{numberOfKind}
+use Rattle.bundles.specs.Parts.{BundlePart}
+use Rattle.bundles.specs.Recordings.{Reference}
+use Rattle.contents.specs.Contents.{Counts, TrackEntry, SampleEntry}
 use Rattle.tally.specs.declared.Tally.{Tally}
-use Rattle.puddockle.specs.Returns.{Returned, ReturnedOutput, ReturnedPart, startOf, sizeOf, ReturnedTally, passedOf, emptyOf, refusedOf}
+use Rattle.puddockle.specs.Returns.{Returned, ReturnedOutput, ReturnedPart, told, ReturnedTally, ReturnedCounts, ReturnedTrack, ReturnedReference, ReturnedSample, ReturnedNamed}
 
 pub returned : {A : Type 0} {n p : ℕ} {r a : Answer A} → r ≡ a → n ≡ numberOf r → p ≡ placeOf r → Returned n p a
 returned e f g = record { number = f ∙ ap numberOf e; place = g ∙ ap placeOf e }
@@ -32,8 +36,51 @@ output {a = a} w f g h =
       buffer = w .buffer;
     }
 
-pub part : {n p start size : ℕ} {r a : Answer BundlePart} → r ≡ a → n ≡ numberOf r → p ≡ placeOf r → start ≡ startOf r → size ≡ sizeOf r → ReturnedPart n p start size a
-part e f g h k = record { returned = returned e f g; starts = h ∙ ap startOf e; sizes = k ∙ ap sizeOf e }
+pub part : {n p start size : ℕ} {r a : Answer BundlePart} → r ≡ a → n ≡ numberOf r → p ≡ placeOf r → start ≡ told (λ u. u .start) r → size ≡ told (λ u. u .size) r → ReturnedPart n p start size a
+part e f g h k = record { returned = returned e f g; starts = h ∙ ap (told (λ u. u .start)) e; sizes = k ∙ ap (told (λ u. u .size)) e }
 
-pub tally : {x y z : ℕ} {r a : Answer Tally} → r ≡ a → x ≡ passedOf r → y ≡ emptyOf r → z ≡ refusedOf r → ReturnedTally x y z a
-tally e f g h = record { passed = f ∙ ap passedOf e; empty = g ∙ ap emptyOf e; refused = h ∙ ap refusedOf e }
+pub tally : {x y z : ℕ} {r a : Answer Tally} → r ≡ a → x ≡ told (λ t. t .passed) r → y ≡ told (λ t. t .empty) r → z ≡ told (λ t. t .refused) r → ReturnedTally x y z a
+tally e f g h = record { passed = f ∙ ap (told (λ t. t .passed)) e; empty = g ∙ ap (told (λ t. t .empty)) e; refused = h ∙ ap (told (λ t. t .refused)) e }
+
+pub counts :
+    {n p x y z : ℕ} {r a : Answer Counts} → r ≡ a → n ≡ numberOf r → p ≡ placeOf r →
+    x ≡ told (λ c. c .tracks) r → y ≡ told (λ c. c .references) r → z ≡ told (λ c. c .samples) r → ReturnedCounts n p x y z a
+counts e f g h k l =
+    record {
+      returned = returned e f g;
+      tracks = h ∙ ap (told (λ c. c .tracks)) e;
+      references = k ∙ ap (told (λ c. c .references)) e;
+      samples = l ∙ ap (told (λ c. c .samples)) e;
+    }
+
+pub track :
+    {n p x y z : ℕ} {r a : Answer TrackEntry} → r ≡ a → n ≡ numberOf r → p ≡ placeOf r →
+    x ≡ told (λ e. numberOfKind (e .kind)) r → y ≡ told (λ e. e .stands .start) r → z ≡ told (λ e. e .stands .size) r → ReturnedTrack n p x y z a
+track e f g h k l =
+    record {
+      returned = returned e f g;
+      kinds = h ∙ ap (told (λ e. numberOfKind (e .kind))) e;
+      starts = k ∙ ap (told (λ e. e .stands .start)) e;
+      sizes = l ∙ ap (told (λ e. e .stands .size)) e;
+    }
+
+pub reference :
+    {n p x y : ℕ} {r a : Answer Reference} → r ≡ a → n ≡ numberOf r → p ≡ placeOf r →
+    x ≡ told (λ f. f .from) r → y ≡ told (λ f. f .to) r → ReturnedReference n p x y a
+reference e f g h k = record { returned = returned e f g; from = h ∙ ap (told (λ f. f .from)) e; to = k ∙ ap (told (λ f. f .to)) e }
+
+pub sample :
+    {n p w x y z : ℕ} {r a : Answer SampleEntry} → r ≡ a → n ≡ numberOf r → p ≡ placeOf r →
+    w ≡ told (λ e. e .track) r → x ≡ told (λ e. e .time) r → y ≡ told (λ e. e .stands .start) r → z ≡ told (λ e. e .stands .size) r →
+    ReturnedSample n p w x y z a
+sample e f g h k l m =
+    record {
+      returned = returned e f g;
+      tracks = h ∙ ap (told (λ e. e .track)) e;
+      times = k ∙ ap (told (λ e. e .time)) e;
+      starts = l ∙ ap (told (λ e. e .stands .start)) e;
+      sizes = m ∙ ap (told (λ e. e .stands .size)) e;
+    }
+
+pub named : {n p x : ℕ} {r a : Answer ℕ} → r ≡ a → n ≡ numberOf r → p ≡ placeOf r → x ≡ told (λ m. m) r → ReturnedNamed n p x a
+named e f g h = record { returned = returned e f g; names = h ∙ ap (told (λ m. m)) e }

@@ -1,10 +1,12 @@
 -- What the calls answer, case by case. Assumes nothing.
 --
---   number-good, number-bad, by-count          30
+--   number-good, number-bad, by-count, number-there    30
 --   resolve-number, -sample, -good             resolving a sample of a recording
 --   unit-number, -sample, -past, -good         one delivered unit
+--   parts-number, -sample, -good               where all delivered units stand
+--   named-number, -form, -none, -extractor     the sample that an extractor names
 --   call-bundle, call-means                    resolving by a bundle and a reader: 1 to 13, else by its recording, with 29
---   unit-bundle, unit-means                    one delivered unit by a bundle
+--   unit-bundle, unit-means                    one delivered unit by a bundle; so parts- and named-bundle, -means
 --   resolves, resolved-because, refuses, refused-because     resolving answers, or is refused, exactly if ..
 --   refused-with                               which numbers, and where
 --   unit-refuses, unit-because                 one unit is refused exactly if ..
@@ -14,26 +16,29 @@
 --   joined                                     resolving joins what the unit call gives
 use Prim.Native.Nat.{ℕ, _≤_, _<_}
 use mathlib.Core.Path.{_≡_, refl, sym, _∙_, subst}
+use mathlib.Core.Bool.{true, false}
 use mathlib.Core.List.{List, _++_, List·Memᴰ}
 use mathlib.Core.Logic.{_⊎_, inl, inr}
 use native.Mathlib.Omega.{arith}
 use borrow.Author.Tests.{le-ltb, lt-ltb, ltb-true, ltb-false, ne-eqb, eqb-true, eqb-false}
 use lib.Dec.{ltb, eqb}
 use lib.ListN.{length}
-use Rattle.words.specs.Refusals.{refused, ok}
+use Rattle.words.specs.Refusals.{refused, ok, _andThen_, _atPlace_}
 use Rattle.words.specs.RefusalNumbers.{outputTooLong, noSuchNumber}
-use Rattle.words.specs.Lists.{each, nth, upto}
+use Rattle.words.specs.Lists.{has, each, nth, upto}
 use Rattle.words.specs.Bytes.{bytes}
 use Rattle.words.specs.Buffers.{within}
 use Rattle.words.proofs.Tests.{by-bool}
-use Rattle.words.proofs.Refusals.{by-verdict, by-answer, ok-refused, ok-same, refused-along}
+use Rattle.words.proofs.Refusals.{at-refused, by-verdict, by-answer, ok-refused, ok-same, refused-along}
 use Rattle.words.proofs.Lists.{each-cong, nth-mem, upto-from}
 use Rattle.words.proofs.Buffers.{within-room, within-not}
 use Rattle.bundles.specs.Recordings.{Recording, sampleCount, contentOf}
 use Rattle.bundles.specs.Readers.{Reader}
 use Rattle.copies.specs.Written.{lengthBefore}
-use Rattle.resolution_rules.specs.Resolving.{Span, delivered, judged}
-use Rattle.resolution_rules.specs.Calls.{spanBytes, written, output, numberFault, noSpan, resolve, resolveUnit, resolveCall, unitCall, spanIn, unitPart}
+use Rattle.units.specs.Aggregators.{extractors}
+use Rattle.samples.specs.Check.{check}
+use Rattle.resolution_rules.specs.Resolving.{Span, own, named, nameFaultAt, delivered, judged}
+use Rattle.resolution_rules.specs.Calls.{spanBytes, written, output, numberFault, noSpan, resolve, resolveUnit, namedIn, partsBy, partsOf, resolveCall, unitCall, partsCall, namedCall, spanIn, unitPart}
 use Rattle.resolution_rules.specs.Readers.{Sound}
 use Rattle.resolution_rules.specs.Rules.{JudgedRefusal, Resolves, ResolveRefuses, UnitRefuses, CallResolves, CallRefuses, UnitCallRefuses}
 use Rattle.words.proofs.Joined.{each-by-number, part-part}
@@ -59,6 +64,9 @@ module _ (count n : ℕ) where
       (λ t. f (inr (ltb-true count n t)))
       (λ t. g (omega arith) (ltb-false count n t)))
 
+  pub number-there : numberFault count n ≡ 0 → (0 < n) × (n ≤ count)
+  number-there e = by-count (λ h. let z = sym (number-bad h) ∙ e in absurd (omega arith)) (λ h l. (h, l))
+
 module _ (r : Recording) (n : ℕ) where
   abbrev count : ℕ
   count = sampleCount (r .layout)
@@ -71,6 +79,10 @@ module _ (r : Recording) (n : ℕ) where
   unfolding resolveUnit
   unit-number k h = rw (number-bad count n h)
 
+  pub parts-number : (starts : ℕ → ℕ) → (n ≡ 0) ⊎ (count < n) → partsOf r n starts ≡ refused noSuchNumber 0
+  unfolding partsOf
+  parts-number starts h = rw (number-bad count n h)
+
   module _ (h : 0 < n) (l : n ≤ count) where
     pub resolve-sample : {m p : ℕ} → judged r n ≡ refused m p → resolve r n ≡ refused m p
     unfolding resolve
@@ -79,6 +91,14 @@ module _ (r : Recording) (n : ℕ) where
     pub resolve-good : judged r n ≡ ok tt → resolve r n ≡ ok (output r (delivered r n))
     unfolding resolve
     resolve-good e = rw (number-good count n h l, e)
+
+    pub parts-sample : (starts : ℕ → ℕ) {m p : ℕ} → judged r n ≡ refused m p → partsOf r n starts ≡ refused m p
+    unfolding partsOf
+    parts-sample starts e = rw (number-good count n h l, e)
+
+    pub parts-good : (starts : ℕ → ℕ) → judged r n ≡ ok tt → partsOf r n starts ≡ ok (partsBy starts (delivered r n))
+    unfolding partsOf
+    parts-good starts e = rw (number-good count n h l, e)
 
     pub unit-sample : (k : ℕ) {m p : ℕ} → judged r n ≡ refused m p → resolveUnit r n k ≡ refused m p
     unfolding resolveUnit
@@ -91,6 +111,26 @@ module _ (r : Recording) (n : ℕ) where
     pub unit-good : (k : ℕ) → judged r n ≡ ok tt → 0 < k → k ≤ length (delivered r n) → resolveUnit r n k ≡ ok (nth (delivered r n) k noSpan)
     unfolding resolveUnit
     unit-good k e i j = rw (number-good count n h l, e, number-good (length (delivered r n)) k i j)
+
+-- the sample that an extractor names
+module _ (r : Recording) (n p : ℕ) where
+  pub named-number : {f : ℕ} → f ≡ numberFault (sampleCount (r .layout)) n → (f ≡ 0 → ⊥) → namedIn r n p ≡ refused f 0
+  unfolding namedIn
+  named-number e h = rw (at-refused 0 e h)
+
+  module _ (g : numberFault (sampleCount (r .layout)) n ≡ 0) where
+    pub named-form : {m q : ℕ} → check (own r n) ≡ refused m q → namedIn r n p ≡ refused m q
+    unfolding namedIn
+    named-form e = rw (g, e)
+
+    module _ (c : check (own r n) ≡ ok tt) where
+      pub named-none : has p (extractors (own r n)) ≡ false → namedIn r n p ≡ refused noSuchNumber 0
+      unfolding namedIn
+      named-none e = rw (g, c, e)
+
+      pub named-extractor : has p (extractors (own r n)) ≡ true → namedIn r n p ≡ (nameFaultAt r n p atPlace p andThen ok (named r n p))
+      unfolding namedIn
+      named-extractor e = rw (g, c, e)
 
 -- resolving and one delivered unit, of a recording
 module _ (r : Recording) (n : ℕ) where
@@ -164,6 +204,22 @@ module _ (reader : Reader) (b : List ℕ) (n : ℕ) where
   pub unit-means : {r : Recording} (k : ℕ) → reader .means b ≡ ok r → unitCall reader b n k ≡ resolveUnit r n k
   unfolding unitCall
   unit-means k e = rw e
+
+  pub parts-bundle : {m p : ℕ} (room : ℕ) → reader .means b ≡ refused m p → partsCall reader b n room ≡ refused m p
+  unfolding partsCall
+  parts-bundle room e = rw e
+
+  pub parts-means : {r : Recording} (room : ℕ) → reader .means b ≡ ok r → partsCall reader b n room ≡ within room (partsOf r n (reader .contentAt b))
+  unfolding partsCall
+  parts-means room e = rw e
+
+  pub named-bundle : {m q : ℕ} (p : ℕ) → reader .means b ≡ refused m q → namedCall reader b n p ≡ refused m q
+  unfolding namedCall
+  named-bundle p e = rw e
+
+  pub named-means : {r : Recording} (p : ℕ) → reader .means b ≡ ok r → namedCall reader b n p ≡ namedIn r n p
+  unfolding namedCall
+  named-means p e = rw e
 
   pub call-refuses : (room : ℕ) {m p : ℕ} → CallRefuses reader b n room m p → resolveCall reader b n room ≡ refused m p
   call-refuses room (CallRefuses.bundle e) = call-bundle room e

@@ -1,9 +1,11 @@
 -- What the calls on a bundle answer (01, 'Resolving', 'Numbers for no'): 1 to 13 first, then 30, then 14 to 28, then 29; for one delivered
--- unit 30 again, for its number, after 28. A reader says what a bundle b means; each order of refusals stands here once, for all calls.
+-- unit 30 again, for its number, after 28; for one extractor 30 again, for its place, after 22. A reader says what a bundle b means; each
+-- order of refusals stands here once, for all calls.
 --
 --   spanBytes r u                  the bytes of a delivered unit
 --   written r u, output r us       a delivered unit after a 4-byte length; delivered units so
 --   numberFault count n            30
+--   onNumber count n a             30 for the number n of count, else a
 --   onSample r n a                 30 for the sample number n, else a
 --   onGood r n a                   30, then 14 to 28 of sample n, else a
 --   onUnit r n k a                 the same, then 30 for the number k of a delivered unit, else a
@@ -12,23 +14,33 @@
 --   resolveUnit r n k              the kth unit that sample n delivers
 --   resolveCall reader b n room    the call on a bundle, with room for the output
 --   unitCall reader b n k          the call for one unit
---   placedBy starts a              where a unit stands, by where samples start
+--   placeOn starts u               where a unit stands, by where samples start
+--   placedBy starts a              the same for an answer
 --   placeCall reader b n k         the call for where in the bundle that unit stands
+--   partNumbers q, partsBy starts us    a part as two numbers; where units stand, two numbers each
+--   partsOf r n starts             where all units of sample n stand
+--   partsCall reader b n room      the call for where in the bundle all units stand, with room for these numbers
+--   namedIn r n p                  the sample that the extractor at p of sample n names
+--   namedCall reader b n p         the call for it
 --   spanIn reader b u              a delivered unit as a part of the bundle
 --   unitPart reader b a            that part for the answer of unitCall; empty if refused
 use Prim.Native.Nat.{ℕ, _+_}
-use mathlib.Core.List.{List, [], _++_}
+use mathlib.Core.List.{List, [], _∷_, _++_}
+use mathlib.Core.Bool.{not}
 use lib.ListN.{length}
 use Rattle.words.specs.Tests.{outOf}
 use Rattle.words.specs.RefusalNumbers.{noSuchNumber}
 use Rattle.words.specs.Refusals.{_if_, Answer, refused, ok, _andThen_, _atPlace_}
-use Rattle.words.specs.Lists.{each, nth}
+use Rattle.words.specs.Lists.{has, each, nth}
 use Rattle.words.specs.Bytes.{bytes, part}
 use Rattle.words.specs.Buffers.{within}
+use Rattle.units.specs.Aggregators.{extractors}
+use Rattle.samples.specs.Check.{check}
+use Rattle.bundles.specs.Parts.{BundlePart}
 use Rattle.bundles.specs.Recordings.{Recording, sampleCount, contentOf}
 use Rattle.bundles.specs.Readers.{Reader}
 use Rattle.copies.specs.Written.{lengthBefore}
-use Rattle.resolution_rules.specs.Resolving.{Span, delivered, judged}
+use Rattle.resolution_rules.specs.Resolving.{Span, own, named, nameFaultAt, delivered, judged}
 
 module _ (r : Recording) where
   abbrev pub spanBytes : Span → List ℕ
@@ -44,16 +56,19 @@ module _ (r : Recording) where
 unfoldable pub numberFault : ℕ → ℕ → ℕ
 numberFault count n = noSuchNumber if outOf count n
 
+abbrev pub onNumber : {A : Type 0} → ℕ → ℕ → Answer A → Answer A
+onNumber count n a = numberFault count n atPlace 0 andThen a
+
 -- On a recording: 30 first; 30, then 14 to 28; 30 again, for the number of a unit.
 module _ {A : Type 0} (r : Recording) (n : ℕ) where
   abbrev pub onSample : Answer A → Answer A
-  onSample a = numberFault (sampleCount (r .layout)) n atPlace 0 andThen a
+  onSample a = onNumber (sampleCount (r .layout)) n a
 
   abbrev pub onGood : Answer A → Answer A
   onGood a = onSample (judged r n andThen a)
 
   abbrev pub onUnit : ℕ → Answer A → Answer A
-  onUnit k a = onGood (numberFault (length (delivered r n)) k atPlace 0 andThen a)
+  onUnit k a = onGood (onNumber (length (delivered r n)) k a)
 
 -- On a bundle: 1 to 13 first.
 abbrev pub onMeaning : {A : Type 0} → Answer Recording → (Recording → Answer A) → Answer A
@@ -74,15 +89,32 @@ module _ (r : Recording) (n : ℕ) where
   unfoldable pub resolveUnit : ℕ → Answer Span
   resolveUnit k = onUnit r n k (ok (nth (delivered r n) k noSpan))
 
--- A part of the bundle: where it starts, and its size.
-pub record BundlePart : Type 0 where
-  pub start : ℕ
-  pub size : ℕ
+  -- 30, then 14 to 22 of the sample; 30 again where no extractor stands at p; then 23, 24 of that extractor alone
+  unfoldable pub namedIn : ℕ → Answer ℕ
+  namedIn p =
+      onSample r n (
+      check (own r n)
+      andThen (noSuchNumber if not (has p (extractors (own r n)))) atPlace 0
+      andThen nameFaultAt r n p atPlace p
+      andThen ok (named r n p))
 
 -- where a delivered unit stands, by where each sample starts
+abbrev pub placeOn : (ℕ → ℕ) → Span → BundlePart
+placeOn starts u = record { start = starts (u .sample) + u .start; size = u .size }
+
 abbrev pub placedBy : (ℕ → ℕ) → Answer Span → Answer BundlePart
 placedBy starts (refused n p) = refused n p
-placedBy starts (ok u) = ok (record { start = starts (u .sample) + u .start; size = u .size })
+placedBy starts (ok u) = ok (placeOn starts u)
+
+-- two numbers a unit: start and size
+abbrev pub partNumbers : BundlePart → List ℕ
+partNumbers q = q .start ∷ q .size ∷ []
+
+unfoldable pub partsBy : (ℕ → ℕ) → List Span → List ℕ
+partsBy starts us = each (λ u. partNumbers (placeOn starts u)) us
+
+unfoldable pub partsOf : Recording → ℕ → (ℕ → ℕ) → Answer (List ℕ)
+partsOf r n starts = onGood r n (ok (partsBy starts (delivered r n)))
 
 module _ (reader : Reader) (b : List ℕ) where
   unfoldable pub resolveCall : ℕ → ℕ → Answer (List ℕ)
@@ -93,6 +125,12 @@ module _ (reader : Reader) (b : List ℕ) where
 
   unfoldable pub placeCall : ℕ → ℕ → Answer BundlePart
   placeCall n k = placedBy (reader .contentAt b) (unitCall n k)
+
+  unfoldable pub partsCall : ℕ → ℕ → Answer (List ℕ)
+  partsCall n room = within room (onBundle reader b (λ r. partsOf r n (reader .contentAt b)))
+
+  unfoldable pub namedCall : ℕ → ℕ → Answer ℕ
+  namedCall n p = onBundle reader b (λ r. namedIn r n p)
 
   unfoldable pub spanIn : Span → List ℕ
   spanIn u = part b (reader .contentAt b (u .sample) + u .start) (u .size)

@@ -43,9 +43,9 @@ const SIZE: usize = 1;
 pub const BEFORE: usize = 2;
 
 // The columns of a reference.
-const FROM: usize = 0;
+pub const FROM: usize = 0;
 
-const TO: usize = 1;
+pub const TO: usize = 1;
 
 // The samples of a track: those numbered after `before`, up to `after`; none where `after` is not the greater.
 pub struct SampleRange {
@@ -86,7 +86,7 @@ pub fn track_total(t: &[u64]) -> usize
 }
 
 // The number of references, at most as many as there may be.
-fn reference_total(t: &[u64]) -> usize
+pub fn reference_total(t: &[u64]) -> usize
     ensures { λ r. ⌜ (r ≡ referenceTotal (now (t .entry))) × (r ≤ referenceMost) ⌝ }
 {
     count(t, REFERENCES, bundles::REFERENCE_MOST)

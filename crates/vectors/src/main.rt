@@ -2,7 +2,10 @@
 mod audited;
 mod bundle;
 mod check;
+mod entries;
+mod named;
 mod names;
+mod parts;
 mod print;
 mod record;
 mod replace;
@@ -32,6 +35,12 @@ fn answer(buffer: &[u8; 65536], n: usize) {
         8 => replace::answer(fields),
         9 => audited::answer(fields),
         10 => report::print_audit(request::bytes(fields)),
+        11 => entries::counts(fields),
+        12 => entries::track(fields),
+        13 => entries::reference(fields),
+        14 => entries::sample(fields),
+        15 => parts::answer(fields),
+        16 => named::answer(fields),
         _ => print::line(b"unknown request"),
     }
 }

@@ -1,4 +1,4 @@
-//! Audits one bundle with the library and the peer in turn: `bench [ROUNDS]`.
+//! Audits one bundle with the library and the peer in turn: `bench [ROUNDS]`. Other calls: `bench contents [ROUNDS]`.
 //!
 //! 16 MiB with 4,096 samples, then a quarter and a sixteenth of both, in four and sixteen times the rounds. The best
 //! of the rounds counts. All answers are compared. The slice for the lines is written to before each call.
@@ -7,6 +7,7 @@
 //! find data_offset; the other keeps where all units start, on the heap, and looks data_offset up.
 
 mod bundle;
+mod contents;
 
 use std::time::{Duration, Instant};
 
@@ -20,7 +21,12 @@ const ROUNDS: usize = 5;
 type Times = [Duration; 3];
 
 fn main() {
-    let rounds = std::env::args().nth(1).map_or(ROUNDS, |word| word.parse().expect("a number of rounds"));
+    let mut words = std::env::args().skip(1).peekable();
+    let others = words.next_if(|word| word == "contents").is_some();
+    let rounds = words.next().map_or(ROUNDS, |word| word.parse().expect("a number of rounds"));
+    if others {
+        return contents::run(rounds);
+    }
     println!("audit, best of {rounds} rounds at 16 MiB, in turn, one thread");
     println!(
         "peer: {}, opt-level {}, debug {}, {}; library: libpuddockle.a as it was built",

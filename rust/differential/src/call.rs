@@ -7,9 +7,11 @@ use peer::record_writer::LentSets;
 use puddockle::raw::*;
 
 use crate::buffer::{self, UNSET};
+use crate::contents;
 use crate::make::fields::MadeFields;
 
-/// A call of the C interface with all its arguments. `room` is the length of the slice lent for the output.
+/// A call of the C interface with all its arguments. `room` is the length of the slice lent for the output,
+/// in numbers for `ReadRecord` and `Units`, else in bytes.
 pub enum Call<'a> {
     ReadRecord { kind: u32, record: &'a [u8], room: usize },
     WriteRecord { kind: u32, fields: &'a MadeFields, room: usize },
@@ -19,6 +21,12 @@ pub enum Call<'a> {
     Unit { bundle: &'a [u8], sample: u64, unit: u64 },
     Names { bundle: &'a [u8], sample: u64, room: usize },
     Audit { bundle: &'a [u8], room: usize },
+    Counts { bundle: &'a [u8] },
+    Track { bundle: &'a [u8], track: u64 },
+    Reference { bundle: &'a [u8], reference: u64 },
+    Sample { bundle: &'a [u8], sample: u64 },
+    Units { bundle: &'a [u8], sample: u64, room: usize },
+    Named { bundle: &'a [u8], sample: u64, extractor: u64 },
 }
 
 /// Which number of a record says what there is of its trailer.
@@ -35,7 +43,7 @@ pub struct Outcome {
 }
 
 /// The pointer of a slice; null where it is empty, since C callers may give that.
-fn pointer<T>(slice: &[T]) -> *const T {
+pub fn pointer<T>(slice: &[T]) -> *const T {
     if slice.is_empty() {
         ptr::null()
     } else {
@@ -43,7 +51,7 @@ fn pointer<T>(slice: &[T]) -> *const T {
     }
 }
 
-fn pointer_mut<T>(slice: &mut [T]) -> *mut T {
+pub fn pointer_mut<T>(slice: &mut [T]) -> *mut T {
     if slice.is_empty() {
         ptr::null_mut()
     } else {
@@ -63,12 +71,18 @@ impl Call<'_> {
             Call::Unit { bundle, sample, unit } => one_unit(bundle, sample, unit),
             Call::Names { bundle, sample, room } => names(bundle, sample, room),
             Call::Audit { bundle, room } => audit(bundle, room),
+            Call::Counts { bundle } => contents::counts(bundle),
+            Call::Track { bundle, track } => contents::track(bundle, track),
+            Call::Reference { bundle, reference } => contents::reference(bundle, reference),
+            Call::Sample { bundle, sample } => contents::sample(bundle, sample),
+            Call::Units { bundle, sample, room } => contents::units(bundle, sample, room),
+            Call::Named { bundle, sample, extractor } => contents::named(bundle, sample, extractor),
         }
     }
 }
 
 /// The outcome, given both answers and both buffers.
-fn outcome<T: PartialEq>(answer: Answer, given: Answer, expected: &T, written: &T) -> Outcome {
+pub fn outcome<T: PartialEq>(answer: Answer, given: Answer, expected: &T, written: &T) -> Outcome {
     let difference = if given != answer {
         Some(format!("the peer answers {answer:?}, the library {given:?}"))
     } else if written != expected {
@@ -85,7 +99,7 @@ fn read_record(kind: u32, record: &[u8], room: usize) -> Outcome {
     let answer = calls::read_record(kind, record, expected.lent());
     let mut given = Answer { place: UNSET, ..Answer::default() };
     let fields = written.lent();
-    // Sound: slices and their own lengths, and a number of our own. So in all calls below.
+    // SAFETY: slices and their own lengths, and a number of our own. So in all calls below.
     given.number = unsafe {
         puddockle_read_record(kind, pointer(record), record.len(), pointer_mut(fields), fields.len(), &mut given.place)
     };
@@ -101,6 +115,7 @@ fn write_record(kind: u32, fields: &MadeFields, room: usize) -> Outcome {
     let answer = calls::write_record(kind, numbers, sets, expected.lent());
     let mut given = Answer { place: UNSET, count: UNSET, ..Answer::default() };
     let out = written.lent();
+    // SAFETY: as said above.
     given.number = unsafe {
         puddockle_write_record(
             kind,
@@ -125,6 +140,7 @@ fn write_record(kind: u32, fields: &MadeFields, room: usize) -> Outcome {
 fn check_sample(kind: u32, length_size: u32, sample: &[u8]) -> Outcome {
     let answer = calls::check_sample(kind, length_size, sample);
     let mut given = Answer { place: UNSET, ..Answer::default() };
+    // SAFETY: as said above.
     given.number =
         unsafe { puddockle_check_sample(kind, length_size, pointer(sample), sample.len(), &mut given.place) };
     outcome(answer, given, &(), &())
@@ -133,6 +149,7 @@ fn check_sample(kind: u32, length_size: u32, sample: &[u8]) -> Outcome {
 fn check_bundle(bundle: &[u8]) -> Outcome {
     let answer = calls::check_bundle(bundle);
     let mut given = Answer { place: UNSET, ..Answer::default() };
+    // SAFETY: as said above.
     given.number = unsafe { puddockle_check_bundle(pointer(bundle), bundle.len(), &mut given.place) };
     let trailers = if answer.number == 0 { trailers_in(bundle) } else { Vec::new() };
     Outcome { trailers, ..outcome(answer, given, &(), &()) }
@@ -158,6 +175,7 @@ fn resolve(bundle: &[u8], sample: u64, room: usize) -> Outcome {
     let answer = calls::resolve_sample(bundle, sample, expected.lent());
     let mut given = Answer { place: UNSET, count: UNSET, ..Answer::default() };
     let out = written.lent();
+    // SAFETY: as said above.
     given.number = unsafe {
         puddockle_resolve(
             pointer(bundle),
@@ -175,6 +193,7 @@ fn resolve(bundle: &[u8], sample: u64, room: usize) -> Outcome {
 fn one_unit(bundle: &[u8], sample: u64, unit: u64) -> Outcome {
     let answer = calls::one_unit(bundle, sample, unit);
     let mut given = Answer { place: UNSET, start: UNSET, length: UNSET, ..Answer::default() };
+    // SAFETY: as said above.
     given.number = unsafe {
         puddockle_unit(
             pointer(bundle),
@@ -195,6 +214,7 @@ fn names(bundle: &[u8], sample: u64, room: usize) -> Outcome {
     let answer = calls::naming_list(bundle, sample, expected.lent());
     let mut given = Answer { place: UNSET, count: UNSET, ..Answer::default() };
     let out = written.lent();
+    // SAFETY: as said above.
     given.number = unsafe {
         puddockle_names(
             pointer(bundle),
@@ -216,6 +236,7 @@ fn audit(bundle: &[u8], room: usize) -> Outcome {
     let mut given = Answer { place: UNSET, count: UNSET, tally: [UNSET; 3], ..Answer::default() };
     let [mut passed, mut empty, mut refused] = given.tally;
     let lines = written.lent();
+    // SAFETY: as said above.
     given.number = unsafe {
         puddockle_audit(
             pointer(bundle),

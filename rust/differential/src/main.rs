@@ -5,8 +5,10 @@
 
 mod buffer;
 mod call;
+mod contents;
 mod fixed;
 mod make;
+mod places;
 mod random;
 mod report;
 mod rounds;
@@ -87,6 +89,12 @@ impl Run {
             self.ask(Call::Resolve { bundle, sample: 1, room: 100 });
             self.ask(Call::Unit { bundle, sample: 1, unit: 1 });
             self.ask(Call::Names { bundle, sample: 1, room: 0 });
+            self.ask(Call::Counts { bundle });
+            self.ask(Call::Track { bundle, track: 1 });
+            self.ask(Call::Reference { bundle, reference: 1 });
+            self.ask(Call::Sample { bundle, sample: 1 });
+            self.ask(Call::Units { bundle, sample: 1, room: 2 });
+            self.ask(Call::Named { bundle, sample: 1, extractor: 0 });
         }
         for (kind, record) in fixed::records() {
             self.whence = "fixed record".to_string();

@@ -6,7 +6,7 @@ use crate::call::{Call, Outcome};
 
 /// The calls by name, with the numbers that document 01 lets each give (0: accepted). Then the numbers of audit lines,
 /// and what accepted records say of their trailer: 0 none, 1 absent, 2 present.
-const CALLS: [(&str, &[(u32, u32)]); 12] = [
+const CALLS: [(&str, &[(u32, u32)]); 18] = [
     ("read_record", &[(0, 0), (4, 4), (8, 13), (29, 29)]),
     ("write_record", &[(0, 0), (4, 4), (29, 29), (31, 31)]),
     ("check_sample", &[(0, 0), (4, 4), (11, 11), (14, 22)]),
@@ -15,6 +15,12 @@ const CALLS: [(&str, &[(u32, u32)]); 12] = [
     ("unit", &[(0, 28), (30, 30)]),
     ("names", &[(0, 13), (29, 30)]),
     ("audit", &[(0, 13), (29, 29)]),
+    ("counts", &[(0, 13)]),
+    ("track", &[(0, 13), (30, 30)]),
+    ("reference", &[(0, 13), (30, 30)]),
+    ("sample", &[(0, 13), (30, 30)]),
+    ("units", &[(0, 30)]),
+    ("named", &[(0, 24), (30, 30)]),
     ("audit lines", &[(0, 0), (14, 28)]),
     ("trailers read", &[(0, 2)]),
     ("trailers written", &[(0, 2)]),
@@ -40,6 +46,12 @@ impl Call<'_> {
             Call::Unit { .. } => "unit",
             Call::Names { .. } => "names",
             Call::Audit { .. } => "audit",
+            Call::Counts { .. } => "counts",
+            Call::Track { .. } => "track",
+            Call::Reference { .. } => "reference",
+            Call::Sample { .. } => "sample",
+            Call::Units { .. } => "units",
+            Call::Named { .. } => "named",
         }
     }
 }

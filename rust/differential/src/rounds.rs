@@ -7,6 +7,7 @@ use crate::make::bundle::make_bundle;
 use crate::make::fields::{make_fields, MadeFields};
 use crate::make::record::make_bytes;
 use crate::make::sample::{make_sample, Manner};
+use crate::places;
 use crate::random::Random;
 
 /// A kind: mostly 0 or 1, sometimes one that only looks so in fewer bits.
@@ -100,11 +101,44 @@ fn bundle_round(random: &mut Random, bundle: &[u8], ask: &mut impl FnMut(Call)) 
         let units = unit_count(bundle, sample);
         ask(Call::Unit { bundle, sample, unit: random.near(units) });
     }
+    contents_round(random, bundle, ask);
     for _ in 0..2 {
         // The first samples are named most.
         let sample = if random.once_in(2) { random.near(samples) } else { random.between(1, 4) as u64 };
         let needed = names_length(bundle, sample);
         ask(Call::Names { bundle, sample, room: room(random, needed) });
+    }
+}
+
+/// What is in the bundle, the units of its samples, and what extractors name.
+fn contents_round(random: &mut Random, bundle: &[u8], ask: &mut impl FnMut(Call)) {
+    ask(Call::Counts { bundle });
+    let [tracks, references, samples, _] = calls::counts(bundle).values;
+    ask(Call::Track { bundle, track: random.near(tracks) });
+    ask(Call::Reference { bundle, reference: random.near(references) });
+    for _ in 0..2 {
+        ask(Call::Sample { bundle, sample: random.near(samples) });
+    }
+    for _ in 0..2 {
+        let sample = random.near(samples);
+        let needed = 2 * unit_count(bundle, sample);
+        ask(Call::Units { bundle, sample, room: room(random, needed) });
+    }
+    // Later samples have the extractors.
+    for _ in 0..3 {
+        let sample = if random.once_in(2) {
+            random.near(samples)
+        } else {
+            samples - random.below(3).min(samples as usize) as u64
+        };
+        let places = places::of(bundle, sample);
+        let place = match random.below(8) {
+            0 => random.near(calls::sample(bundle, sample).values[3]),
+            1 | 2 if !places.units.is_empty() => random.pick(&places.units),
+            _ if !places.extractors.is_empty() => random.pick(&places.extractors),
+            _ => random.below(40) as u64,
+        };
+        ask(Call::Named { bundle, sample, extractor: place });
     }
 }
 
@@ -127,6 +161,35 @@ pub fn fixed_round(bundle: &[u8], ask: &mut impl FnMut(Call)) {
         for unit in [0, 1, 2, 1 << 32 | 1] {
             ask(Call::Unit { bundle, sample, unit });
         }
+        let needed = 2 * unit_count(bundle, sample) as usize;
+        for room in [needed, needed.saturating_sub(1), needed + 3] {
+            ask(Call::Units { bundle, sample, room });
+        }
+        // Every place of a small sample and one past it, and places that only look like 0.
+        let length = calls::sample(bundle, sample).values[3];
+        for extractor in (0..=length.min(MOST_PLACES)).chain([length, length + 1, 1 << 32, u64::MAX]) {
+            ask(Call::Named { bundle, sample, extractor });
+        }
+    }
+    fixed_contents(bundle, ask);
+}
+
+/// Places that are asked one by one in a fixed bundle.
+const MOST_PLACES: u64 = 24;
+
+/// What is in a fixed bundle: numbers 0, 1, 2, the last, past it, and those that only look like 1.
+fn fixed_contents(bundle: &[u8], ask: &mut impl FnMut(Call)) {
+    ask(Call::Counts { bundle });
+    let [tracks, references, samples, _] = calls::counts(bundle).values;
+    let numbers = |last: u64| [0, 1, 2, last, last + 1, 257, 1 << 32 | 1, u64::MAX];
+    for track in numbers(tracks) {
+        ask(Call::Track { bundle, track });
+    }
+    for reference in numbers(references) {
+        ask(Call::Reference { bundle, reference });
+    }
+    for sample in numbers(samples) {
+        ask(Call::Sample { bundle, sample });
     }
 }
 

@@ -28,6 +28,16 @@ impl Call<'_> {
                 format!("bundle {} sample {sample} room {room}", hex(bundle))
             }
             Call::Audit { bundle, room } => format!("bundle {} room {room}", hex(bundle)),
+            Call::Counts { bundle } => format!("bundle {}", hex(bundle)),
+            Call::Track { bundle, track } => format!("bundle {} track {track}", hex(bundle)),
+            Call::Reference { bundle, reference } => format!("bundle {} reference {reference}", hex(bundle)),
+            Call::Sample { bundle, sample } => format!("bundle {} sample {sample}", hex(bundle)),
+            Call::Units { bundle, sample, room } => {
+                format!("bundle {} sample {sample} room {room}", hex(bundle))
+            }
+            Call::Named { bundle, sample, extractor } => {
+                format!("bundle {} sample {sample} extractor {extractor}", hex(bundle))
+            }
         };
         format!("{} {arguments}", self.name())
     }

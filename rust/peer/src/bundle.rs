@@ -16,6 +16,8 @@ const MOST_SAMPLES: usize = 4096;
 #[derive(Clone, Debug)]
 pub struct Track {
     pub kind: Kind,
+    /// Where its record stands in the bundle.
+    pub record: Range<usize>,
     pub length_size: LengthSize,
     /// The tracks that its references lead to: track_ref_index n is entry n - 1.
     pub links: Vec<TrackNumber>,
@@ -32,11 +34,19 @@ pub struct Sample {
     pub length: usize,
 }
 
+/// A reference entry.
+#[derive(Clone, Copy, Debug, PartialEq, Eq)]
+pub struct Reference {
+    pub from: TrackNumber,
+    pub to: TrackNumber,
+}
+
 /// A bundle that was accepted.
 #[derive(Clone, Debug)]
 pub struct Bundle<'a> {
     pub bytes: &'a [u8],
     tracks: Vec<Track>,
+    references: Vec<Reference>,
     samples: Vec<Sample>,
 }
 
@@ -48,10 +58,19 @@ impl<'a> Bundle<'a> {
         }
         let mut rest = Reader { bytes, at: 0 };
         let mut tracks = read_tracks(&mut rest)?;
-        read_references(&mut rest, &mut tracks)?;
+        let references = read_references(&mut rest, &mut tracks)?;
         let samples = read_samples(&mut rest, &mut tracks)?;
         let samples = place_samples(&mut rest, samples)?;
-        Ok(Bundle { bytes, tracks, samples })
+        Ok(Bundle { bytes, tracks, references, samples })
+    }
+
+    pub fn track_count(&self) -> usize {
+        self.tracks.len()
+    }
+
+    /// The references of all tracks, in the order of their entries.
+    pub fn references(&self) -> &[Reference] {
+        &self.references
     }
 
     pub fn sample_count(&self) -> usize {
@@ -69,6 +88,14 @@ impl<'a> Bundle<'a> {
             return refuse(NUMBER, 0);
         }
         Ok(SampleNumber(given as usize))
+    }
+
+    /// The track number that a caller gives, if there is such a track; else 30.
+    pub fn track_number(&self, given: u64) -> Result<TrackNumber, Refusal> {
+        match usize::try_from(given) {
+            Ok(number) if (1..=self.tracks.len()).contains(&number) => Ok(TrackNumber(number)),
+            _ => refuse(NUMBER, 0),
+        }
     }
 
     pub fn sample(&self, number: SampleNumber) -> &Sample {
@@ -105,19 +132,27 @@ fn read_tracks(rest: &mut Reader) -> Result<Vec<Track>, Refusal> {
         let kind = rest.number(1, entry)?;
         let length = rest.number(2, entry)?;
         let bytes = rest.take(length as usize, entry)?;
+        let end = rest.at;
         let kind = Kind::of_number(kind as u32, entry)?;
         let record = match record::read(kind, bytes) {
             Ok(record) => record,
             Err(refusal) => return refuse(refusal.number, entry),
         };
-        tracks.push(Track { kind, length_size: record.length_size, links: Vec::new(), samples: 0..0 });
+        tracks.push(Track {
+            kind,
+            record: end - bytes.len()..end,
+            length_size: record.length_size,
+            links: Vec::new(),
+            samples: 0..0,
+        });
     }
     Ok(tracks)
 }
 
 /// Section 2. Both tracks exist, differ, and have the same length size.
-fn read_references(rest: &mut Reader, tracks: &mut [Track]) -> Result<(), Refusal> {
+fn read_references(rest: &mut Reader, tracks: &mut [Track]) -> Result<Vec<Reference>, Refusal> {
     let count = rest.count(1, 0, MOST_REFERENCES)?;
+    let mut references = Vec::with_capacity(count);
     for _ in 0..count {
         let entry = rest.at;
         let from = rest.number(1, entry)? as usize;
@@ -127,8 +162,9 @@ fn read_references(rest: &mut Reader, tracks: &mut [Track]) -> Result<(), Refusa
             return refuse(REFERENCE, entry);
         }
         tracks[from - 1].links.push(TrackNumber(to));
+        references.push(Reference { from: TrackNumber(from), to: TrackNumber(to) });
     }
-    Ok(())
+    Ok(references)
 }
 
 /// Section 3. Track numbers never fall; within a track times strictly rise.

@@ -2,14 +2,15 @@
 
 use crate::audit::{audit, Tally};
 use crate::bundle::Bundle;
+use crate::contents;
 use crate::form;
 use crate::kind::Kind;
 use crate::length_size::LengthSize;
-use crate::names::names;
+use crate::names::{named, names};
 use crate::record::{self, Record, Sets, Trailer};
 use crate::record_writer::{self, Fields, LentSets, TrailerFields};
 use crate::refusal::*;
-use crate::resolve::{resolve, unit};
+use crate::resolve::{resolve, unit, units};
 
 /// How many numbers describe a record.
 pub const FIELD_COUNT: usize = 18;
@@ -23,6 +24,8 @@ pub struct Answer {
     pub start: u64,
     pub length: u64,
     pub tally: [u64; 3],
+    /// What `counts`, `track`, `reference`, `sample` and `named` set, in the order of the C functions.
+    pub values: [u64; 4],
 }
 
 /// The answer of a refusal, or else the one that `accepted` makes.
@@ -35,6 +38,10 @@ fn answer<T>(result: Result<T, Refusal>, accepted: impl FnOnce(T) -> Answer) -> 
 
 fn counted(count: usize) -> Answer {
     Answer { count: count as u64, ..Answer::default() }
+}
+
+fn values(values: [u64; 4]) -> Answer {
+    Answer { values, ..Answer::default() }
 }
 
 pub fn read_record(kind: u32, bytes: &[u8], fields: &mut [u64]) -> Answer {
@@ -67,6 +74,40 @@ pub fn check_sample(kind: u32, length_size: u32, sample: &[u8]) -> Answer {
 
 pub fn check_bundle(bundle: &[u8]) -> Answer {
     answer(Bundle::read(bundle), |_| Answer::default())
+}
+
+pub fn counts(bundle: &[u8]) -> Answer {
+    answer(contents::counts(bundle), |[tracks, references, samples]| {
+        values([tracks as u64, references as u64, samples as u64, 0])
+    })
+}
+
+pub fn track(bundle: &[u8], number: u64) -> Answer {
+    answer(contents::track(bundle, number), |track| {
+        let kind = match track.kind {
+            Kind::Avc => 0,
+            Kind::Svc => 1,
+        };
+        values([kind, track.record.start as u64, track.record.len() as u64, 0])
+    })
+}
+
+pub fn reference(bundle: &[u8], number: u64) -> Answer {
+    answer(contents::reference(bundle, number), |found| values([found.from.0 as u64, found.to.0 as u64, 0, 0]))
+}
+
+pub fn sample(bundle: &[u8], number: u64) -> Answer {
+    answer(contents::sample(bundle, number), |found| {
+        values([found.track.0 as u64, found.time, found.start as u64, found.length as u64])
+    })
+}
+
+pub fn all_units(bundle: &[u8], sample: u64, spans: &mut [u64]) -> Answer {
+    answer(units(bundle, sample, spans), counted)
+}
+
+pub fn sample_named(bundle: &[u8], sample: u64, place: u64) -> Answer {
+    answer(named(bundle, sample, place), |found| values([found.0 as u64, 0, 0, 0]))
 }
 
 pub fn resolve_sample(bundle: &[u8], sample: u64, out: &mut [u8]) -> Answer {

@@ -10,10 +10,10 @@
 //! | `kind`, `length_size`, `numbers` | the small types |
 //! | `record`, `record_writer` | configuration records read and written |
 //! | `unit`, `form` | units of a sample, and the check of a sample's form |
-//! | `bundle`, `forms` | a bundle read; its samples' forms, each checked once |
+//! | `bundle`, `contents`, `forms` | a bundle read; what is in it; its samples' forms, each checked once |
 //! | `extractor`, `link`, `copy` | an extractor, the sample it names, what it copies |
-//! | `deliver`, `resolve` | the units that a sample delivers, written out or one of them |
-//! | `names`, `audit`, `program` | the naming list, the audit, the program's text |
+//! | `deliver`, `resolve` | the units that a sample delivers, written out, as parts, or one of them |
+//! | `names`, `audit`, `program` | the naming list and the sample named, the audit, the program's text |
 //! | `calls` | every call of the C interface, on slices |
 
 #![forbid(unsafe_code)]
@@ -21,6 +21,7 @@
 pub mod audit;
 pub mod bundle;
 pub mod calls;
+pub mod contents;
 pub mod copy;
 pub mod deliver;
 pub mod extractor;

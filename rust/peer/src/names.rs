@@ -1,9 +1,9 @@
-//! The naming list: which extractors name a sample.
+//! The naming list: which extractors name a sample. And which sample one extractor names.
 
 use crate::bundle::Bundle;
 use crate::extractor::Extractor;
 use crate::forms::Forms;
-use crate::link::named;
+use crate::link;
 use crate::numbers::SampleNumber;
 use crate::refusal::*;
 use crate::unit::*;
@@ -27,6 +27,24 @@ pub fn names(bytes: &[u8], sample: u64, out: &mut [u8]) -> Result<usize, Refusal
     Ok(list.len() * ENTRY)
 }
 
+/// The sample that the extractor at this place of a sample names.
+/// Refused with 1 to 13, 30 for the sample, 14 to 22, 30 where no extractor stands there, 23, 24.
+pub fn named(bytes: &[u8], sample: u64, place: u64) -> Result<SampleNumber, Refusal> {
+    let bundle = Bundle::read(bytes)?;
+    let own = bundle.number(sample)?;
+    Forms::new(&bundle).of(own)?;
+    let mut found = None;
+    for_each_extractor(&bundle, own, |at, extractor| {
+        if at as u64 == place {
+            found = Some(*extractor);
+        }
+    });
+    match found {
+        Some(extractor) => link::named(&bundle, own, &extractor).or_else(|no| refuse(no, place as usize)),
+        None => refuse(NUMBER, 0),
+    }
+}
+
 /// Sample and place of each extractor that names `asked`, by sample and then place.
 fn naming_list(bundle: &Bundle, asked: SampleNumber) -> Vec<(SampleNumber, usize)> {
     let mut forms = Forms::new(bundle);
@@ -34,7 +52,7 @@ fn naming_list(bundle: &Bundle, asked: SampleNumber) -> Vec<(SampleNumber, usize
     for number in bundle.numbers() {
         if forms.of(number).is_ok() {
             for_each_extractor(bundle, number, |place, extractor| {
-                if named(bundle, number, extractor) == Ok(asked) {
+                if link::named(bundle, number, extractor) == Ok(asked) {
                     list.push((number, place));
                 }
             });

@@ -1,4 +1,4 @@
-//! A sample resolved: all its delivered units, or one of them.
+//! A sample resolved: all its delivered units, as bytes or as parts of the bundle, or one of them.
 
 use crate::bundle::Bundle;
 use crate::deliver::{deliver, Part};
@@ -27,6 +27,22 @@ pub fn resolve(bytes: &[u8], sample: u64, out: &mut [u8]) -> Result<usize, Refus
         at += LENGTH_FIELD + part.length;
     })?;
     Ok(needed)
+}
+
+/// Writes where in the bundle each delivered unit stands, its start and its length, and answers how many numbers that
+/// is. Refused with 1 to 13, 30, 14 to 28, 29.
+pub fn units(bytes: &[u8], sample: u64, spans: &mut [u64]) -> Result<usize, Refusal> {
+    let bundle = Bundle::read(bytes)?;
+    let number = bundle.number(sample)?;
+    let mut found = Vec::new();
+    deliver(&bundle, &mut Forms::new(&bundle), number, &mut |part| {
+        found.extend([part.start as u64, part.length as u64]);
+    })?;
+    match spans.get_mut(..found.len()) {
+        Some(front) => front.copy_from_slice(&found),
+        None => return refuse(ROOM, 0),
+    }
+    Ok(found.len())
 }
 
 /// Where in the bundle the delivered unit with this number stands.

@@ -17,8 +17,8 @@ struct Peer;
 
 impl From<calls::Answer> for Answer {
     fn from(answer: calls::Answer) -> Answer {
-        let calls::Answer { number, place, count, start, length, tally } = answer;
-        Answer { number, place, count, start, length, tally }
+        let calls::Answer { number, place, count, start, length, tally, values } = answer;
+        Answer { number, place, count, start, length, tally, values }
     }
 }
 
@@ -58,6 +58,30 @@ impl Calls for Peer {
         assert_eq!(peer::audit::audit_with_starts(bundle, &mut with_starts), answer);
         assert_eq!(with_starts, plain);
         calls::audit_bundle(bundle, lines).into()
+    }
+
+    fn counts(bundle: &[u8]) -> Answer {
+        calls::counts(bundle).into()
+    }
+
+    fn track(bundle: &[u8], track: u64) -> Answer {
+        calls::track(bundle, track).into()
+    }
+
+    fn reference(bundle: &[u8], reference: u64) -> Answer {
+        calls::reference(bundle, reference).into()
+    }
+
+    fn sample(bundle: &[u8], sample: u64) -> Answer {
+        calls::sample(bundle, sample).into()
+    }
+
+    fn units(bundle: &[u8], sample: u64, spans: &mut [u64]) -> Answer {
+        calls::all_units(bundle, sample, spans).into()
+    }
+
+    fn named(bundle: &[u8], sample: u64, extractor: u64) -> Answer {
+        calls::sample_named(bundle, sample, extractor).into()
     }
 
     fn program(bundle: &[u8]) -> String {

@@ -1,162 +1,146 @@
-//! A bundle: checked, its samples resolved, the namers of a sample listed, the whole audited.
+//! A bundle checked, its limits, and what is in it: tracks, references, samples.
 
-use crate::raw::*;
-use crate::Refusal;
+use crate::raw::{puddockle_check_bundle, puddockle_counts, puddockle_reference, puddockle_sample, puddockle_track};
+use crate::{Kind, Refusal};
 
-/// The bytes of an audit line.
-pub const LINE: usize = 13;
+/// The most bytes that a bundle may have.
+pub const BUNDLE_MOST: usize = 16_777_216;
 
-/// The bytes of a naming list entry.
-pub const NAMES_ENTRY: usize = 6;
+/// The most tracks that a bundle may have. It has at least one.
+pub const TRACKS_MOST: usize = 16;
+
+/// The most references that a bundle may have.
+pub const REFERENCES_MOST: usize = 64;
+
+/// The most samples that a bundle may have.
+pub const SAMPLES_MOST: usize = 4096;
+
+/// The number of a track in its bundle, from 1.
+#[derive(Clone, Copy, Debug, PartialEq, Eq, PartialOrd, Ord, Hash)]
+pub struct TrackNumber(pub u64);
+
+/// The number of a reference in its bundle, from 1: over all tracks, not the track_ref_index of one.
+#[derive(Clone, Copy, Debug, PartialEq, Eq, PartialOrd, Ord, Hash)]
+pub struct ReferenceNumber(pub u64);
 
 /// The number of a sample in its bundle, from 1.
 #[derive(Clone, Copy, Debug, PartialEq, Eq, PartialOrd, Ord, Hash)]
 pub struct SampleNumber(pub u64);
 
-/// The number of a delivered unit of a sample, from 1.
-#[derive(Clone, Copy, Debug, PartialEq, Eq, PartialOrd, Ord, Hash)]
-pub struct UnitNumber(pub u64);
-
 /// Checks a bundle. Refused with 1 to 13. The form of its samples is not judged.
 pub fn check_bundle(bundle: &[u8]) -> Result<(), Refusal> {
     let mut place = 0;
-    // Sound: the slice is valid for its length, and `place` is a number of our own.
+    // SAFETY: the slice is valid for its length, and `place` is a number of our own.
     let number = unsafe { puddockle_check_bundle(bundle.as_ptr(), bundle.len(), &mut place) };
     Refusal::check(number, place)
 }
 
-/// Writes the units that a sample delivers, each after its length in 4 bytes, to the front of `out` and answers how
-/// many bytes that is. Refused with 1 to 13, 30, 14 to 28, 29; `out` is then untouched.
-pub fn resolve(bundle: &[u8], sample: SampleNumber, out: &mut [u8]) -> Result<usize, Refusal> {
-    let (mut place, mut count) = (0, 0);
-    // Sound: both slices are valid for their lengths, `out` is lent to us alone, and the two numbers are our own.
-    let number = unsafe {
-        puddockle_resolve(bundle.as_ptr(), bundle.len(), sample.0, out.as_mut_ptr(), out.len(), &mut place, &mut count)
-    };
-    Refusal::check(number, place)?;
-    Ok(count as usize)
-}
-
-/// One delivered unit of a sample: a part of the bundle, not a copy. Refused with 1 to 13, 30, 14 to 28, and 30 for
-/// the unit's number.
-pub fn unit(bundle: &[u8], sample: SampleNumber, unit: UnitNumber) -> Result<&[u8], Refusal> {
-    let (mut place, mut start, mut length) = (0, 0, 0);
-    // Sound: the slice is valid for its length, and the three numbers are our own.
-    let number =
-        unsafe { puddockle_unit(bundle.as_ptr(), bundle.len(), sample.0, unit.0, &mut place, &mut start, &mut length) };
-    Refusal::check(number, place)?;
-    Ok(&bundle[start as usize..(start + length) as usize])
-}
-
-/// One extractor of a naming list.
+/// How much a bundle has of what.
 #[derive(Clone, Copy, Debug, PartialEq, Eq)]
-pub struct NamesEntry {
-    /// The sample that the extractor stands in.
-    pub sample: SampleNumber,
-    /// Its place: the offset of its length field in that sample.
-    pub place: u64,
+pub struct Counts {
+    /// Its tracks, 1 to [`TRACKS_MOST`].
+    pub tracks: u64,
+    /// Its references, at most [`REFERENCES_MOST`].
+    pub references: u64,
+    /// Its samples, at most [`SAMPLES_MOST`].
+    pub samples: u64,
 }
 
-/// The entries that [`names`] wrote.
-#[derive(Clone, Copy, Debug)]
-pub struct NamingList<'a> {
-    pub bytes: &'a [u8],
-}
-
-impl<'a> NamingList<'a> {
-    /// The entries, by sample and then place.
-    pub fn entries(&self) -> impl Iterator<Item = NamesEntry> + 'a {
-        self.bytes
-            .chunks_exact(NAMES_ENTRY)
-            .map(|entry| NamesEntry { sample: SampleNumber(big_endian(&entry[..2])), place: big_endian(&entry[2..]) })
-    }
-}
-
-/// Lists the extractors that name a sample in `out`, 6 bytes each. Refused with 1 to 13, 30, 29; `out` is then
-/// untouched.
-pub fn names<'a>(bundle: &[u8], sample: SampleNumber, out: &'a mut [u8]) -> Result<NamingList<'a>, Refusal> {
-    let (mut place, mut count) = (0, 0);
-    // Sound: both slices are valid for their lengths, `out` is lent to us alone, and the two numbers are our own.
+/// How many tracks, references and samples a bundle has. Refused with 1 to 13.
+pub fn counts(bundle: &[u8]) -> Result<Counts, Refusal> {
+    let mut place = 0;
+    let mut counts = Counts { tracks: 0, references: 0, samples: 0 };
+    // SAFETY: the slice is valid for its length, and the numbers are our own.
     let number = unsafe {
-        puddockle_names(bundle.as_ptr(), bundle.len(), sample.0, out.as_mut_ptr(), out.len(), &mut place, &mut count)
-    };
-    Refusal::check(number, place)?;
-    Ok(NamingList { bytes: &out[..count as usize] })
-}
-
-/// How many samples passed, were empty, were refused.
-#[derive(Clone, Copy, Debug, Default, PartialEq, Eq)]
-pub struct Tally {
-    pub passed: u64,
-    pub empty: u64,
-    pub refused: u64,
-}
-
-/// What an audit says of one sample. An empty sample and one that passes but delivers nothing look alike here: they
-/// differ by the sample's length.
-#[derive(Clone, Copy, Debug, PartialEq, Eq)]
-pub struct AuditLine {
-    /// 14 to 28, for a refused sample.
-    pub refusal: Option<Refusal>,
-    /// The units delivered.
-    pub units: u64,
-}
-
-/// An audit's lines and tally.
-#[derive(Clone, Copy, Debug)]
-pub struct Audit<'a> {
-    pub bytes: &'a [u8],
-    pub tally: Tally,
-}
-
-impl<'a> Audit<'a> {
-    /// A line for each sample, in order of number.
-    pub fn lines(&self) -> AuditLines<'a> {
-        AuditLines { rest: self.bytes }
-    }
-}
-
-/// See [`Audit::lines`].
-#[derive(Clone, Debug)]
-pub struct AuditLines<'a> {
-    rest: &'a [u8],
-}
-
-impl Iterator for AuditLines<'_> {
-    type Item = AuditLine;
-
-    fn next(&mut self) -> Option<AuditLine> {
-        let (line, rest) = self.rest.split_at_checked(LINE)?;
-        self.rest = rest;
-        let number = line[0] as u32;
-        let refusal = Refusal::check(number, big_endian(&line[1..5])).err();
-        Some(AuditLine { refusal, units: big_endian(&line[5..]) })
-    }
-}
-
-/// Audits a bundle: writes 13 bytes a sample to the front of `lines`. Refused with 1 to 13, 29; `lines` is then
-/// untouched. A refused sample does not make the audit refuse.
-pub fn audit<'a>(bundle: &[u8], lines: &'a mut [u8]) -> Result<Audit<'a>, Refusal> {
-    let (mut place, mut count) = (0, 0);
-    let mut tally = Tally::default();
-    // Sound: both slices are valid for their lengths, `lines` is lent to us alone, and the numbers are our own.
-    let number = unsafe {
-        puddockle_audit(
+        puddockle_counts(
             bundle.as_ptr(),
             bundle.len(),
-            lines.as_mut_ptr(),
-            lines.len(),
             &mut place,
-            &mut count,
-            &mut tally.passed,
-            &mut tally.empty,
-            &mut tally.refused,
+            &mut counts.tracks,
+            &mut counts.references,
+            &mut counts.samples,
         )
     };
     Refusal::check(number, place)?;
-    Ok(Audit { bytes: &lines[..count as usize], tally })
+    Ok(counts)
 }
 
-fn big_endian(bytes: &[u8]) -> u64 {
-    bytes.iter().fold(0, |number, &byte| number << 8 | byte as u64)
+/// A track of a bundle.
+#[derive(Clone, Copy, Debug, PartialEq, Eq)]
+pub struct Track<'a> {
+    /// AVC or SVC.
+    pub kind: Kind,
+    /// Where the record starts in the bundle.
+    pub start: usize,
+    /// The decoder configuration record: [`read_record`](crate::read_record) accepts it.
+    pub record: &'a [u8],
+}
+
+/// The track of that number. Refused with 1 to 13, then 30.
+pub fn track(bundle: &[u8], track: TrackNumber) -> Result<Track<'_>, Refusal> {
+    let (mut place, mut kind, mut start, mut length) = (0, 0, 0, 0);
+    // SAFETY: the slice is valid for its length, and the four numbers are our own.
+    let number = unsafe {
+        puddockle_track(bundle.as_ptr(), bundle.len(), track.0, &mut place, &mut kind, &mut start, &mut length)
+    };
+    Refusal::check(number, place)?;
+    let kind = if kind == 0 { Kind::Avc } else { Kind::Svc };
+    Ok(Track { kind, start: start as usize, record: part(bundle, start, length) })
+}
+
+/// A reference of a bundle: extractors in samples of `from` may name samples of `to`.
+#[derive(Clone, Copy, Debug, PartialEq, Eq)]
+pub struct Reference {
+    /// The track whose extractors use it.
+    pub from: TrackNumber,
+    /// The track that they copy from.
+    pub to: TrackNumber,
+}
+
+/// The reference of that number. Refused with 1 to 13, then 30.
+pub fn reference(bundle: &[u8], reference: ReferenceNumber) -> Result<Reference, Refusal> {
+    let (mut place, mut from, mut to) = (0, 0, 0);
+    // SAFETY: the slice is valid for its length, and the three numbers are our own.
+    let number =
+        unsafe { puddockle_reference(bundle.as_ptr(), bundle.len(), reference.0, &mut place, &mut from, &mut to) };
+    Refusal::check(number, place)?;
+    Ok(Reference { from: TrackNumber(from), to: TrackNumber(to) })
+}
+
+/// A sample of a bundle, as it stands there.
+#[derive(Clone, Copy, Debug, PartialEq, Eq)]
+pub struct Sample<'a> {
+    /// The track that it belongs to.
+    pub track: TrackNumber,
+    /// Its decode time.
+    pub time: u64,
+    /// Where it starts in the bundle.
+    pub start: usize,
+    /// Its bytes. Whether they are a well-formed sample is not judged here.
+    pub bytes: &'a [u8],
+}
+
+/// The sample of that number. Refused with 1 to 13, then 30.
+pub fn sample(bundle: &[u8], sample: SampleNumber) -> Result<Sample<'_>, Refusal> {
+    let (mut place, mut track, mut time, mut start, mut length) = (0, 0, 0, 0, 0);
+    // SAFETY: the slice is valid for its length, and the five numbers are our own.
+    let number = unsafe {
+        puddockle_sample(
+            bundle.as_ptr(),
+            bundle.len(),
+            sample.0,
+            &mut place,
+            &mut track,
+            &mut time,
+            &mut start,
+            &mut length,
+        )
+    };
+    Refusal::check(number, place)?;
+    Ok(Sample { track: TrackNumber(track), time, start: start as usize, bytes: part(bundle, start, length) })
+}
+
+/// The `length` bytes from `start` on.
+pub(crate) fn part(bundle: &[u8], start: u64, length: u64) -> &[u8] {
+    &bundle[start as usize..][..length as usize]
 }

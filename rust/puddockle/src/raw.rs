@@ -1,12 +1,16 @@
 //! The C functions as they are: include/puddockle.h says what each takes, refuses and writes.
 //!
-//! Safe for any pointers that are valid for their lengths (a pointer may be null where its length is 0); the
-//! pointers to one number each must be valid, and what is written to must overlap nothing else.
+//! # Safety
+//!
+//! Each is safe to call with pointers that are valid for their lengths (a pointer may be null where its length is 0).
+//! The pointers to one number each must be valid, and what is written to must overlap nothing else. Any bytes and
+//! numbers may be given.
 
 /// How many numbers describe a record.
 pub const FIELDS: usize = 18;
 
 extern "C" {
+    /// A record read as [`FIELDS`] numbers.
     pub fn puddockle_read_record(
         kind: u32,
         record: *const u8,
@@ -16,6 +20,7 @@ extern "C" {
         place: *mut u64,
     ) -> u32;
 
+    /// A record written from its numbers and sets.
     pub fn puddockle_write_record(
         kind: u32,
         fields: *const u64,
@@ -32,6 +37,7 @@ extern "C" {
         count: *mut u64,
     ) -> u32;
 
+    /// The form of one sample checked, outside a bundle.
     pub fn puddockle_check_sample(
         kind: u32,
         length_size: u32,
@@ -40,8 +46,53 @@ extern "C" {
         place: *mut u64,
     ) -> u32;
 
+    /// A bundle checked.
     pub fn puddockle_check_bundle(bundle: *const u8, bundle_len: usize, place: *mut u64) -> u32;
 
+    /// How many tracks, references and samples a bundle has.
+    pub fn puddockle_counts(
+        bundle: *const u8,
+        bundle_len: usize,
+        place: *mut u64,
+        tracks: *mut u64,
+        references: *mut u64,
+        samples: *mut u64,
+    ) -> u32;
+
+    /// A track: its kind, and where its record lies in the bundle.
+    pub fn puddockle_track(
+        bundle: *const u8,
+        bundle_len: usize,
+        track: u64,
+        place: *mut u64,
+        kind: *mut u64,
+        record_start: *mut u64,
+        record_length: *mut u64,
+    ) -> u32;
+
+    /// A reference: from which track to which.
+    pub fn puddockle_reference(
+        bundle: *const u8,
+        bundle_len: usize,
+        reference: u64,
+        place: *mut u64,
+        from: *mut u64,
+        to: *mut u64,
+    ) -> u32;
+
+    /// A sample: its track, its time, and where its bytes lie in the bundle.
+    pub fn puddockle_sample(
+        bundle: *const u8,
+        bundle_len: usize,
+        sample: u64,
+        place: *mut u64,
+        track: *mut u64,
+        time: *mut u64,
+        start: *mut u64,
+        length: *mut u64,
+    ) -> u32;
+
+    /// What a sample delivers, written.
     pub fn puddockle_resolve(
         bundle: *const u8,
         bundle_len: usize,
@@ -52,6 +103,18 @@ extern "C" {
         count: *mut u64,
     ) -> u32;
 
+    /// Where the units that a sample delivers lie in the bundle: two numbers a unit.
+    pub fn puddockle_units(
+        bundle: *const u8,
+        bundle_len: usize,
+        sample: u64,
+        spans: *mut u64,
+        spans_len: usize,
+        place: *mut u64,
+        count: *mut u64,
+    ) -> u32;
+
+    /// Where one delivered unit of a sample lies in the bundle.
     pub fn puddockle_unit(
         bundle: *const u8,
         bundle_len: usize,
@@ -62,6 +125,7 @@ extern "C" {
         length: *mut u64,
     ) -> u32;
 
+    /// The extractors that name a sample, listed.
     pub fn puddockle_names(
         bundle: *const u8,
         bundle_len: usize,
@@ -72,6 +136,17 @@ extern "C" {
         count: *mut u64,
     ) -> u32;
 
+    /// The sample that an extractor names.
+    pub fn puddockle_named(
+        bundle: *const u8,
+        bundle_len: usize,
+        sample: u64,
+        extractor: u64,
+        place: *mut u64,
+        named: *mut u64,
+    ) -> u32;
+
+    /// A bundle audited.
     pub fn puddockle_audit(
         bundle: *const u8,
         bundle_len: usize,

@@ -1,6 +1,6 @@
 //! Decoder configuration records read and written.
 
-use std::fmt;
+use core::fmt;
 
 use crate::raw::{puddockle_read_record, puddockle_write_record, FIELDS};
 use crate::{Kind, LengthSize, Refusal};
@@ -8,7 +8,9 @@ use crate::{Kind, LengthSize, Refusal};
 /// The sets of one kind: how many, and their bytes, each set after its 2-byte length.
 #[derive(Clone, Copy, Debug, Default, PartialEq, Eq)]
 pub struct Sets<'a> {
+    /// How many sets there are.
     pub count: u64,
+    /// The sets, each after its length.
     pub bytes: &'a [u8],
 }
 
@@ -49,7 +51,16 @@ pub enum Trailer<'a> {
     /// A trailer belongs there and is left out: the record ends after its picture sets, as older recorders write it.
     Absent,
     /// The trailer of an AVC record of profile 100, 110, 122 or 144.
-    Present { chroma_format: u64, luma_depth_less_8: u64, chroma_depth_less_8: u64, extension: Sets<'a> },
+    Present {
+        /// chroma_format, 2 bits.
+        chroma_format: u64,
+        /// The luma bit depth less 8, 3 bits.
+        luma_depth_less_8: u64,
+        /// The chroma bit depth less 8, 3 bits.
+        chroma_depth_less_8: u64,
+        /// Sequence parameter set extensions, units of type 13.
+        extension: Sets<'a>,
+    },
 }
 
 /// In words, as a list of a record's fields has it.
@@ -73,14 +84,21 @@ impl fmt::Display for Trailer<'_> {
 /// their bits; the writer refuses them.
 #[derive(Clone, Copy, Debug, PartialEq, Eq)]
 pub struct Record<'a> {
+    /// The profile, one byte.
     pub profile: u64,
+    /// The compatibility flags, one byte.
     pub compatibility: u64,
+    /// The level, one byte.
     pub level: u64,
-    /// False in an AVC record, which has no such bit.
+    /// complete_representation of an SVC record. False in an AVC record, which has no such bit.
     pub complete_representation: bool,
+    /// The length size of the track's samples.
     pub length_size: LengthSize,
+    /// Sequence parameter sets, units of type 7, in an SVC record of type 7 or 15.
     pub sequence: Sets<'a>,
+    /// Picture parameter sets, units of type 8.
     pub picture: Sets<'a>,
+    /// The trailer, or why there is none.
     pub trailer: Trailer<'a>,
 }
 
@@ -88,7 +106,7 @@ pub struct Record<'a> {
 pub fn read_record(kind: Kind, record: &[u8]) -> Result<Record<'_>, Refusal> {
     let mut fields = [0; FIELDS];
     let mut place = 0;
-    // Sound: both slices are valid for their lengths, and `place` is a number of our own.
+    // SAFETY: both slices are valid for their lengths, and `place` is a number of our own.
     let number = unsafe {
         puddockle_read_record(kind as u32, record.as_ptr(), record.len(), fields.as_mut_ptr(), fields.len(), &mut place)
     };
@@ -119,6 +137,9 @@ pub fn read_record(kind: Kind, record: &[u8]) -> Result<Record<'_>, Refusal> {
 }
 
 /// Writes a record to the front of `out` and answers its length. Refused with 31, then 29; `out` is then untouched.
+///
+/// The room that it needs is 7 and the bytes of the sequence and picture sets; where a trailer is present, also 4 and
+/// the bytes of the extension sets.
 pub fn write_record(kind: Kind, record: &Record, out: &mut [u8]) -> Result<usize, Refusal> {
     let (sequence, picture) = (record.sequence, record.picture);
     let (trailer, values, extension) = match record.trailer {
@@ -138,7 +159,7 @@ pub fn write_record(kind: Kind, record: &Record, out: &mut [u8]) -> Result<usize
     fields[12..15].copy_from_slice(&values);
     fields[15] = extension.count;
     let (mut place, mut count) = (0, 0);
-    // Sound: every slice is valid for its length, `out` is lent to us alone, and the two numbers are our own.
+    // SAFETY: every slice is valid for its length, `out` is lent to us alone, and the two numbers are our own.
     let number = unsafe {
         puddockle_write_record(
             kind as u32,

@@ -1,13 +1,15 @@
 //! Refusals.
 
-use std::error::Error;
-use std::fmt;
+use core::error::Error;
+use core::fmt;
 
 /// A no: its number (1 to 31) and its place. The place is an offset in the bundle for 1 to 13, in the sample for 14
 /// to 28, else 0; for a record alone or a sample alone, 4 and 8 to 13 are at 0.
 #[derive(Clone, Copy, Debug, PartialEq, Eq)]
 pub struct Refusal {
+    /// Which rule was broken first: see [`meaning`](Refusal::meaning).
     pub number: u32,
+    /// Where.
     pub place: u64,
 }
 
@@ -52,7 +54,7 @@ impl Refusal {
             27 => "data_length wrong",
             28 => "an extractor in the copy",
             29 => "output longer than the slice lent for it",
-            30 => "no sample or delivered unit of that number",
+            30 => "nothing of that number, or no extractor at that place",
             31 => "fields fit no record",
             _ => "unknown refusal",
         }

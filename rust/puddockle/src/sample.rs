@@ -7,7 +7,9 @@ use crate::Refusal;
 #[derive(Clone, Copy, Debug, PartialEq, Eq, Hash)]
 #[repr(u32)]
 pub enum Kind {
+    /// The bench picture; its record is an avcC record.
     Avc = 0,
+    /// The detail; its record is an svcC record.
     Svc = 1,
 }
 
@@ -15,8 +17,11 @@ pub enum Kind {
 #[derive(Clone, Copy, Debug, PartialEq, Eq, Hash)]
 #[repr(u32)]
 pub enum LengthSize {
+    /// One byte.
     One = 1,
+    /// Two bytes.
     Two = 2,
+    /// Four bytes.
     Four = 4,
 }
 
@@ -36,7 +41,7 @@ impl LengthSize {
 /// lead is not judged.
 pub fn check_sample(kind: Kind, length_size: LengthSize, sample: &[u8]) -> Result<(), Refusal> {
     let mut place = 0;
-    // Sound: the slice is valid for its length, and `place` is a number of our own.
+    // SAFETY: the slice is valid for its length, and `place` is a number of our own.
     let number =
         unsafe { puddockle_check_sample(kind as u32, length_size as u32, sample.as_ptr(), sample.len(), &mut place) };
     Refusal::check(number, place)

@@ -83,8 +83,8 @@ fn b0_audit() {
     let audited = audit(&both, &mut lines).unwrap();
     assert_eq!(audited.tally, Tally { passed: 1, empty: 0, refused: 1 });
     let expected = [
-        AuditLine { refusal: None, units: 1 },
-        AuditLine { refusal: Some(Refusal { number: 26, place: 0 }), units: 0 },
+        AuditLine { outcome: Outcome::Passed, units: 1 },
+        AuditLine { outcome: Outcome::Refused(Refusal { number: 26, place: 0 }), units: 0 },
     ];
     assert_eq!(audited.lines().collect::<Vec<_>>(), expected);
     assert_eq!(lines[26..], [0xEE; 4]);

@@ -10,6 +10,9 @@ pub const FIELDS: usize = 18;
 /// What a lent buffer holds before a call.
 const CANARY: u8 = 0xEE;
 
+/// The same for a buffer of numbers.
+const CANARY_NUMBER: u64 = 0xEEEE_EEEE_EEEE_EEEE;
+
 /// The number returned and the numbers set. What a call does not set stays 0.
 #[derive(Clone, Copy, Debug, Default, PartialEq, Eq)]
 pub struct Answer {
@@ -19,6 +22,8 @@ pub struct Answer {
     pub start: u64,
     pub length: u64,
     pub tally: [u64; 3],
+    /// What `counts`, `track`, `reference`, `sample` and `named` set, in the order of the C functions.
+    pub values: [u64; 4],
 }
 
 /// The calls of an implementation, each as the C function, and the text of the program.
@@ -31,6 +36,12 @@ pub trait Calls: Sized {
     fn unit(bundle: &[u8], sample: u64, unit: u64) -> Answer;
     fn names(bundle: &[u8], sample: u64, out: &mut [u8]) -> Answer;
     fn audit(bundle: &[u8], lines: &mut [u8]) -> Answer;
+    fn counts(bundle: &[u8]) -> Answer;
+    fn track(bundle: &[u8], track: u64) -> Answer;
+    fn reference(bundle: &[u8], reference: u64) -> Answer;
+    fn sample(bundle: &[u8], sample: u64) -> Answer;
+    fn units(bundle: &[u8], sample: u64, spans: &mut [u64]) -> Answer;
+    fn named(bundle: &[u8], sample: u64, extractor: u64) -> Answer;
 
     /// What the program prints of a bundle that is not too big for it, by the audit's lines.
     fn program(bundle: &[u8]) -> String {
@@ -106,6 +117,18 @@ fn answer<C: Calls>(words: &[&str]) -> String {
             let part = answer.start as usize..(answer.start + answer.length) as usize;
             plain(&answer, || format!(" {}", dash(&bundle[part])))
         }
+        ["counts", bytes] => values(&C::counts(&hex(bytes)), 3),
+        ["track", bytes, track] => values(&C::track(&hex(bytes), number(track)), 3),
+        ["reference", bytes, reference] => values(&C::reference(&hex(bytes), number(reference)), 2),
+        ["sample", bytes, sample] => values(&C::sample(&hex(bytes), number(sample)), 4),
+        ["named", bytes, sample, place] => values(&C::named(&hex(bytes), number(sample), number(place)), 1),
+        ["units", bytes, sample, room] => {
+            let mut spans = vec![CANARY_NUMBER; number(room)];
+            let answer = C::units(&hex(bytes), number(sample), &mut spans);
+            let (front, rest) = spans.split_at(answer.count as usize);
+            let changed = if rest.iter().all(|&number| number == CANARY_NUMBER) { "" } else { " CHANGED" };
+            plain(&answer, || decimals(front)) + changed
+        }
         ["replace", bytes, sample, new] => replaced::<C>(&hex(bytes), number(sample), &hex(new)),
         ["program", bytes] => C::program(&hex(bytes)).replace('\n', "\\n"),
         _ => panic!("unknown request: {words:?}"),
@@ -170,6 +193,17 @@ fn plain(answer: &Answer, accepted: impl FnOnce() -> String) -> String {
         0 => "OK".to_string() + &accepted(),
         no => format!("R {no} {}", answer.place),
     }
+}
+
+/// As `plain`, with the first of the values. On a refusal they are all 0.
+fn values(answer: &Answer, count: usize) -> String {
+    assert!(answer.number == 0 || answer.values == [0; 4], "refused, and a number is set: {answer:?}");
+    plain(answer, || decimals(&answer.values[..count]))
+}
+
+/// Each number after a space.
+fn decimals(numbers: &[u64]) -> String {
+    numbers.iter().map(|number| format!(" {number}")).collect()
 }
 
 /// As `plain`, with the bytes written; says so if others were changed.
@@ -247,7 +281,7 @@ fn hex(word: &str) -> Vec<u8> {
     if word == "-" {
         return Vec::new();
     }
-    assert!(word.len().is_multiple_of(2), "odd number of digits: {word}");
+    assert!(word.len() & 1 == 0, "odd number of digits: {word}");
     (0..word.len()).step_by(2).map(|at| u8::from_str_radix(&word[at..at + 2], 16).unwrap()).collect()
 }
 

@@ -12,7 +12,8 @@ use Rattle.resolution_rules.specs.Calls.{numberFault}
 use Rattle.delivery.proofs.Steps.{sample-from}
 use Rattle.judging.specs.Steps.{judgementIn, answerOf}
 use Rattle.judging.proofs.Judgements.{judged-number, judged-good}
-use Rattle.delivered_unit.proofs.Answered.{number-some, find-refused, find-past, find-good}
+use Rattle.resolution_rules.proofs.Calls.{number-there}
+use Rattle.delivered_unit.proofs.Answered.{find-refused, find-past, find-good}
 use Rattle.delivered_unit.proofs.finding.find_delivery.Tie as tie
 
 abbrev R : tie.After-judged2 → Recording
@@ -64,7 +65,7 @@ sample-bytes-requires c κs = search needs
 find-requires : tie.Need-find-requires
 find-requires c κs =
     let a = c .before .before .before .before .before .before .before .before .before .before .args in
-    (sample-from (a .b .now) (a .t .now) (a .n .0) (c .before .track-of .ensures) (c .sample-bytes .ensures), good (c .before .before .before .before .before) .0, number-some _ _ (there (c .before .before)) .0)
+    (sample-from (a .b .now) (a .t .now) (a .n .0) (c .before .track-of .ensures) (c .sample-bytes .ensures), good (c .before .before .before .before .before) .0, number-there _ _ (there (c .before .before)) .0)
 
 returns-2 : tie.Need-returns-2
 returns-2 c = sym (find-refused _ _ _ (c .before .before .before .before .before .before .pre) (sym (c .before .before .before .judge .ensures) ∙ ap answerOf (c .before .judged .given .1)) _)

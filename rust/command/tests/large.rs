@@ -1,0 +1,73 @@
+//! Recordings of the largest size, and with as many refused samples as there can be.
+
+mod common;
+
+use std::time::{Duration, Instant};
+
+use common::*;
+
+#[test]
+fn sixteen_mebibytes() {
+    let folder = Folder::new();
+    let file = folder.file("large.bin", &good(16_777_216));
+    let file = file.to_str().unwrap();
+    let mut expected: String = (1..=4096).map(|number| format!("{number} passed 1\n")).collect();
+    expected += "passed 4096 empty 0 refused 0\n";
+    let ran = run(["audit", file]);
+    assert_eq!((ran.status, ran.text() == expected), (Some(0), true));
+    let ran = run(["tracks", "--json", file]);
+    let samples = &ran.document()["samples"];
+    assert_eq!(samples.list().len(), 4096);
+    // Times of more than 53 bits are whole.
+    assert_eq!(samples[4095]["time"].text(), (u64::MAX - 1).to_string());
+    let ran = run(["units", file, "4096", "--json"]);
+    assert_eq!(ran.document()["units"][0]["from_sample"].number(), 4096);
+    // One byte more.
+    let mut longer = good(16_777_216);
+    longer.push(0);
+    let ran = run_on(&longer, ["audit", "-"]);
+    assert_eq!((ran.status, ran.text()), (Some(1), "bundle refused 1 at 0 - bundle too long\n"));
+}
+
+/// One sample of millions of units.
+#[test]
+fn many_units() {
+    let bundle = bundle(&[(0, AVC)], &[], &[(1, 0, [1, 0x65].repeat(2_000_000))]);
+    let ran = run_on(&bundle, ["units", "-", "1", "-o", "-"]);
+    assert_eq!((ran.status, ran.out.len()), (Some(0), 2_000_000 * 5));
+    assert!(ran.out.chunks(5).all(|unit| unit == [0, 0, 0, 1, 0x65]));
+    let ran = run_on(&bundle, ["units", "-", "1", "--unit", "2000000"]);
+    assert_eq!(ran.text().lines().count(), 2);
+    // In 150 MB; and in too little a message.
+    let folder = Folder::new();
+    folder.file("b.bin", &bundle);
+    let ran = shell("ulimit -v 150000; $P units b.bin 1 -o out", &folder.0);
+    assert_eq!((ran.status, ran.said.as_str()), (Some(0), ""));
+    assert_eq!(std::fs::metadata(folder.0.join("out")).unwrap().len(), 2_000_000 * 5);
+    fails(shell("ulimit -v 60000; $P units b.bin 1 -o -", &folder.0), "no memory for 4194304 units");
+}
+
+/// 4,096 refused samples, each slow to go over: what hangs on them is listed up to a time, and the cut is told.
+#[test]
+fn many_refused() {
+    let mut sample = [1, 0x65].repeat(2000);
+    sample.push(0);
+    let samples: Vec<_> = (0..4096).map(|time| (1, time, sample.clone())).collect();
+    let bundle = bundle(&[(0, AVC)], &[], &samples);
+    let start = Instant::now();
+    let ran = run_on(&bundle, ["audit", "-"]);
+    assert!(start.elapsed() < Duration::from_secs(60), "{:?}", start.elapsed());
+    assert_eq!(ran.status, Some(1));
+    let lines: Vec<&str> = ran.text().lines().collect();
+    assert_eq!(lines[4096], "passed 0 empty 0 refused 4096");
+    assert!(lines[4095].starts_with("4096 refused 16 at 4000 - "), "{}", lines[4095]);
+    let listed = lines[4097..].iter().filter(|line| line.starts_with("no sample hangs on sample ")).count();
+    let last = lines[lines.len() - 1];
+    let cut = format!("cut after 5 seconds: what hangs on sample {} and on refused", listed + 1);
+    assert!(listed == 4096 || last.starts_with(&cut), "{listed}: {last}");
+    let ran = run_on(&bundle, ["audit", "--json", "-"]);
+    let file = &ran.document()["files"][0];
+    let listed = file["dependents"].list().len() as u64;
+    assert!(listed == 4096 || file["dependents_cut_at"].number() == listed + 1);
+    assert_eq!(file["samples"].list().len(), 4096);
+}

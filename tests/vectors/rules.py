@@ -1,0 +1,322 @@
+"""The rules of docs/FORMAT.md in Python, for the answers of the vectors that make_contents makes.
+
+Written from FORMAT.md alone, plainly and not for speed. A refusal is the exception No, with a number and a place.
+"""
+
+
+class No(Exception):
+    def __init__(self, number, place=0):
+        super().__init__(number, place)
+        self.number, self.place = number, place
+
+
+def big(data, at, size):
+    return int.from_bytes(data[at : at + size], "big")
+
+
+class Bytes:
+    """Bytes read front to back; what is not there is refused."""
+
+    def __init__(self, data, cut):
+        self.data, self.at, self.cut = data, 0, cut
+
+    def take(self, size, place=0):
+        if len(self.data) - self.at < size:
+            raise No(self.cut, place)
+        self.at += size
+        return self.data[self.at - size : self.at]
+
+    def number(self, size, place=0):
+        return int.from_bytes(self.take(size, place), "big")
+
+    def ended(self):
+        return self.at == len(self.data)
+
+
+# Configuration records
+
+
+def sets(reader, count, types):
+    for _ in range(count):
+        length = reader.number(2)
+        if length == 0:
+            raise No(12)
+        first = reader.take(length)[0]
+        if first & 0x80 or first & 0x1F not in types:
+            raise No(12)
+
+
+def length_size(kind, record):
+    """L of an accepted record."""
+    reader = Bytes(record, 8)
+    if reader.number(1) != 1:
+        raise No(9)
+    profile = reader.number(3) >> 16
+    byte = reader.number(1)
+    if byte & (0xFC if kind == 0 else 0x7C) != (0xFC if kind == 0 else 0x7C):
+        raise No(10)
+    size = (byte & 3) + 1
+    if size == 3:
+        raise No(11)
+    byte = reader.number(1)
+    if byte & (0xE0 if kind == 0 else 0x80) != (0xE0 if kind == 0 else 0):
+        raise No(10)
+    sets(reader, byte & (0x1F if kind == 0 else 0x7F), (7,) if kind == 0 else (7, 15))
+    sets(reader, reader.number(1), (8,))
+    if kind == 0 and profile in (100, 110, 122, 144) and not reader.ended():
+        for fixed in (0xFC, 0xF8, 0xF8):
+            if reader.number(1) & fixed != fixed:
+                raise No(10)
+        sets(reader, reader.number(1), (13,))
+    if not reader.ended():
+        raise No(13)
+    return size
+
+
+# The bundle
+
+
+class Bundle:
+    """An accepted bundle. tracks: kind, record start, record length, L. references: from, to. samples: track, time, start, length."""
+
+    def __init__(self, data):
+        if len(data) > 16_777_216:
+            raise No(1)
+        self.data, reader = data, Bytes(data, 2)
+        self.tracks = [self.track(reader) for _ in range(count(reader, 1, 1, 16))]
+        self.references = [self.reference(reader) for _ in range(count(reader, 1, 0, 64))]
+        entries = []
+        for _ in range(count(reader, 2, 0, 4096)):
+            entries.append(self.entry(reader, entries[-1] if entries else None))
+        place = reader.at
+        total = reader.number(4, place)
+        if total != sum(length for _, _, length in entries):
+            raise No(7, place)
+        start = reader.at
+        reader.take(total, place)
+        if not reader.ended():
+            raise No(7, place)
+        self.samples = []
+        for track, time, length in entries:
+            self.samples.append((track, time, start, length))
+            start += length
+
+    def track(self, reader):
+        place = reader.at
+        kind, length = reader.number(1, place), reader.number(2, place)
+        record = reader.take(length, place)
+        if kind not in (0, 1):
+            raise No(4, place)
+        try:
+            return kind, reader.at - length, length, length_size(kind, record)
+        except No as no:
+            raise No(no.number, place)
+
+    def reference(self, reader):
+        place = reader.at
+        source, target = reader.take(2, place)
+        there = range(1, len(self.tracks) + 1)
+        if source not in there or target not in there or source == target:
+            raise No(5, place)
+        if self.tracks[source - 1][3] != self.tracks[target - 1][3]:
+            raise No(5, place)
+        return source, target
+
+    def entry(self, reader, last):
+        place = reader.at
+        data = reader.take(13, place)
+        track, time, length = data[0], big(data, 1, 8), big(data, 9, 4)
+        if not 1 <= track <= len(self.tracks) or last and (track, time) <= last[:2]:
+            raise No(6, place)
+        return track, time, length
+
+    def one_of(self, things, number):
+        if not 1 <= number <= len(things):
+            raise No(30)
+        return things[number - 1]
+
+    def sample(self, number):
+        """Its kind, L and bytes."""
+        track, _, start, length = self.one_of(self.samples, number)
+        kind, _, _, size = self.tracks[track - 1]
+        return kind, size, self.data[start : start + length]
+
+
+def count(reader, size, least, most):
+    place = reader.at
+    number = reader.number(size, place)
+    if not least <= number <= most:
+        raise No(3, place)
+    return number
+
+
+# Units in a sample
+
+
+def unit_at(size, data, at, end):
+    """Where the unit at this place ends. 14 to 18."""
+    if end - at < size:
+        raise No(14, at)
+    length = big(data, at, size)
+    if length > end - at - size:
+        raise No(15, at)
+    if length == 0:
+        raise No(16, at)
+    first = data[at + size]
+    if first & 0x80:
+        raise No(17, at)
+    if length < {14: 4, 20: 4, 31: 4, 30: 4 + size}.get(first & 0x1F, 1):
+        raise No(18, at)
+    return at + size + length
+
+
+def parts(size, data, at, end):
+    """Place, end and type of each unit between two borders."""
+    found = []
+    while at < end:
+        last = unit_at(size, data, at, end)
+        found.append((at, last, data[at + size] & 0x1F))
+        at = last
+    return found
+
+
+def included(size, data, unit):
+    return parts(size, data, unit[0] + size + 4 + size, unit[1])
+
+
+def covered(size, data, unit):
+    """Where the bytes that an aggregator covers end."""
+    return unit[1] + big(data, unit[0] + size + 4, size)
+
+
+def check(kind, size, data):
+    """14 to 22."""
+    units = parts(size, data, 0, len(data))
+    for unit in units:
+        if unit[2] == 30:
+            at = unit[0] + size + 4 + size
+            while at < unit[1]:
+                last = unit_at(size, data, at, unit[1])
+                inner = data[at + size] & 0x1F
+                if inner == 30:
+                    raise No(19, at)
+                if kind == 0 and 1 <= inner <= 5:
+                    raise No(20, at)
+                if inner == 31 and last - at - size != 6 + 2 * size:
+                    raise No(22, at)
+                at = last
+            end = covered(size, data, unit)
+            borders = [u[0] for u in units] + [len(data)]
+            if end not in borders or any(u[2] == 30 and unit[1] <= u[0] < end for u in units):
+                raise No(21, unit[0])
+        if unit[2] == 31 and unit[1] - unit[0] - size != 6 + 2 * size:
+            raise No(22, unit[0])
+
+
+def flat(size, data, units):
+    """Aggregators replaced by what they include."""
+    return [inner for unit in units for inner in (included(size, data, unit) if unit[2] == 30 else [unit])]
+
+
+def extractors(bundle, number):
+    """The extractors of a well-formed sample, by place."""
+    _, size, data = bundle.sample(number)
+    return [unit for unit in flat(size, data, parts(size, data, 0, len(data))) if unit[2] == 31]
+
+
+# Resolving
+
+
+def named_by(bundle, number, unit):
+    """The sample that an extractor names. 23 and 24."""
+    _, size, data = bundle.sample(number)
+    own, time, _, _ = bundle.samples[number - 1]
+    index, offset = data[unit[0] + size + 4], data[unit[0] + size + 5]
+    links = [target for source, target in bundle.references if source == own]
+    if not 1 <= index <= len(links):
+        raise No(23, unit[0])
+    linked = [n for n, sample in enumerate(bundle.samples, 1) if sample[0] == links[index - 1]]
+    before = [at for at, n in enumerate(linked) if bundle.samples[n - 1][1] <= time]
+    step = offset - 256 if offset > 127 else offset
+    if not before or not 0 <= before[-1] + step < len(linked):
+        raise No(24, unit[0])
+    return linked[before[-1] + step]
+
+
+def copied(bundle, number, unit):
+    """The units that an extractor copies, as start and length in the bundle. 23 to 28."""
+    place = unit[0]
+    _, size, data = bundle.sample(number)
+    source = named_by(bundle, number, unit)
+    kind, size, linked = bundle.sample(source)
+    try:
+        check(kind, size, linked)
+    except No:
+        raise No(25, place)
+    offset, length = big(data, place + size + 6, size), big(data, place + size + 6 + size, size)
+    units = parts(size, linked, 0, len(linked))
+    first = [u for u in units if u[0] == offset]
+    if not first:
+        raise No(26, place)
+    end = offset + length
+    if length == 0:
+        end = covered(size, linked, first[0]) if first[0][2] == 30 else first[0][1]
+    if end not in [u[1] for u in units]:
+        raise No(27, place)
+    found = flat(size, linked, [u for u in units if offset <= u[0] < end])
+    if any(u[2] == 31 for u in found):
+        raise No(28, place)
+    start = bundle.samples[source - 1][2]
+    return [(start + u[0] + size, u[1] - u[0] - size) for u in found]
+
+
+def delivered(bundle, number):
+    """What a sample delivers, as start and length in the bundle. 30, 14 to 28."""
+    kind, size, data = bundle.sample(number)
+    check(kind, size, data)
+    start, spans = bundle.samples[number - 1][2], []
+    for unit in flat(size, data, parts(size, data, 0, len(data))):
+        if unit[2] == 31:
+            spans += copied(bundle, number, unit)
+        else:
+            spans.append((start + unit[0] + size, unit[1] - unit[0] - size))
+    return spans
+
+
+# The calls
+
+
+def counts(data):
+    bundle = Bundle(data)
+    return [len(bundle.tracks), len(bundle.references), len(bundle.samples)]
+
+
+def track(data, number):
+    bundle = Bundle(data)
+    return list(bundle.one_of(bundle.tracks, number)[:3])
+
+
+def reference(data, number):
+    bundle = Bundle(data)
+    return list(bundle.one_of(bundle.references, number))
+
+
+def sample(data, number):
+    bundle = Bundle(data)
+    return list(bundle.one_of(bundle.samples, number))
+
+
+def units(data, number, room):
+    spans = delivered(Bundle(data), number)
+    if 2 * len(spans) > room:
+        raise No(29)
+    return [value for span in spans for value in span]
+
+
+def named(data, number, place):
+    bundle = Bundle(data)
+    check(*bundle.sample(number))
+    found = [unit for unit in extractors(bundle, number) if unit[0] == place]
+    if not found:
+        raise No(30)
+    return [named_by(bundle, number, found[0])]
