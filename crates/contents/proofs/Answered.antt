@@ -1,7 +1,6 @@
 -- What the calls answer, step by step as the code takes them. Assumes nothing.
 --
---   bundle-refused                       a bundle is refused as filling the table was
---   counts-, track-, reference-, sample-refused    and so are the calls
+--   counts-, track-, reference-, sample-refused    of a bundle that is refused
 --   counts-filled                        the counts by a table that was filled
 --   track-past, reference-past, sample-past        30
 --   track-there                          a track that exists, by the bundle
@@ -15,26 +14,21 @@ use Rattle.words.specs.Refusals.{refused, ok}
 use Rattle.words.specs.Lists.{nth}
 use Rattle.words.proofs.Refusals.{at-refused}
 use Rattle.words.proofs.Rows.{nth-upto}
-use Rattle.numbers.specs.declared.Refusal.{Refusal}
 use Rattle.bundles.specs.Recordings.{Recording, noTrack, noReference, sampleCount, trackOf, timeOf, contentOf}
 use Rattle.bundles.specs.Tracks.{trackCount, recordPart}
 use Rattle.bundles.specs.Bundles.{bundleVerdict, layoutOf, recordingOf}
 use Rattle.bundles.specs.Readers.{firstLayout}
 use Rattle.bundles.proofs.Sections.{track-count}
-use Rattle.tables.specs.Tables.{tableMost, trackTotal, referenceTotal, referenceIn, layoutIn, recordingIn, startIn}
+use Rattle.tables.specs.Tables.{trackTotal, referenceTotal, referenceIn, layoutIn, recordingIn, startIn}
 use Rattle.tables.proofs.Layouts.{tracks-count, references-count}
 use Rattle.filling.specs.Filling.{filling, tableAfter}
-use Rattle.filling.specs.declared.Filled.the-variants.{Refused, Done}
-use Rattle.filling.proofs.Promises.{says-refused, says-done, table-accepted, table-means, table-starts, table-lays-out}
+use Rattle.filling.specs.declared.Filled.the-variants.{Done}
+use Rattle.filling.proofs.Promises.{says-done, table-accepted, table-means, table-starts, table-lays-out}
 use Rattle.resolution_rules.specs.Calls.{numberFault}
-use Rattle.resolution_rules.proofs.Readers.{verdict-refuses}
 use Rattle.resolution_rules.proofs.Calls.{number-there}
 use Rattle.contents.specs.Contents.{countsCall, trackCall, referenceCall, sampleCall}
 
 module _ (b : List ℕ) where
-  pub bundle-refused : (room : ℕ) (f : Refusal) → tableMost ≤ room → filling firstLayout b room ≡ Refused f → firstLayout .means b ≡ refused (f .number) (f .place .0)
-  bundle-refused room f h e = verdict-refuses b (f .number) (f .place .0) (says-refused b room f h e)
-
   module _ {m p : ℕ} (e : firstLayout .means b ≡ refused m p) where
     pub counts-refused : countsCall firstLayout b ≡ refused m p
     unfolding countsCall

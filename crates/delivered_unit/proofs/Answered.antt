@@ -6,7 +6,6 @@
 --   found-good, found-mem                  a unit that was found: the sample is good, and delivers it
 --   found-inside, found-there              it lies in its sample, and that is one of the recording
 --   part-same                              it is the part of the bundle that is promised
---   filled-refused                         a bundle is refused as filling the table was
 --   unit-filled, part-filled, place-filled    the calls by a table that was filled
 --   starts-inside                          samples start within the bundle
 use Prim.Native.Nat.{ℕ, _≤_, _<_}
@@ -21,13 +20,12 @@ use Rattle.words.proofs.Lists.{nth-mem}
 use Rattle.words.proofs.Numbered.{nth-map}
 use Rattle.bundles.specs.Limits.{bundleMost}
 use Rattle.bundles.specs.Recordings.{Recording, sampleCount}
-use Rattle.numbers.specs.declared.Refusal.{Refusal}
 use Rattle.bundles.specs.Bundles.{recordingOf}
 use Rattle.bundles.specs.Readers.{Reader, firstLayout}
-use Rattle.tables.specs.Tables.{tableMost, layoutIn, recordingIn, startIn}
+use Rattle.tables.specs.Tables.{layoutIn, recordingIn, startIn}
 use Rattle.filling.specs.Filling.{filling, tableAfter}
-use Rattle.filling.specs.declared.Filled.the-variants.{Refused, Done}
-use Rattle.filling.proofs.Promises.{says-refused, table-accepted, table-means, table-starts, table-lays-out}
+use Rattle.filling.specs.declared.Filled.the-variants.{Done}
+use Rattle.filling.proofs.Promises.{table-accepted, table-means, table-starts, table-lays-out}
 use Rattle.resolution_rules.specs.Resolving.{Span, delivered, judged}
 use Rattle.resolution_rules.specs.Calls.{noSpan, numberFault, resolveUnit, placedBy, unitCall, placeCall, unitPart}
 use Rattle.delivered_unit.specs.Answers.{resolveDelivery, foundBytes}
@@ -40,7 +38,7 @@ use Rattle.resolution_rules.specs.Rules.{Good}
 use Rattle.resolution_rules.proofs.Delivered.{Inside}
 use Rattle.resolution_rules.proofs.Good.{good-rules}
 use Rattle.resolution_rules.proofs.Exactly.{delivered-plain, delivered-there}
-use Rattle.resolution_rules.proofs.Readers.{firstLayout-sound, verdict-refuses}
+use Rattle.resolution_rules.proofs.Readers.{firstLayout-sound}
 use Rattle.resolution_rules.proofs.Calls.{number-there, unit-means, span-in}
 
 -- 30, or 14 to 28
@@ -128,9 +126,6 @@ module _ (reader : Reader) (sound : Sound reader) (b : List ℕ) (r : Recording)
 stands-same : (f g : ℕ → ℕ) (a : Answer Span) → ((u : Span) → a ≡ ok u → f (u .sample) ≡ g (u .sample)) → placedBy f a ≡ placedBy g a
 stands-same f g (refused m p) h = refl
 stands-same f g (ok u) h = rw (h u refl)
-
-pub filled-refused : (b : List ℕ) (room : ℕ) (f : Refusal) → tableMost ≤ room → filling firstLayout b room ≡ Refused f → firstLayout .means b ≡ refused (f .number) (f .place .0)
-filled-refused b room f h e = verdict-refuses b (f .number) (f .place .0) (says-refused b room f h e)
 
 -- a table that was filled
 module _ (b t : List ℕ) (done : filling firstLayout b (length t) ≡ Done) where

@@ -9,7 +9,7 @@
 --   table-kept-counts    its kept counts are 0
 --   table-refused      after a refusal the table is as it was
 --   table-room         `tableMost` numbers are enough for every accepted bundle
---   says-refused, says-done    what the answer of filling says: with `tableMost` numbers a refusal is the bundle's own
+--   table-refuses, says-done    what the answer of filling says: with `tableMost` numbers a refusal is the bundle's own
 --   never-short        which is never 29
 --   table-short, table-accepted, table-means    a table that was filled: the bundle is not too long, is accepted, and the table gives its recording
 --   any-range          in any table, a track's range is the track's samples in the layout that the table says
@@ -97,11 +97,15 @@ pub table-room : (b : List ℕ) (r : Recording) → meaning b ≡ ok r → neede
 table-room b r e = let f = limits-kept b r e .samples in omega arith
 
 -- what the answer says
-pub says-refused : (b : List ℕ) (room : ℕ) (f : Refusal) → tableMost ≤ room → filling firstLayout b room ≡ Refused f → bundleVerdict b ≡ refused (f .number) (f .place .0)
-unfolding filling meaning
-says-refused b room f h e =
+pub table-refuses : (b : List ℕ) (room : ℕ) (f : Refusal) → tableMost ≤ room → filling firstLayout b room ≡ Refused f → meaning b ≡ refused (f .number) (f .place .0)
+unfolding filling
+table-refuses b room f h e =
     let same = any.held-same room (meaning b) (λ r g. let x = table-room b r g in omega arith) in
-    refused-there (recordingOf b) (bundleVerdict b) (sym (any.refused-answer (meaning b) f (rw same at e)))
+    any.refused-answer (meaning b) f (rw same at e)
+
+says-refused : (b : List ℕ) (room : ℕ) (f : Refusal) → tableMost ≤ room → filling firstLayout b room ≡ Refused f → bundleVerdict b ≡ refused (f .number) (f .place .0)
+unfolding meaning
+says-refused b room f h e = refused-there (recordingOf b) (bundleVerdict b) (sym (table-refuses b room f h e))
 
 pub says-done : (b : List ℕ) (room : ℕ) → filling firstLayout b room ≡ Done → bundleVerdict b ≡ ok tt
 unfolding filling

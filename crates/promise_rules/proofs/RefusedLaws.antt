@@ -1,6 +1,6 @@
 -- The proofs of what Demands says of refusals. Assumes nothing.
 use Prim.Native.Nat.{ℕ, _≤_, _<_}
-use mathlib.Core.Path.{_≡_, refl, ap, sym, _∙_, subst}
+use mathlib.Core.Path.{_≡_, refl, ap, sym, subst}
 use mathlib.Core.List.{List}
 use mathlib.Core.Logic.{_⊎_, inl, inr, ⊎-elim, _↔_}
 use borrow.Author.Tests.{eqb-true, eq-eqb}
@@ -8,12 +8,12 @@ use lib.ListN.{length}
 use Rattle.words.specs.Refusals.{Answer, refused, ok}
 use Rattle.words.specs.Lists.{each}
 use Rattle.words.specs.Bytes.{Bytes}
-use Rattle.words.proofs.Refusals.{ok-refused, refused-same, by-verdict}
+use Rattle.words.proofs.Refusals.{ok-refused, refused-same}
 use Rattle.words.proofs.Lists.{keep-from}
 use Rattle.units.specs.Units.{isExtractor}
 use Rattle.units.specs.Aggregators.{units, extractors}
 use Rattle.bundles.specs.Recordings.{Recording, sampleCount}
-use Rattle.bundles.specs.Bundles.{bundleVerdict, meaning}
+use Rattle.bundles.specs.Bundles.{bundleVerdict}
 use Rattle.bundles.specs.Readers.{firstLayout}
 use Rattle.resolution_rules.specs.Resolving.{sampleOf, Span, own, extractFault, judged, delivered}
 use Rattle.resolution_rules.specs.Calls.{placedBy, output, written, resolveCall, unitCall, placeCall}
@@ -22,6 +22,7 @@ use Rattle.resolution_rules.proofs.Calls.{call-refused-because, call-refuses, u
 use Rattle.resolution_rules.proofs.Good.{extract-rules, rules-extract, judged-first}
 use Rattle.resolution_rules.proofs.Exactly.{extractor-mem}
 use Rattle.resolution_rules.proofs.Promises.{first-refused}
+use Rattle.resolution_rules.proofs.Readers.{verdict-refuses, refused-verdict}
 use Rattle.naming_list_rules.specs.Naming.{namesCall}
 use Rattle.naming_list_rules.specs.Rules.{NamesRefuses}
 use Rattle.naming_list_rules.proofs.Promises.{names-refused-exactly}
@@ -39,24 +40,14 @@ use Rattle.promise_rules.specs.BundleFaults.{BundleRefused}
 use Rattle.promise_rules.specs.Refused.{ExtractorRefused, SampleRefused, ResolveRefused, UnitRefused, NamesRefused, AuditRefused}
 
 module _ (b : List ℕ) (g : Bytes b) where
-  verdict-means : {m p : ℕ} → bundleVerdict b ≡ refused m p → firstLayout .means b ≡ refused m p
-  unfolding meaning
-  verdict-means e = rw e
-
-  means-verdict : {m p : ℕ} → firstLayout .means b ≡ refused m p → bundleVerdict b ≡ refused m p
-  unfolding meaning
-  means-verdict {m} {p} e = by-verdict (bundleVerdict b)
-      (λ n q v. let s : n ≡ m = refused-same (rw v at e) .0 in let t : q ≡ p = refused-same (rw v at e) .1 in v ∙ rw (s, t))
-      (λ v. ok-refused (sym (rw v at e)))
-
   pub check-refused : (m p : ℕ) → (bundleVerdict b ≡ refused m p) ↔ BundleRefused b m p
   check-refused m p = (bundle-by b g, by-bundle b g)
 
   pub bundle-refused : {m p : ℕ} → firstLayout .means b ≡ refused m p → BundleRefused b m p
-  bundle-refused e = bundle-by b g (means-verdict e)
+  bundle-refused e = bundle-by b g (refused-verdict b _ _ e)
 
   pub refused-bundle : {m p : ℕ} → BundleRefused b m p → firstLayout .means b ≡ refused m p
-  refused-bundle w = verdict-means (by-bundle b g w)
+  refused-bundle w = verdict-refuses b _ _ (by-bundle b g w)
 
   module _ (r : Recording) (accepted : firstLayout .means b ≡ ok r) (n : ℕ) (some : 0 < n) (there : n ≤ sampleCount (r .layout)) where
     -- an extractor without 23 to 28, both ways

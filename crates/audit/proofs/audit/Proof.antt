@@ -6,8 +6,7 @@ use lib.ListN.{length}
 use Rattle.audit.proofs.audit.Statement.{statement}
 use Rattle.words.proofs.Buffers.{refuse}
 use Rattle.bundles.specs.Readers.{firstLayout}
-use Rattle.filling.proofs.Promises.{says-refused, table-short}
-use Rattle.resolution_rules.proofs.Readers.{verdict-refuses}
+use Rattle.filling.proofs.Promises.{table-refuses, table-short}
 use Rattle.audit_rules.proofs.Calls.{audit-bundle, tally-bundle}
 use Rattle.audit.proofs.Answered.{lines-filled, tally-filled}
 use Rattle.audit.proofs.audit.Tie as tie
@@ -33,7 +32,7 @@ audit-accepted-requires c κs = table-short _ _ (sym (c .before .before .before 
 returns : tie.Need-returns
 returns c =
     let a = c .before .before .before .before .before .before .before .before .args in
-    let v = verdict-refuses (a .b .now) _ _ (says-refused (a .b .now) _ (c .before .filled .given .0 .0) (omega arith) (sym (c .before .before .before .before .fill-table .ensures .0) ∙ c .before .filled .given .1)) in
+    let v = table-refuses (a .b .now) _ (c .before .filled .given .0 .0) (omega arith) (sym (c .before .before .before .before .fill-table .ensures .0) ∙ c .before .filled .given .1) in
     (refuse (audit-bundle firstLayout (a .b .now) _ v), sym (tally-bundle firstLayout (a .b .now) _ v))
 
 same-length : tie.Need-same-length

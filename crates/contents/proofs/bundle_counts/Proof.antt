@@ -2,7 +2,8 @@
 use borrow.Author.Needs.{needs}
 use native.Mathlib.Omega.{arith}
 use mathlib.Core.Path.{sym, _∙_}
-use Rattle.contents.proofs.Answered.{bundle-refused, counts-refused, counts-filled}
+use Rattle.filling.proofs.Promises.{table-refuses}
+use Rattle.contents.proofs.Answered.{counts-refused, counts-filled}
 use Rattle.contents.proofs.bundle_counts.Statement.{statement}
 use Rattle.contents.proofs.bundle_counts.Tie as tie
 
@@ -37,7 +38,7 @@ sample-count-requires : tie.Need-sample-count-requires
 sample-count-requires c κs = search needs
 
 returns : tie.Need-returns
-returns c = sym (counts-refused _ (bundle-refused _ _ (c .before .filled .given .0 .0) (omega arith) (sym (c .before .before .before .before .fill-table .ensures .0) ∙ c .before .filled .given .1)))
+returns c = sym (counts-refused _ (table-refuses _ _ (c .before .filled .given .0 .0) (omega arith) (sym (c .before .before .before .before .fill-table .ensures .0) ∙ c .before .filled .given .1)))
 
 returns-2 : tie.Need-returns-2
 returns-2 c = rw (c .before .before .before .before .track-total .ensures .0, c .before .before .reference-total .ensures .0, c .sample-count .ensures) (sym (counts-filled _ _ (sym (c .before .before .before .before .before .before .before .before .before .fill-table .ensures .0) ∙ c .before .before .before .before .before .before .enum-told .given .1) (c .before .before .before .before .before .before .before .before .before .fill-table .ensures .1)))

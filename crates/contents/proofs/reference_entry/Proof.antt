@@ -3,7 +3,8 @@ use borrow.Author.Needs.{needs}
 use native.Mathlib.Omega.{arith}
 use mathlib.Core.Path.{sym, _∙_}
 use Rattle.resolution_rules.proofs.Calls.{number-there}
-use Rattle.contents.proofs.Answered.{bundle-refused, reference-refused, reference-past, reference-found}
+use Rattle.filling.proofs.Promises.{table-refuses}
+use Rattle.contents.proofs.Answered.{reference-refused, reference-past, reference-found}
 use Rattle.contents.proofs.reference_entry.Statement.{statement}
 use Rattle.contents.proofs.reference_entry.Tie as tie
 
@@ -50,7 +51,7 @@ cell-requires-2 : tie.Need-cell-requires-2
 cell-requires-2 c κs = search needs
 
 returns-2 : tie.Need-returns-2
-returns-2 c = sym (reference-refused _ (bundle-refused _ _ (c .before .filled .given .0 .0) (omega arith) (sym (c .before .before .before .before .fill-table .ensures .0) ∙ c .before .filled .given .1)) _)
+returns-2 c = sym (reference-refused _ (table-refuses _ _ (c .before .filled .given .0 .0) (omega arith) (sym (c .before .before .before .before .fill-table .ensures .0) ∙ c .before .filled .given .1)) _)
 
 returns-3 : tie.Need-returns-3
 returns-3 c = rw (c .cell2 .ensures, c .before .before .cell .ensures) (sym (reference-found _ _ (sym (c .before .before .before .before .before .before .before .before .before .before .before .fill-table .ensures .0) ∙ c .before .before .before .before .before .before .before .before .enum-told .given .1) (c .before .before .before .before .before .before .before .before .before .before .before .fill-table .ensures .1) _ (rw (c .before .before .before .before .before .before .reference-total .ensures .0) at (sym (c .before .before .before .before .before .number-fault .ensures) ∙ c .before .before .before .before .if1 .left))))

@@ -2,7 +2,8 @@
 use borrow.Author.Needs.{needs}
 use native.Mathlib.Omega.{arith}
 use mathlib.Core.Path.{sym, _∙_}
-use Rattle.contents.proofs.Answered.{bundle-refused, sample-refused, sample-past, sample-found}
+use Rattle.filling.proofs.Promises.{table-refuses}
+use Rattle.contents.proofs.Answered.{sample-refused, sample-past, sample-found}
 use Rattle.contents.proofs.sample_entry.Statement.{statement}
 use Rattle.contents.proofs.sample_entry.Tie as tie
 
@@ -58,7 +59,7 @@ sample-start-requires : tie.Need-sample-start-requires
 sample-start-requires c κs = search needs
 
 returns-2 : tie.Need-returns-2
-returns-2 c = sym (sample-refused _ (bundle-refused _ _ (c .before .filled .given .0 .0) (omega arith) (sym (c .before .before .before .before .fill-table .ensures .0) ∙ c .before .filled .given .1)) _)
+returns-2 c = sym (sample-refused _ (table-refuses _ _ (c .before .filled .given .0 .0) (omega arith) (sym (c .before .before .before .before .fill-table .ensures .0) ∙ c .before .filled .given .1)) _)
 
 returns-3 : tie.Need-returns-3
 returns-3 c = rw (c .sample-start .ensures, c .before .before .sample-time .ensures, c .before .before .before .before .sample-track .ensures, c .before .before .before .before .before .before .sample-bytes .ensures) (sym (sample-found _ _ (sym (c .before .before .before .before .before .before .before .before .before .before .before .before .before .before .before .fill-table .ensures .0) ∙ c .before .before .before .before .before .before .before .before .before .before .before .before .enum-told .given .1) (c .before .before .before .before .before .before .before .before .before .before .before .before .before .before .before .fill-table .ensures .1) _ (rw (c .before .before .before .before .before .before .before .before .before .before .sample-count .ensures) at (sym (c .before .before .before .before .before .before .before .before .before .number-fault .ensures) ∙ c .before .before .before .before .before .before .before .before .if1 .left))))

@@ -4,7 +4,8 @@ use native.Mathlib.Omega.{arith}
 use mathlib.Core.Path.{sym, _∙_}
 use Rattle.bundles.specs.Tracks.{recordPart}
 use Rattle.bundles.proofs.Sections.{track-good}
-use Rattle.contents.proofs.Answered.{bundle-refused, track-refused, track-past, track-there, track-found}
+use Rattle.filling.proofs.Promises.{table-refuses}
+use Rattle.contents.proofs.Answered.{track-refused, track-past, track-there, track-found}
 use Rattle.contents.proofs.track_entry.Statement.{statement}
 use Rattle.contents.proofs.track_entry.Tie as tie
 
@@ -51,7 +52,7 @@ record-length-requires : tie.Need-record-length-requires
 record-length-requires c κs = c .before .before .place .ensures .1
 
 returns-2 : tie.Need-returns-2
-returns-2 c = sym (track-refused _ (bundle-refused _ _ (c .before .filled .given .0 .0) (omega arith) (sym (c .before .before .before .before .fill-table .ensures .0) ∙ c .before .filled .given .1)) _)
+returns-2 c = sym (track-refused _ (table-refuses _ _ (c .before .filled .given .0 .0) (omega arith) (sym (c .before .before .before .before .fill-table .ensures .0) ∙ c .before .filled .given .1)) _)
 
 returns-3 : tie.Need-returns-3
 unfolding recordPart

@@ -4,9 +4,9 @@ use native.Mathlib.Omega.{arith}
 use mathlib.Core.Path.{sym, _∙_}
 use Rattle.delivered_unit.proofs.unit_answer.Statement.{statement}
 use Rattle.bundles.specs.Readers.{firstLayout}
-use Rattle.filling.proofs.Promises.{table-short}
+use Rattle.filling.proofs.Promises.{table-refuses, table-short}
 use Rattle.resolution_rules.proofs.Calls.{unit-bundle}
-use Rattle.delivered_unit.proofs.Answered.{filled-refused, unit-filled}
+use Rattle.delivered_unit.proofs.Answered.{unit-filled}
 use Rattle.delivered_unit.proofs.unit_answer.Tie as tie
 
 slice-aggregate-fill-table : tie.Need-slice-aggregate-fill-table
@@ -30,7 +30,7 @@ find-unit-requires c κs = table-short _ _ (sym (c .before .before .before .befo
 returns : tie.Need-returns
 returns c =
     let a = c .before .before .before .before .before .before .before .args in
-    sym (unit-bundle firstLayout (a .b .now) (a .n .0) (a .k) (filled-refused (a .b .now) _ (c .before .filled .given .0 .0) (omega arith) (sym (c .before .before .before .before .fill-table .ensures .0) ∙ c .before .filled .given .1)))
+    sym (unit-bundle firstLayout (a .b .now) (a .n .0) (a .k) (table-refuses (a .b .now) _ (c .before .filled .given .0 .0) (omega arith) (sym (c .before .before .before .before .fill-table .ensures .0) ∙ c .before .filled .given .1)))
 
 returns-2 : tie.Need-returns-2
 returns-2 c = c .find-unit .ensures ∙ unit-filled _ _ (sym (c .before .before .before .before .before .fill-table .ensures .0) ∙ c .before .before .enum-told .given .1) (c .before .before .before .before .before .fill-table .ensures .1) _ _

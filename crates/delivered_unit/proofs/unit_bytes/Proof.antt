@@ -4,10 +4,10 @@ use native.Mathlib.Omega.{arith}
 use mathlib.Core.Path.{sym, ap, _∙_}
 use Rattle.delivered_unit.proofs.unit_bytes.Statement.{statement}
 use Rattle.bundles.specs.Readers.{firstLayout}
-use Rattle.filling.proofs.Promises.{table-short}
+use Rattle.filling.proofs.Promises.{table-refuses, table-short}
 use Rattle.resolution_rules.specs.Calls.{unitPart}
 use Rattle.resolution_rules.proofs.Calls.{unit-bundle}
-use Rattle.delivered_unit.proofs.Answered.{filled-refused, part-filled}
+use Rattle.delivered_unit.proofs.Answered.{part-filled}
 use Rattle.delivered_unit.proofs.unit_bytes.Tie as tie
 
 slice-aggregate-fill-table : tie.Need-slice-aggregate-fill-table
@@ -34,7 +34,7 @@ unit-part-requires c κs = table-short _ _ (sym (c .before .before .before .befo
 returns : tie.Need-returns
 returns c =
     let a = c .before .before .before .before .before .before .before .args in
-    sym (ap (unitPart firstLayout (a .b .now)) (unit-bundle firstLayout (a .b .now) (a .n .0) (a .k) (filled-refused (a .b .now) _ _ (omega arith) (sym (c .before .before .before .before .fill-table .ensures .0) ∙ c .before .enum-told .given .1))))
+    sym (ap (unitPart firstLayout (a .b .now)) (unit-bundle firstLayout (a .b .now) (a .n .0) (a .k) (table-refuses (a .b .now) _ _ (omega arith) (sym (c .before .before .before .before .fill-table .ensures .0) ∙ c .before .enum-told .given .1))))
 
 returns-2 : tie.Need-returns-2
 returns-2 c = c .unit-part .ensures ∙ part-filled _ _ (sym (c .before .before .before .before .before .fill-table .ensures .0) ∙ c .before .before .enum-told2 .given .1) (c .before .before .before .before .before .fill-table .ensures .1) _ _

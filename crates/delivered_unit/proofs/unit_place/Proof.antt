@@ -3,10 +3,10 @@ use borrow.Author.Needs.{needs}
 use native.Mathlib.Omega.{arith}
 use mathlib.Core.Path.{sym, ap, _∙_}
 use Rattle.bundles.specs.Readers.{firstLayout}
-use Rattle.filling.proofs.Promises.{table-short}
+use Rattle.filling.proofs.Promises.{table-refuses, table-short}
 use Rattle.resolution_rules.specs.Calls.{placedBy, placeCall}
 use Rattle.resolution_rules.proofs.Calls.{unit-bundle}
-use Rattle.delivered_unit.proofs.Answered.{filled-refused, place-filled, starts-inside}
+use Rattle.delivered_unit.proofs.Answered.{place-filled, starts-inside}
 use Rattle.delivered_unit.proofs.unit_place.Statement.{statement}
 use Rattle.delivered_unit.proofs.unit_place.Tie as tie
 
@@ -34,7 +34,7 @@ returns : tie.Need-returns
 unfolding placeCall
 returns c =
     let a = c .before .before .before .before .before .before .before .args in
-    sym (ap (placedBy (firstLayout .contentAt (a .b .now))) (unit-bundle firstLayout (a .b .now) (a .n .0) (a .k) (filled-refused (a .b .now) _ (c .before .filled .given .0 .0) (omega arith) (sym (c .before .before .before .before .fill-table .ensures .0) ∙ c .before .filled .given .1))))
+    sym (ap (placedBy (firstLayout .contentAt (a .b .now))) (unit-bundle firstLayout (a .b .now) (a .n .0) (a .k) (table-refuses (a .b .now) _ (c .before .filled .given .0 .0) (omega arith) (sym (c .before .before .before .before .fill-table .ensures .0) ∙ c .before .filled .given .1))))
 
 returns-2 : tie.Need-returns-2
 returns-2 c = c .place-unit .ensures ∙ place-filled _ _ (sym (c .before .before .before .before .before .fill-table .ensures .0) ∙ c .before .before .enum-told .given .1) (c .before .before .before .before .before .fill-table .ensures .1) _ _

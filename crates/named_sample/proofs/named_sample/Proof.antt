@@ -2,8 +2,7 @@
 use borrow.Author.Needs.{needs}
 use native.Mathlib.Omega.{arith}
 use mathlib.Core.Path.{sym, _∙_}
-use Rattle.filling.proofs.Promises.{says-refused}
-use Rattle.resolution_rules.proofs.Readers.{verdict-refuses}
+use Rattle.filling.proofs.Promises.{table-refuses}
 use Rattle.bundles.specs.Readers.{firstLayout}
 use Rattle.resolution_rules.proofs.Calls.{named-bundle}
 use Rattle.named_sample.proofs.Named.{named-filled}
@@ -31,7 +30,7 @@ name-at-requires c κs = search needs
 returns : tie.Need-returns
 returns c =
     let a = c .before .before .before .before .before .before .before .args in
-    sym (named-bundle firstLayout (a .b .now) (a .n .0) (a .at .0) (verdict-refuses (a .b .now) _ _ (says-refused (a .b .now) _ (c .before .filled .given .0 .0) (omega arith) (sym (c .before .before .before .before .fill-table .ensures .0) ∙ c .before .filled .given .1))))
+    sym (named-bundle firstLayout (a .b .now) (a .n .0) (a .at .0) (table-refuses (a .b .now) _ (c .before .filled .given .0 .0) (omega arith) (sym (c .before .before .before .before .fill-table .ensures .0) ∙ c .before .filled .given .1)))
 
 returns-2 : tie.Need-returns-2
 returns-2 c =

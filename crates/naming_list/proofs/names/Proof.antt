@@ -5,8 +5,7 @@ use mathlib.Core.Path.{sym, _∙_}
 use lib.ListN.{length}
 use Rattle.words.proofs.Buffers.{refuse}
 use Rattle.bundles.specs.Readers.{firstLayout}
-use Rattle.filling.proofs.Promises.{says-refused, table-short}
-use Rattle.resolution_rules.proofs.Readers.{verdict-refuses}
+use Rattle.filling.proofs.Promises.{table-refuses, table-short}
 use Rattle.naming_list_rules.proofs.Calls.{names-bundle}
 use Rattle.naming_list.proofs.Listings.{call-filled}
 use Rattle.naming_list.proofs.names.Statement.{statement}
@@ -33,7 +32,7 @@ list-sample-requires c κs = (table-short _ _ (sym (c .before .before .before .b
 returns : tie.Need-returns
 returns c =
     let a = c .before .before .before .before .before .before .before .before .args in
-    refuse (names-bundle firstLayout (a .b .now) (a .s .0) _ (verdict-refuses (a .b .now) _ _ (says-refused (a .b .now) _ (c .before .filled .given .0 .0) (omega arith) (sym (c .before .before .before .before .fill-table .ensures .0) ∙ c .before .filled .given .1))))
+    refuse (names-bundle firstLayout (a .b .now) (a .s .0) _ (table-refuses (a .b .now) _ (c .before .filled .given .0 .0) (omega arith) (sym (c .before .before .before .before .fill-table .ensures .0) ∙ c .before .filled .given .1)))
 
 same-length : tie.Need-same-length
 same-length c = search needs

@@ -6,9 +6,8 @@ use lib.ListN.{length}
 use Rattle.resolution.proofs.resolve.Statement.{statement}
 use Rattle.words.proofs.Buffers.{refuse}
 use Rattle.bundles.specs.Readers.{firstLayout}
-use Rattle.filling.proofs.Promises.{says-refused, table-short}
+use Rattle.filling.proofs.Promises.{table-refuses, table-short}
 use Rattle.resolution_rules.proofs.Calls.{call-bundle}
-use Rattle.resolution_rules.proofs.Readers.{verdict-refuses}
 use Rattle.resolution.proofs.Answered.{call-filled}
 use Rattle.resolution.proofs.resolve.Tie as tie
 
@@ -33,7 +32,7 @@ resolve-sample-requires c κs = table-short _ _ (sym (c .before .before .before 
 returns : tie.Need-returns
 returns c =
     let a = c .before .before .before .before .before .before .before .before .args in
-    refuse (call-bundle firstLayout (a .b .now) (a .n .0) _ (verdict-refuses (a .b .now) _ _ (says-refused (a .b .now) _ (c .before .filled .given .0 .0) (omega arith) (sym (c .before .before .before .before .fill-table .ensures .0) ∙ c .before .filled .given .1))))
+    refuse (call-bundle firstLayout (a .b .now) (a .n .0) _ (table-refuses (a .b .now) _ (c .before .filled .given .0 .0) (omega arith) (sym (c .before .before .before .before .fill-table .ensures .0) ∙ c .before .filled .given .1)))
 
 same-length : tie.Need-same-length
 same-length c = search needs
