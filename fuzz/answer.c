@@ -6,8 +6,11 @@ const struct answer unset = {0,     UNSET, UNSET, UNSET, UNSET, UNSET, UNSET,
                              UNSET, {UNSET, UNSET, UNSET, UNSET}};
 
 const char *const call_names[CALLS] = {"read_record", "write_record", "check_sample", "check_bundle", "resolve",
-                                       "unit",        "names",        "audit",        "counts",       "track",
-                                       "reference",   "sample",       "units",        "named"};
+                                       "stream",      "unit",         "names",        "audit",        "counts",
+                                       "track",       "reference",    "sample",       "units",        "named"};
+
+/* One more than the largest number. */
+#define NUMBERS 33
 
 /* Bit n is set where the call may give number n. */
 #define RANGE(first, last) (((uint64_t)2 << (last)) - ((uint64_t)1 << (first)))
@@ -17,6 +20,7 @@ static const uint64_t allowed[CALLS] = {
     [CHECK_SAMPLE] = RANGE(0, 0) | RANGE(4, 4) | RANGE(11, 11) | RANGE(14, 22),
     [CHECK_BUNDLE] = RANGE(0, 13),
     [RESOLVE] = RANGE(0, 30),
+    [STREAM] = RANGE(0, 30) | RANGE(32, 32),
     [UNIT] = RANGE(0, 28) | RANGE(30, 30),
     [NAMES] = RANGE(0, 13) | RANGE(29, 30),
     [AUDIT] = RANGE(0, 13) | RANGE(29, 29),
@@ -28,16 +32,16 @@ static const uint64_t allowed[CALLS] = {
     [NAMED] = RANGE(0, 24) | RANGE(30, 30),
 };
 
-__attribute__((section("__libfuzzer_extra_counters"))) static uint8_t counters[CALLS * 32 * 16];
-static uint64_t reached[CALLS][32];
+__attribute__((section("__libfuzzer_extra_counters"))) static uint8_t counters[CALLS * NUMBERS * 16];
+static uint64_t reached[CALLS][NUMBERS];
 
 void judge(enum call call, const struct answer *a, uint64_t detail) {
-    MUST(a->number < 32 && (allowed[call] >> a->number & 1));
+    MUST(a->number < NUMBERS && (allowed[call] >> a->number & 1));
     MUST(a->place != UNSET);
     MUST(a->number != 0 || a->place == 0);
-    MUST(a->number < 29 || a->place == 0);
+    MUST(a->number < 29 || a->number == 32 || a->place == 0);
     reached[call][a->number]++;
-    counters[(call * 32 + a->number) * 16 + detail % 16] = 1;
+    counters[(call * NUMBERS + a->number) * 16 + detail % 16] = 1;
 }
 
 void judge_output(const struct answer *a, const uint8_t *out, size_t room) {
@@ -47,13 +51,13 @@ void judge_output(const struct answer *a, const uint8_t *out, size_t room) {
 }
 
 void note_line(uint8_t refusal) {
-    counters[(AUDIT * 32 + refusal) * 16 + 15] = 1;
+    counters[(AUDIT * NUMBERS + refusal) * 16 + 15] = 1;
 }
 
 void print_reached(void) {
     for (int call = 0; call < CALLS; call++) {
         fprintf(stderr, "%12s ", call_names[call]);
-        for (int number = 0; number < 32; number++)
+        for (int number = 0; number < NUMBERS; number++)
             if (allowed[call] >> number & 1)
                 fprintf(stderr, " %d:%llu", number, (unsigned long long)reached[call][number]);
         fprintf(stderr, "\n");

@@ -39,6 +39,20 @@ static void put_extractor(struct input *in, int L, struct output *out, const siz
     put(out, (shape & 0x10) ? take_number(in, L) : to > from ? to - from : 0, L);
 }
 
+/* The bytes of a plain unit. Now and then two zeros and a small byte stand in a row, for byte streams. */
+static void put_plain(struct input *in, struct output *out, uint8_t header) {
+    uint8_t shape = take(in);
+    unsigned length = shape % 10, zeros = shape < 0xC0 ? length : take_below(in, 10);
+    for (unsigned i = 0; i < length; i++) {
+        if (i == zeros || i == zeros + 1)
+            put(out, 0, 1);
+        else if (i == zeros + 2)
+            put(out, take_below(in, 5), 1);
+        else
+            put(out, i == 0 ? header : take(in), 1);
+    }
+}
+
 /* A unit after its length. `depth` is 1 inside an aggregator. */
 static void put_unit(struct input *in, int L, struct output *out, int depth, const size_t *borders, unsigned count) {
     uint8_t choice = take(in);
@@ -54,9 +68,7 @@ static void put_unit(struct input *in, int L, struct output *out, int depth, con
         for (unsigned i = take_below(in, 4); i > 0 && depth == 0; i--)
             put_unit(in, L, out, 1, borders, count);
     } else {
-        unsigned length = take_below(in, 10);
-        for (unsigned i = 0; i < length; i++)
-            put(out, i == 0 ? choice & 0x7F : take(in), 1);
+        put_plain(in, out, choice & 0x7F);
     }
     /* Now and then the length is wrong. */
     size_t length = out->at - start + (choice == 0xFF ? 1 : 0);

@@ -5,7 +5,7 @@
  * the number is one that the call may give, what is written ends at the count, nothing is written on a refusal, the
  * input is unchanged, both calls agree. Between calls: a record read and written again is the same bytes; a record is
  * accepted up to its trailer, and not with a part of it; the units of a resolved sample are those asked for one by one;
- * the audit's line agrees with resolving; contents.c has the calls on the contents of a bundle.
+ * the audit's line agrees with resolving; stream.c has byte streams, contents.c the calls on the contents of a bundle.
  *
  * The answers themselves are fed back to the fuzzer as counters, since the library brings none of its own.
  */
@@ -17,9 +17,10 @@
 #include "contents.h"
 #include "input.h"
 #include "lend.h"
+#include "stream.h"
 
 /* Room for what is built and for most outputs; an output that is longer gives 29. */
-#define ROOM 8192
+#define ROOM STREAM_MOST
 
 /* Records read and written, by PUDDOCKLE_TRAILER. */
 static uint64_t trailers[2][3];
@@ -320,6 +321,7 @@ static void try_bundle(const uint8_t *bundle, size_t length, struct input *in, e
         if (all[RESOLVE].number == 0)
             compare_units(bundle, length, sample, out, all[RESOLVE].count, units);
     }
+    all[STREAM] = try_stream(bundle, length, sample, side, &all[RESOLVE], out);
     /* Exact rooms are enough, one byte less is not. */
     if (all[RESOLVE].number == 0 && all[RESOLVE].count > 0) {
         uint64_t count = all[RESOLVE].count;

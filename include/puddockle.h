@@ -1,9 +1,9 @@
 /*
  * Puddockle: verified reading of inspection video, for C.
  *
- * Decoder configuration records read and written, samples checked and resolved to plain NAL units, what is in a
- * recording (a bundle) told, the whole of it audited, the extractors that name a sample listed. Layouts are those of
- * ISO/IEC 14496-15:2010, 5.2.4.1 and Annexes A and B.
+ * Decoder configuration records read and written, samples checked, resolved to plain NAL units and written as a byte
+ * stream, what is in a recording (a bundle) told, the whole of it audited, the extractors that name a sample listed.
+ * Layouts are those of ISO/IEC 14496-15:2010, 5.2.4.1 and Annexes A and B, and of ISO/IEC 14496-10, Annex B.
  * docs/FORMAT.md has all rules: the bundle, records, units, resolving, and what to do about each refusal.
  *
  * Link with libpuddockle.a:  cc -Iinclude program.c -Ltarget/staticlib -lpuddockle
@@ -32,6 +32,7 @@
  *   puddockle_audit    PUDDOCKLE_LINE bytes a sample of puddockle_counts; at most PUDDOCKLE_LINES_MOST
  *   puddockle_units    PUDDOCKLE_SPAN numbers for each unit that the sample's audit line says
  *   puddockle_resolve  the sum of 4 and the length of each unit of puddockle_units
+ *   puddockle_stream   as puddockle_resolve
  *   puddockle_names    never more bytes than the bundle has
  *
  * How time grows
@@ -58,7 +59,8 @@ extern "C" {
 #define PUDDOCKLE_VERSION_PATCH 0
 
 /* What a function returns: 0, or a refusal. After each its place. Those of 1 to 13 are offsets in the bundle, those of
- * 14 to 28 offsets in the sample that was asked for or given. */
+ * 14 to 28 offsets in the sample that was asked for or given, that of 32 an offset in what puddockle_resolve would
+ * write. */
 enum {
     PUDDOCKLE_ACCEPTED = 0,
 
@@ -109,7 +111,11 @@ enum {
     PUDDOCKLE_REFUSED_OUTPUT_TOO_LONG = 29,         /* longer than the slice lent for it */
     PUDDOCKLE_REFUSED_NO_SUCH_NUMBER = 30,          /* of a track, reference, sample or delivered unit: 0 or past the
                                                        last; no extractor at that place */
-    PUDDOCKLE_REFUSED_FIELDS_FIT_NO_RECORD = 31
+    PUDDOCKLE_REFUSED_FIELDS_FIT_NO_RECORD = 31,
+
+    /* a delivered unit, for a byte stream */
+    PUDDOCKLE_REFUSED_UNIT_NOT_STREAMABLE = 32      /* it holds 00 00 00, 00 00 01 or 00 00 02, or ends in 00: its
+                                                       4-byte length in what puddockle_resolve would write */
 };
 
 /* Kinds of tracks and records. */
@@ -310,6 +316,25 @@ uint32_t puddockle_resolve(const uint8_t *bundle, size_t bundle_len,
                            uint64_t sample,
                            uint8_t *out, size_t out_len,
                            uint64_t *place, uint64_t *count);
+
+/*
+ * Writes the units that a sample of a bundle delivers as a byte stream (ISO/IEC 14496-10, Annex B), for a decoder.
+ *
+ * sample        its number, from 1
+ * out, out_len  where the stream goes: 00 00 00 01 before each unit that puddockle_resolve would write
+ *
+ * Refusals, first that applies first: 1 to 13, 30 and 14 to 28 as puddockle_resolve; 32 for the first unit that holds
+ * 00 00 00, 00 00 01 or 00 00 02 or ends in 00; then 29. *place is as there for 1 to 28 and 30; for 32 it is the offset
+ * of the unit's 4-byte length in what puddockle_resolve would write, which is where its start code would stand in the
+ * stream; else 0. Only the bytes of a unit itself are searched: 00 00 03 may stand in it, and it may begin with 00.
+ * Accepted: *count bytes are written, as many as puddockle_resolve writes (0 where nothing is delivered), and the
+ * stream has exactly the units delivered. Refused: nothing is written, *count is 0.
+ * Time: as puddockle_resolve, and the bytes of the units gone over once more.
+ */
+uint32_t puddockle_stream(const uint8_t *bundle, size_t bundle_len,
+                          uint64_t sample,
+                          uint8_t *out, size_t out_len,
+                          uint64_t *place, uint64_t *count);
 
 /*
  * Finds all delivered units of a sample, without a copy.

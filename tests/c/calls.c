@@ -477,6 +477,7 @@ static void constants(void)
     SAME(PUDDOCKLE_REFUSED_OUTPUT_TOO_LONG, 29);
     SAME(PUDDOCKLE_REFUSED_NO_SUCH_NUMBER, 30);
     SAME(PUDDOCKLE_REFUSED_FIELDS_FIT_NO_RECORD, 31);
+    SAME(PUDDOCKLE_REFUSED_UNIT_NOT_STREAMABLE, 32);
     SAME(PUDDOCKLE_AVC, 0);
     SAME(PUDDOCKLE_SVC, 1);
     SAME(PUDDOCKLE_BUNDLE_MOST, 16777216);
@@ -665,6 +666,106 @@ static void units_of_samples(void)
     SAME(count, 0);
 }
 
+/* The byte stream of a sample with so much room: a refusal at a place, and nothing is written. */
+static void stream_refused(const uint8_t *bundle, size_t length, uint64_t sample, size_t room, uint32_t number, uint64_t at, int line)
+{
+    uint8_t out[64];
+    uint64_t place = UNSET, count = UNSET;
+    memset(out, FILL, sizeof out);
+    same("number", puddockle_stream(bundle, length, sample, room ? out : NULL, room, &place, &count), number, line);
+    same("place", place, at, line);
+    same("count", count, 0, line);
+    same("untouched", untouched(out, sizeof out), 1, line);
+}
+
+/* The byte stream of a sample is these bytes, in that much room and in more. */
+static void stream_written(const uint8_t *bundle, size_t length, uint64_t sample, const uint8_t *expected, size_t size, int line)
+{
+    uint8_t out[64];
+    for (size_t room = size; room <= size + 2; room++) {
+        uint64_t place = UNSET, count = UNSET;
+        memset(out, FILL, sizeof out);
+        same("number", puddockle_stream(bundle, length, sample, room ? out : NULL, room, &place, &count), 0, line);
+        same("place", place, 0, line);
+        same("count", count, size, line);
+        same("bytes", size > 0 && memcmp(out, expected, size) != 0, 0, line);
+        same("untouched", untouched(out + size, sizeof out - size), 1, line);
+    }
+    for (size_t room = 0; room < size; room++)
+        stream_refused(bundle, length, sample, room, 29, 0, line);
+}
+
+/* Units that end in 00; one that holds 00 00 01; good ones with zeros; B0's extractor; a unit that ends in 00 before an extractor by a reference
+ * that is not there (23). */
+static const uint8_t ENDING[] = { 0x02, 0x65, 0x88, 0x02, 0x65, 0x00, 0x01, 0x00 };
+static const uint8_t START_CODE[] = { 0x05, 0x65, 0x00, 0x00, 0x01, 0x88 };
+static const uint8_t ZEROS[] = { 0x05, 0x65, 0x00, 0x00, 0x03, 0x88, 0x03, 0x00, 0x00, 0x65, 0x02, 0x00, 0x01 };
+static const uint8_t EXTRACTOR[] = { 0x08, 0x7F, 0x80, 0x00, 0x03, 0x01, 0x00, 0x00, 0x00 };
+static const uint8_t ENDING_NO_REFERENCE[] = { 0x02, 0x65, 0x00, 0x08, 0x7F, 0x80, 0x00, 0x03, 0x02, 0x00, 0x00, 0x00 };
+
+static void streams_of_samples(void)
+{
+    static const uint8_t own[] = { 0, 0, 0, 1, 0x65, 0x88 };
+    static const uint8_t three[] = { 0, 0, 0, 1, 0x06, 0, 0, 0, 1, 0x65, 0x88, 0, 0, 0, 1, 0x09 };
+    static const uint8_t zeros[] = { 0, 0, 0, 1, 0x65, 0, 0, 3, 0x88, 0, 0, 0, 1, 0, 0, 0x65, 0, 0, 0, 1, 0, 1 };
+    uint8_t bundle[128];
+    stream_written(B0, sizeof B0, 1, own, sizeof own, __LINE__);
+    stream_written(B0, sizeof B0, 2, own, sizeof own, __LINE__);
+    size_t length = SAMPLES(bundle, TWO, WHOLE);
+    stream_written(bundle, length, 2, three, sizeof three, __LINE__);
+    /* 00 00 03 and zeros at a unit's start are good; the units are not searched as one */
+    length = SAMPLES(bundle, TWO, ZEROS);
+    stream_written(bundle, length, 2, zeros, sizeof zeros, __LINE__);
+    /* nothing is delivered, and no room is enough for that */
+    length = with_samples(bundle, TWO, 0, TWO, sizeof TWO);
+    stream_written(bundle, length, 1, NULL, 0, __LINE__);
+
+    /* every third byte after two zeros, in the middle, at the end and at the front of a unit */
+    for (unsigned third = 0; third < 256; third++) {
+        const uint8_t byte = (uint8_t)third, units[][6] = {
+            { 0x05, 0x65, 0x00, 0x00, byte, 0x88 }, { 0x05, 0x65, 0x65, 0x00, 0x00, byte }, { 0x05, 0x00, 0x00, byte, 0x65, 0x88 },
+        };
+        for (size_t i = 0; i < 3; i++) {
+            uint8_t expected[9] = { 0, 0, 0, 1 };
+            memcpy(expected + 4, units[i] + 1, 5);
+            length = SAMPLES(bundle, TWO, units[i]);
+            if (third <= 2)
+                stream_refused(bundle, length, 2, 64, 32, 0, __LINE__);
+            else
+                stream_written(bundle, length, 2, expected, sizeof expected, __LINE__);
+        }
+    }
+    /* the first unit that ends in 00, by its 4-byte length in what resolves, in either sample and in a copy; before 29 */
+    for (size_t room = 0; room <= 64; room += 8) {
+        length = SAMPLES(bundle, ENDING, TWO);
+        stream_refused(bundle, length, 1, room, 32, 6, __LINE__);
+        length = SAMPLES(bundle, TWO, ENDING);
+        stream_refused(bundle, length, 2, room, 32, 6, __LINE__);
+        length = with_samples(bundle, ENDING + 3, 5, WHOLE, sizeof WHOLE);
+        stream_refused(bundle, length, 2, room, 32, 5, __LINE__);
+        length = SAMPLES(bundle, TWO, START_CODE);
+        stream_refused(bundle, length, 2, room, 32, 0, __LINE__);
+    }
+    /* a unit that is not delivered is not searched */
+    length = SAMPLES(bundle, ENDING, EXTRACTOR);
+    stream_written(bundle, length, 2, own, sizeof own, __LINE__);
+
+    /* the bundle before the number, that before the sample, an extractor after the unit before the unit, all before the room */
+    stream_refused(bundle, 15, 0, 0, 2, 11, __LINE__);
+    stream_refused(NULL, 0, 1, 64, 2, 0, __LINE__);
+    stream_refused(too_long, sizeof too_long, 0, 0, 1, 0, __LINE__);
+    length = SAMPLES(bundle, ENDING, BAD);
+    for (size_t i = 0; i < sizeof NO_NUMBER / sizeof *NO_NUMBER; i++)
+        stream_refused(bundle, length, NO_NUMBER[i], 0, 30, 0, __LINE__);
+    stream_refused(bundle, length, 2, 0, 16, 0, __LINE__);
+    length = SAMPLES(bundle, TWO, ENDING_NO_REFERENCE);
+    stream_refused(bundle, length, 2, 0, 23, 3, __LINE__);
+    length = SAMPLES(bundle, BAD, WHOLE);
+    stream_refused(bundle, length, 2, 64, 25, 2, __LINE__);
+    length = SAMPLES(bundle, TWO, WRONG_OFFSET);
+    stream_refused(bundle, length, 2, 64, 26, 0, __LINE__);
+}
+
 /* What the extractor at that place of sample `sample` names: the refusal and its place, or the number of the sample. */
 static void name(const uint8_t *bundle, size_t length, uint64_t sample, uint64_t extractor, uint32_t number, uint64_t at, uint64_t expected, int line)
 {
@@ -726,6 +827,7 @@ int main(void)
     counts_of_bundle();
     parts_of_bundle();
     units_of_samples();
+    streams_of_samples();
     named_by_extractors();
     printf("%u checks, %u failed\n", checks, failures);
     return failures != 0;

@@ -1,6 +1,6 @@
-"""The rules of docs/FORMAT.md in Python, for the answers of the vectors that make_contents makes.
+"""The rules of docs/FORMAT.md in Python, for the answers of the vectors that make_contents makes and of stream.txt.
 
-Written from FORMAT.md alone, plainly and not for speed. A refusal is the exception No, with a number and a place.
+Written from FORMAT.md alone (`stream` from request [2] of document 02), plainly and not for speed. A refusal is the exception No, with a number and a place.
 """
 
 
@@ -311,6 +311,19 @@ def units(data, number, room):
     if 2 * len(spans) > room:
         raise No(29)
     return [value for span in spans for value in span]
+
+
+def stream(data, number, room):
+    """The byte stream, in hexadecimal."""
+    out = b""
+    for start, length in delivered(Bundle(data), number):
+        unit = data[start : start + length]
+        if unit.endswith(b"\0") or any(three in unit for three in (b"\0\0\0", b"\0\0\1", b"\0\0\2")):
+            raise No(32, len(out))
+        out += b"\0\0\0\1" + unit
+    if len(out) > room:
+        raise No(29)
+    return [out.hex() or "-"]
 
 
 def named(data, number, place):

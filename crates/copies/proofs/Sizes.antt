@@ -7,7 +7,7 @@ use Prim.Native.Nat.{ℕ, _+_, _-_, _≤_}
 use mathlib.Core.Path.{_≡_, refl}
 use mathlib.Core.List.{List, [], _∷_, map, List·Memᴰ, List·Memᴰ·head, List·Memᴰ·tail, List·Memᴰ·cases-cons, List·Memᴰ·not-nil}
 use mathlib.Core.Logic.{⊎-elim}
-use mathlib.Core.Bool.{Bool, true, false, not}
+use mathlib.Core.Bool.{Bool, not}
 use native.Mathlib.Omega.{arith}
 use Rattle.words.specs.Refusals.{ok}
 use Rattle.words.specs.Lists.{keep, sum}
@@ -22,10 +22,6 @@ use Rattle.copies.specs.Copies.{withoutAggregators, copied}
 use Rattle.copies.specs.Rules.{CopyRules}
 use Rattle.words.proofs.Kept.{keep-no, keep-each, rising-and}
 use Rattle.copies.proofs.Copied.{copied-exact, copied-unit}
-
-not-true : (b : Bool) → not b ≡ true → b ≡ false
-not-true true h = rw h
-not-true false h = refl
 
 module _ (z : Sample) where
   no-head : ℕ → Bool

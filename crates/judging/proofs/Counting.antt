@@ -1,9 +1,8 @@
 -- Units and their bytes counted, own and copied. Assumes nothing.
 --
---   Counts, counts-none, counts-one    what a loop has counted
---   counts-fit                         the sums fit
+--   Counts, counts-none, -one, -take   what a loop has counted
+--   bound-most, counts-fit             the sums fit
 --   counts-refused, counts-end         what is judged of a sample
---   form-refused                       a sample that is not well formed
 use Prim.Native.Nat.{ℕ, suc, _+_, _≤_}
 use mathlib.Core.Path.{_≡_, refl, ap, sym, _∙_}
 use mathlib.Core.List.{List, [], _∷_, _++_}
@@ -18,7 +17,6 @@ use Rattle.bundles.specs.Limits.{bundleMost}
 use Rattle.bundles.specs.Recordings.{Recording}
 use Rattle.tables.specs.Tables.{recordingIn}
 use Rattle.resolution_rules.specs.Resolving.{sampleOf, delivered}
-use Rattle.resolution_rules.proofs.Delivered.{judged-form}
 use Rattle.resolution_rules.proofs.Good.{own-length}
 use Rattle.delivery.specs.Steps.{start, stepOf}
 use Rattle.delivery.specs.Deliveries.{Delivery, unitFor, deliveries, ownPart, copiedPart}
@@ -43,6 +41,15 @@ counts-one count own copied d ds h =
     let c = copied-add ds d in
     (omega arith, omega arith, omega arith)
 
+-- no more steps, units and bytes than this from the start on
+pub bound-most : (b t : List ℕ) (n : ℕ) (x : Sample) → x ≡ sampleOf (recordingIn b t) n → length b ≤ bundleMost → bound (recordingIn b t) x start ≤ 281474993487872
+bound-most b t n x same few =
+    let l : end x ≤ length b = rw same (let o = own-length (recordingIn b t) n in let s = content-most b t n in omega arith) in
+    let k : suc (length b) ≤ suc bundleMost = omega arith in
+    let m = mul-le-mul few k in
+    let z = recording-bound b t x l in
+    omega arith
+
 module _ (b t : List ℕ) (n : ℕ) (x : Sample) (count own copied : ℕ) (c : Cursor) (w : Folded (recordingIn b t) n x (Counts count own copied) c) where
   abbrev R : Recording
   R = recordingIn b t
@@ -51,18 +58,10 @@ module _ (b t : List ℕ) (n : ℕ) (x : Sample) (count own copied : ℕ) (c : C
   counts-take {u} e = folded-unit R n x (Counts count own copied) c w (Counts (count + 1) (own + ownPart (unitFor u)) (copied + copiedPart (unitFor u))) (counts-one count own copied (unitFor u) (w .us) (w .holds)) e
 
   module _ (same : x ≡ sampleOf R n) (few : length b ≤ bundleMost) where
-    least : bound R x start ≤ 281474993487872
-    least =
-        let l : end x ≤ length b = rw same (let o = own-length R n in let s = content-most b t n in omega arith) in
-        let k : suc (length b) ≤ suc bundleMost = omega arith in
-        let m = mul-le-mul few k in
-        let z = recording-bound b t x l in
-        omega arith
-
     pub counts-fit : {u : DeliveredUnit} {d : Cursor} → stepOf R n x c ≡ step.Unit u d → (count + 1 ≤ 281474993487872) × (own + ownPart (unitFor u) ≤ 281474993487872) × (copied + copiedPart (unitFor u) ≤ 281474993487872)
     counts-fit {u} e =
         let f = folded-fits R n x (Counts count own copied) c w e in
-        let l = least in
+        let l = bound-most b t n x same few in
         let h = w .holds in
         let a = all-parts (w .us) in
         let p = parts-one (unitFor u) in
@@ -81,8 +80,3 @@ module _ (b t : List ℕ) (n : ℕ) (x : Sample) (count own copied : ℕ) (c : C
         let o = sym (deliveries-own R n) ∙ sym (h .1 .1) in
         let k = sym (deliveries-copied R n) ∙ sym (h .1 .2) in
         rw (h .0, l, o, k)
-
--- a sample that is not well formed
-pub form-refused : (r : Recording) (n : ℕ) {x : Sample} {m q : ℕ} → x ≡ sampleOf r n → check x ≡ refused m q → judgement r n ≡ refused m q
-unfolding judgement
-form-refused r n e f = rw (judged-form r n (rw e at f))

@@ -1,32 +1,37 @@
 -- What a judgement of a sample says. Assumes nothing.
 --
---   judgement-long                 a bundle that is too long
---   judgement-none, judgement-in   30 for the number; a number without it
+--   form-long, form-none, form-in  the form: of a bundle that is too long; 30 for the number; a number without it
+--   form-refused, refused-judged   a form that is refused: so is any call on a good sample, and the judgement
+--   form-good, good-judged         a form that is not: the bundle is not too long, the number is good, and the sample is judged
 --   judged-refused                 30 or 14 to 28: so is any call on a good sample
 --   judged-sample                  14 to 28, where the number is good
 --   judged-number, judged-good     a sample that is good, and how much it delivers
 --   judged-size, judged-most       the length of its output, and that it fits a word
 use Prim.Native.Nat.{ℕ, _+_, _*_, _≤_, _<_}
-use mathlib.Core.Path.{_≡_, ap, sym, _∙_}
+use mathlib.Core.Path.{_≡_, refl, ap, sym, _∙_}
 use mathlib.Core.List.{List}
 use native.Mathlib.Omega.{arith}
-use borrow.Author.Tests.{le-ltb, lt-ltb}
+use borrow.Author.Tests.{le-ltb, lt-ltb, ltb-true, ltb-false}
+use lib.Dec.{ltb}
 use lib.ListN.{length}
 use Rattle.words.specs.RefusalNumbers.{bundleTooLong}
 use Rattle.words.specs.Refusals.{Verdict, Answer, refused, ok, _andThen_, _atPlace_}
-use Rattle.words.proofs.Refusals.{at-ok, at-refused, and-ok, by-verdict, ok-same, ok-refused}
+use Rattle.words.proofs.Tests.{by-bool}
+use Rattle.words.proofs.Refusals.{at-ok, at-refused, and-ok, by-verdict, ok-same, ok-refused, refused-same}
+use Rattle.samples.specs.Check.{check}
 use Rattle.bundles.specs.Limits.{bundleMost}
 use Rattle.bundles.specs.Recordings.{Recording, sampleCount}
 use Rattle.tables.specs.Tables.{recordingIn}
-use Rattle.resolution_rules.specs.Resolving.{delivered, judged}
+use Rattle.resolution_rules.specs.Resolving.{sampleOf, delivered, judged}
 use Rattle.copies.specs.Written.{lengthBefore}
 use Rattle.resolution_rules.specs.Calls.{numberFault, onSample, onGood, output}
 use Rattle.resolution_rules.specs.Amounts.{ownBytes, copiedBytes}
+use Rattle.resolution_rules.proofs.Delivered.{judged-form}
 use Rattle.resolution_rules.proofs.Amounts.{delivered-size, output-bytes}
 use Rattle.resolution_rules.proofs.Good.{good-rules}
 use Rattle.resolution_rules.proofs.Sizes.{delivered-most}
 use Rattle.delivery.proofs.Folds.{content-most}
-use Rattle.judging.specs.Steps.{amountFor, judgement, judgementIn}
+use Rattle.judging.specs.Steps.{amountFor, judgement, judgementIn, formIn}
 use Rattle.judging.specs.declared.Amount.{Amount}
 
 module _ (r : Recording) (n : ℕ) where
@@ -56,19 +61,30 @@ module _ (b t : List ℕ) (n : ℕ) where
   abbrev Fault : ℕ
   Fault = numberFault (sampleCount (recordingIn b t .layout)) n
 
-  pub judgement-long : bundleMost < length b → judgementIn b t n ≡ refused bundleTooLong 0
+  pub form-long : bundleMost < length b → formIn b t n ≡ refused bundleTooLong 0
+  unfolding formIn
+  form-long h = rw (lt-ltb bundleMost (length b) h)
+
+  long-judged : bundleMost < length b → judgementIn b t n ≡ refused bundleTooLong 0
   unfolding judgementIn
-  judgement-long h = rw (lt-ltb bundleMost (length b) h)
+  long-judged h = rw (lt-ltb bundleMost (length b) h)
 
   module _ (h : length b ≤ bundleMost) where
     short : judgementIn b t n ≡ onSample R n (judgement R n)
     unfolding judgementIn
     short = rw (le-ltb bundleMost (length b) h)
 
-    pub judgement-none : {f : ℕ} → f ≡ numberFault (sampleCount (recordingIn b t .layout)) n → (f ≡ 0 → ⊥) → judgementIn b t n ≡ refused f 0
-    judgement-none e z = short ∙ rw (at-refused 0 e z)
+    form-short : formIn b t n ≡ onSample R n (check (sampleOf R n))
+    unfolding formIn
+    form-short = rw (le-ltb bundleMost (length b) h)
 
-    pub judgement-in : numberFault (sampleCount (recordingIn b t .layout)) n ≡ 0 → judgementIn b t n ≡ judgement (recordingIn b t) n
+    pub form-none : {f : ℕ} → f ≡ numberFault (sampleCount (recordingIn b t .layout)) n → (f ≡ 0 → ⊥) → formIn b t n ≡ refused f 0
+    form-none e z = form-short ∙ rw (at-refused 0 e z)
+
+    pub form-in : numberFault (sampleCount (recordingIn b t .layout)) n ≡ 0 → formIn b t n ≡ check (sampleOf (recordingIn b t) n)
+    form-in g = form-short ∙ rw g
+
+    judgement-in : numberFault (sampleCount (recordingIn b t .layout)) n ≡ 0 → judgementIn b t n ≡ judgement (recordingIn b t) n
     judgement-in g = short ∙ rw g
 
     -- 30, or 14 to 28: so is any call on a good sample; 14 to 28 where the number is good
@@ -98,3 +114,34 @@ module _ (b t : List ℕ) (n : ℕ) where
         let w = judged-good in
         let m = delivered-most R n (good-rules R n (w .0)) bundleMost (λ k. let l = content-most b t k in omega arith) in
         rw (w .1, w .2, w .3) (rw (delivered-size R n) at m)
+
+  -- the form that is refused
+  module _ {m q : ℕ} (e : formIn b t n ≡ refused m q) where
+    form-case : {A : Type 0} (a : Answer A) (v : Verdict) → v ≡ Fault atPlace 0 → (v andThen check (sampleOf R n)) ≡ refused m q → (v andThen (judged R n andThen a)) ≡ refused m q
+    form-case a (refused c d) f g = let s = refused-same g in rw (s .0, s .1)
+    form-case a (ok u) f g = rw (judged-form R n g)
+
+    pub form-refused : length b ≤ bundleMost → {A : Type 0} (a : Answer A) → onGood (recordingIn b t) n a ≡ refused m q
+    form-refused h a = form-case a (Fault atPlace 0) refl (sym (form-short h) ∙ e)
+
+    pub refused-judged : judgementIn b t n ≡ refused m q
+    unfolding judgement
+    refused-judged = by-bool (ltb bundleMost (length b))
+        (λ l.
+        let k = ltb-true bundleMost (length b) l in
+        let s = refused-same (sym (form-long k) ∙ e) in
+        long-judged k ∙ rw (s .0, s .1))
+        (λ l. let k = ltb-false bundleMost (length b) l in short k ∙ form-refused k (ok (amountFor R n)))
+
+  -- and that is not
+  module _ (e : formIn b t n ≡ ok tt) where
+    pub form-good : (length b ≤ bundleMost) × (numberFault (sampleCount (recordingIn b t .layout)) n ≡ 0) × (check (sampleOf (recordingIn b t) n) ≡ ok tt)
+    form-good = by-bool (ltb bundleMost (length b))
+        (λ l. ok-refused (sym (form-long (ltb-true bundleMost (length b) l)) ∙ e))
+        (λ l.
+        let k = ltb-false bundleMost (length b) l in
+        let w = and-ok (Fault atPlace 0) (check (sampleOf R n)) (sym (form-short k) ∙ e) in
+        (k, at-ok Fault 0 (w .0), w .1))
+
+    pub good-judged : judgementIn b t n ≡ judgement (recordingIn b t) n
+    good-judged = let w = form-good in judgement-in (w .0) (w .1)

@@ -1,4 +1,6 @@
 // A sample judged: 30, 14 to 28, or how much it delivers; by a bundle and any table beside it.
+pub mod form;
+
 ghost use mathlib.Core.Path.{_≡_};
 ghost use Prim.Native.Nat.{_≤_};
 ghost use lib.ListN.{length};
@@ -14,7 +16,6 @@ ghost use Rattle.judging.specs.Steps.{judgement, judgementIn, answerOf};
 use delivery::DeliveredUnit;
 use delivery::Source;
 use delivery::Stepped;
-use numbers::ByteOffset;
 use numbers::Refusal;
 use numbers::SampleNumber;
 use numbers::refusals;
@@ -108,24 +109,13 @@ fn measure(b: &[u8], t: &[u64], n: SampleNumber, k: Track, x: &[u8]) -> Judged
 pub fn judge(b: &[u8], t: &[u64], n: SampleNumber) -> Judged
     ensures { λ r. ⌜ answerOf r ≡ judgementIn (now (b .entry)) (now (t .entry)) (n .0) ⌝ }
 {
-    if bundles::BUNDLE_MOST < b.len() {
-        return Judged::Refused(Refusal {
-            number: refusals::BUNDLE_TOO_LONG,
-            place: ByteOffset(0),
-        });
-    }
-    let fault = number_fault(sample_tables::sample_count(t), n.0);
-    if fault != 0 {
-        return Judged::Refused(Refusal {
-            number: fault,
-            place: ByteOffset(0),
-        });
-    }
-    let k = delivery::track_of(t, n);
-    let x = sample_tables::sample_bytes(b, t, n);
-    let checked = samples::check_sample(k, x);
+    let checked = form::check_form(b, t, n);
     match checked {
         Checked::Refused(f) => Judged::Refused(f),
-        Checked::WellFormed => measure(b, t, n, k, x),
+        Checked::WellFormed => {
+            let k = delivery::track_of(t, n);
+            let x = sample_tables::sample_bytes(b, t, n);
+            measure(b, t, n, k, x)
+        }
     }
 }

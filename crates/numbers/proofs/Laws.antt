@@ -1,16 +1,16 @@
 -- Laws of the length size, and of a number that is written from its last byte on. Assumes nothing.
 --
 --   L-some, L-most       L is 1 to 4
---   word-size            a number of L bytes is a word
+--   big-4                a number of 4 bytes
 --   Back, back-start, back-next, back-end    the bytes written so far
-use Prim.Native.Nat.{ℕ, zero, suc, _+_, _-_, _/_, _%_, _≤_, _<_}
-use mathlib.Core.Path.{_≡_, refl, ap, sym, _∙_}
+use Prim.Native.Nat.{ℕ, zero, suc, _+_, _-_, _*_, _/_, _%_, _≤_, _<_}
+use mathlib.Core.Path.{_≡_, sym, _∙_}
 use mathlib.Core.List.{List, [], _∷_, _++_, append-assoc, append-nil}
 use native.Mathlib.Omega.{arith}
 use native.Mathlib.Numerals.{sub-one}
 use native.Mathlib.Nat.{add-zero}
 use lib.ListN.{length, set}
-use Rattle.words.specs.Bytes.{bytes, big, wordAt}
+use Rattle.words.specs.Bytes.{byteAt, bytes, big}
 use Rattle.words.specs.Buffers.{writeAt, put}
 use Rattle.words.proofs.Bytes.{bytes-length}
 use Rattle.words.proofs.Buffers.{write-none, back-step, put-fits}
@@ -28,10 +28,9 @@ L-most One = omega arith
 L-most Two = omega arith
 L-most Four = omega arith
 
-pub word-size : (s : List ℕ) (p : ℕ) (l : LengthSize) → wordAt s p (inBytes l) ≡ big s p (inBytes l)
-word-size s p One = refl
-word-size s p Two = refl
-word-size s p Four = refl
+pub big-4 : (s : List ℕ) (p : ℕ) → big s p 4 ≡ (byteAt s (p + 0) * 256 + byteAt s (p + 1)) * 65536 + (byteAt s (p + 2) * 256 + byteAt s (p + 3))
+unfolding big
+big-4 s p = omega arith
 
 -- v in n bytes over o from p on, written down to the place p + k, with r left of v
 pub record Back (o : List ℕ) (p n v k r : ℕ) (out : List ℕ) : Type 0 where

@@ -126,7 +126,11 @@ impl LengthSize {
     pub fn number(self, s: &[u8], at: usize) -> usize
         ensures { λ r. ⌜ r ≡ big (now (s .entry)) at (inBytes self) ⌝ }
     {
-        number(s, at, self.bytes())
+        match self {
+            LengthSize::One => number(s, at, 1),
+            LengthSize::Two => number(s, at, 2),
+            LengthSize::Four => number_of_4(s, at),
+        }
     }
 }
 
@@ -166,6 +170,20 @@ pub fn number(s: &[u8], at: usize, n: usize) -> usize
         i += 1;
     }
     v
+}
+
+// The same of 4 bytes, without a loop where they are there.
+fn number_of_4(s: &[u8], at: usize) -> usize
+    ensures { λ r. ⌜ r ≡ big (now (s .entry)) at 4 ⌝ }
+{
+    if at < s.len() {
+        if 3 < s.len() - at {
+            let high = byte_after(s, at, 0) * 256 + byte_after(s, at, 1);
+            let low = byte_after(s, at, 2) * 256 + byte_after(s, at, 3);
+            return high * 65536 + low;
+        }
+    }
+    number(s, at, 4)
 }
 
 // A slice over a buffer from a place on, if it fits there.

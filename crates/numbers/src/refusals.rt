@@ -1,4 +1,4 @@
-// The refusal numbers of document 01, 'Numbers for no', by name. The definitions' table is crates/words/specs/RefusalNumbers.antt;
+// The refusal numbers of document 01, 'Numbers for no', and of document 02, by name. The definitions' table is crates/words/specs/RefusalNumbers.antt;
 // `table` ties the two.
 ghost use mathlib.Core.Path.{_≡_};
 ghost use Rattle.words.specs.Lists.{has};
@@ -71,8 +71,11 @@ pub const NO_SUCH_NUMBER: u8 = 30;
 
 pub const FIELDS_FIT_NO_RECORD: u8 = 31;
 
+// a byte stream
+pub const UNIT_NOT_STREAMABLE: u8 = 32;
+
 // How many there are.
-pub const COUNT: usize = 31;
+pub const COUNT: usize = 32;
 
 // All of them, in order.
 pub fn table() -> [u8; COUNT]
@@ -110,6 +113,7 @@ pub fn table() -> [u8; COUNT]
         OUTPUT_TOO_LONG,
         NO_SUCH_NUMBER,
         FIELDS_FIT_NO_RECORD,
+        UNIT_NOT_STREAMABLE,
     ]
 }
 

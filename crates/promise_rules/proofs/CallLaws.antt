@@ -43,6 +43,10 @@ part-bytes b a n g i = by-bool (i <? n)
     (λ t. rw (part-byte b a n i (ltb-true _ _ t)) (g (a + i)))
     (λ t. let l : n ≤ i = ltb-false _ _ t in let h : length (part b a n) ≤ i = simp (length-take) (omega arith) in rw (List·getD-eq-default (part b a n) 0 {n = i} h) (omega arith))
 
+pub output-is : (r : Recording) (us : List Span) → output r us ≡ each (afterLength r) us
+unfolding output written
+output-is r us = refl
+
 module _ (b : List ℕ) (g : Bytes b) (r : Recording) (accepted : firstLayout .means b ≡ ok r) where
   pub rise : TimesRise (r .layout)
   rise = firstLayout-sound .rise b r accepted
@@ -87,10 +91,6 @@ module _ (b : List ℕ) (g : Bytes b) (r : Recording) (accepted : firstLayout .m
     unfolding delivered
     delivers-only us d = determined d
 
-    output-is : (us : List Span) → output r us ≡ each (afterLength r) us
-    unfolding output written
-    output-is us = refl
-
     pub resolved-exactly :
         (room : ℕ) (out : List ℕ) →
         (resolveCall firstLayout b n room ≡ ok out)
@@ -101,7 +101,7 @@ module _ (b : List ℕ) (g : Bytes b) (r : Recording) (accepted : firstLayout .m
           let same : w .recording ≡ r = ok-same (sym (w .means) ∙ accepted) in
           let v : Resolves r n room out = subst (λ (s : Recording). Resolves s n room out) same (w .resolves) in
           let good = good-sample r rise n offset-byte (v .good) in
-          (delivered r n, record { some = some; there = there; good = good; delivery = delivers good }, v .delivers ∙ output-is (delivered r n), v .fits),
+          (delivered r n, record { some = some; there = there; good = good; delivery = delivers good }, v .delivers ∙ output-is r (delivered r n), v .fits),
       λ w.
           let d = delivers-only (w .0) (w .1 .delivery) in
           calls.call-resolves firstLayout b n room (record {
@@ -110,7 +110,7 @@ module _ (b : List ℕ) (g : Bytes b) (r : Recording) (accepted : firstLayout .m
             resolves = record {
               number = (some, there);
               good = sample-good r rise n offset-byte (w .1 .good);
-              delivers = w .2 ∙ ap (each (afterLength r)) d ∙ sym (output-is (delivered r n));
+              delivers = w .2 ∙ ap (each (afterLength r)) d ∙ sym (output-is r (delivered r n));
               fits = w .3;
             };
           }),

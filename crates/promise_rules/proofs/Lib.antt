@@ -21,4 +21,5 @@ pub mod AbsentLaws
 pub mod ContentLaws
 pub mod StandLaws
 pub mod NamedLaws
+pub mod StreamLaws
 pub mod Cited

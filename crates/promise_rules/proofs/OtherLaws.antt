@@ -1,13 +1,14 @@
--- The proofs of what Demands and Contents say of where units stand, and of what a bundle holds, after a sample's bytes are replaced.
+-- The proofs of what Demands, Contents and Request02 say of units, and of what a bundle holds, after a sample's bytes are replaced.
 -- The idea: where a sample starts follows from the length of the bundle and the lengths of the samples, which are kept. Assumes nothing.
 use Prim.Native.Nat.{ℕ, zero, suc, _+_, _-_, _≤_, _<_}
 use mathlib.Core.Path.{_≡_, refl, ap, ap₂, sym, _∙_}
-use mathlib.Core.List.{List, [], _∷_, map}
+use mathlib.Core.List.{List, [], _∷_, map, append-cancel-left}
 use native.Mathlib.Omega.{arith}
-use lib.ListN.{length, getD, take, set}
+use lib.ListN.{length, getD, take, drop, set, length-append, length-take, length-drop}
+use lib.Seq.{take-at, drop-at}
 use Rattle.words.specs.Refusals.{Answer, refused, ok}
-use Rattle.words.specs.Lists.{nth, sum}
-use Rattle.words.specs.Bytes.{splice}
+use Rattle.words.specs.Lists.{each, nth, sum}
+use Rattle.words.specs.Bytes.{bytes, splice}
 use Rattle.words.specs.Buffers.{within}
 use Rattle.words.proofs.Numbered.{nth-map as nth-number}
 use Rattle.words.proofs.Refusals.{by-verdict}
@@ -19,9 +20,12 @@ use Rattle.bundles.specs.Bundles.{bundleVerdict, contentsAt, contentAt}
 use Rattle.bundles.proofs.Promises.{means, samples-tile}
 use Rattle.bundles.proofs.Replacing.{records-replaced}
 use Rattle.bundles.proofs.Sections as sections
+use Rattle.byte_streams.specs.Writing.{toStream}
+use Rattle.copies.specs.Written.{lengthBefore}
 use Rattle.resolution_rules.specs.Resolving.{Span, judged, delivered}
-use Rattle.resolution_rules.specs.Calls.{placedBy, unitCall, placeCall, partsBy, partsOf, partsCall, namedIn, namedCall}
+use Rattle.resolution_rules.specs.Calls.{spanBytes, bytesOf, written, output, placedBy, unitCall, placeCall, stream, streamCall, partsBy, partsOf, partsCall, namedIn, namedCall}
 use Rattle.resolution_rules.proofs.Calls.{number-bad, by-count, parts-number, parts-sample, parts-good, parts-means, named-means}
+use Rattle.resolution_rules.proofs.Streams.{stream-number, stream-sample, stream-good, stream-means}
 use Rattle.resolution_rules.proofs.Readers.{firstLayout-sound}
 use Rattle.naming_list_rules.specs.Rules.{Unlisted}
 use Rattle.naming_list_rules.proofs.Replaced.{layout-kept, sample-other, name-fault-other, named-other}
@@ -74,6 +78,12 @@ module _ (b : List ℕ) (r : Recording) (accepted : firstLayout .means b ≡ ok 
       starts-same b after r (replaced r s new) accepted (firstLayout-sound .replacing b r s new accepted some there equal-length)
       (splice-length b (firstLayout .contentAt b s) new (omega arith)) (replaced-lengths r s new equal-length) m
 
+  length-kept : (n : ℕ) → length (contentOf (replaced r s new) n) ≡ length (contentOf r n)
+  length-kept n =
+      sym (nth-number length (replaced r s new .contents) n [])
+      ∙ ap (λ ns. nth ns n 0) (replaced-lengths r s new equal-length)
+      ∙ nth-number length (r .contents) n []
+
   placed-same : (a : Answer Span) → placedBy (firstLayout .contentAt after) a ≡ placedBy (firstLayout .contentAt b) a
   placed-same (refused m p) = refl
   placed-same (ok u) = ap (λ (k : ℕ). ok (record { start = k + u .start; size = u .size })) (starts-kept (u .sample))
@@ -110,6 +120,46 @@ module _ (b : List ℕ) (r : Recording) (accepted : firstLayout .means b ≡ ok 
       ∙ ap (within room) (parts-kept n other unlisted)
       ∙ sym (parts-means firstLayout b n room accepted)
 
+  -- what it delivers as a byte stream: units of the same lengths, joined to the same output, are the same
+  unit-size : (u : Span) → length (written (replaced r s new) u) ≡ length (written r u)
+  unfolding written
+  unit-size u = simp (length-append, length-take, length-drop) (rw (length-kept (u .sample)))
+
+  unit-bytes : (u : Span) → written (replaced r s new) u ≡ written r u → spanBytes (replaced r s new) u ≡ spanBytes r u
+  unfolding written
+  unit-bytes u e = append-cancel-left (bytes lengthBefore (u .size)) _ _ e
+
+  bytes-kept : (us : List Span) → output (replaced r s new) us ≡ output r us → bytesOf (replaced r s new) us ≡ bytesOf r us
+  unfolding output each
+  bytes-kept [] e = refl
+  bytes-kept (u ∷ us) e =
+      let a = written (replaced r s new) u in
+      let c = written r u in
+      let l = unit-size u in
+      let front : a ≡ c = sym (take-at a _ (length c) l) ∙ ap (take (length c)) e ∙ take-at c _ (length c) refl in
+      let back : output (replaced r s new) us ≡ output r us = sym (drop-at a _ (length c) l) ∙ ap (drop (length c)) e ∙ drop-at c _ (length c) refl in
+      ap₂ _∷_ (unit-bytes u front) (bytes-kept us back)
+
+  stream-kept : (n : ℕ) → (n ≡ s → ⊥) → Unlisted r s n → stream (replaced r s new) n ≡ stream r n
+  stream-kept n other unlisted = by-count (sampleCount (r .layout)) n
+      (λ z. stream-number (replaced r s new) n (rw (layout-kept r s new) z) ∙ sym (stream-number r n z))
+      (λ h l.
+      let t : n ≤ sampleCount (replaced r s new .layout) = rw (layout-kept r s new) l in
+      let w = sample-kept r s new n other h l unlisted in
+      by-verdict (judged r n)
+      (λ m p e. stream-sample (replaced r s new) n h t (w .verdict ∙ e) ∙ sym (stream-sample r n h l e))
+      (λ e.
+      let u = w .units e in
+      stream-good (replaced r s new) n h t (w .verdict ∙ e)
+      ∙ ap toStream (ap (bytesOf (replaced r s new)) u ∙ bytes-kept (delivered r n) (ap (output (replaced r s new)) (sym u) ∙ w .bytes e))
+      ∙ sym (stream-good r n h l e)))
+
+  pub others-stream : (n : ℕ) → (n ≡ s → ⊥) → Unlisted r s n → (room : ℕ) → streamCall firstLayout after n room ≡ streamCall firstLayout b n room
+  others-stream n other unlisted room =
+      stream-means firstLayout after n room (still-accepted .1)
+      ∙ ap (within room) (stream-kept n other unlisted)
+      ∙ sym (stream-means firstLayout b n room accepted)
+
   -- which sample an extractor of another sample names, listed or not
   named-kept : (n : ℕ) → (n ≡ s → ⊥) → (p : ℕ) → namedIn (replaced r s new) n p ≡ namedIn r n p
   unfolding namedIn
@@ -121,12 +171,6 @@ module _ (b : List ℕ) (r : Recording) (accepted : firstLayout .means b ≡ ok 
       named-means firstLayout after n p (still-accepted .1) ∙ named-kept n other p ∙ sym (named-means firstLayout b n p accepted)
 
   -- what the bundle holds
-  length-kept : (n : ℕ) → length (contentOf (replaced r s new) n) ≡ length (contentOf r n)
-  length-kept n =
-      sym (nth-number length (replaced r s new .contents) n [])
-      ∙ ap (λ ns. nth ns n 0) (replaced-lengths r s new equal-length)
-      ∙ nth-number length (r .contents) n []
-
   track-kept : (k : ℕ) → trackCall firstLayout after k ≡ trackCall firstLayout b k
   unfolding trackCall
   track-kept k = rw (still-accepted .1, accepted, layout-kept r s new)

@@ -1,12 +1,11 @@
 -- The proofs of what Demands says of refusals. Assumes nothing.
 use Prim.Native.Nat.{ℕ, _≤_, _<_}
-use mathlib.Core.Path.{_≡_, refl, ap, sym, subst}
+use mathlib.Core.Path.{_≡_, ap, sym, subst}
 use mathlib.Core.List.{List}
 use mathlib.Core.Logic.{_⊎_, inl, inr, ⊎-elim, _↔_}
 use borrow.Author.Tests.{eqb-true, eq-eqb}
 use lib.ListN.{length}
 use Rattle.words.specs.Refusals.{Answer, refused, ok}
-use Rattle.words.specs.Lists.{each}
 use Rattle.words.specs.Bytes.{Bytes}
 use Rattle.words.proofs.Refusals.{ok-refused, refused-same}
 use Rattle.words.proofs.Lists.{keep-from}
@@ -16,7 +15,7 @@ use Rattle.bundles.specs.Recordings.{Recording, sampleCount}
 use Rattle.bundles.specs.Bundles.{bundleVerdict}
 use Rattle.bundles.specs.Readers.{firstLayout}
 use Rattle.resolution_rules.specs.Resolving.{sampleOf, Span, own, extractFault, judged, delivered}
-use Rattle.resolution_rules.specs.Calls.{placedBy, output, written, resolveCall, unitCall, placeCall}
+use Rattle.resolution_rules.specs.Calls.{placedBy, resolveCall, unitCall, placeCall}
 use Rattle.resolution_rules.specs.Rules.{FirstRefused, UnitRefuses, ResolveRefuses, CallRefuses, UnitCallRefuses}
 use Rattle.resolution_rules.proofs.Calls.{call-refused-because, call-refuses, unit-call-because, unit-call-refuses}
 use Rattle.resolution_rules.proofs.Good.{extract-rules, rules-extract, judged-first}
@@ -32,10 +31,10 @@ use Rattle.audit_rules.proofs.Promises.{audit-refused-exactly, tally-refused-ex
 use Rattle.promise_rules.proofs.SampleLaws.{formed-rules, rules-formed}
 use Rattle.promise_rules.proofs.SampleFaultLaws.{form-refused, by-form}
 use Rattle.promise_rules.proofs.BundleFaultLaws.{bundle-by, by-bundle}
-use Rattle.promise_rules.specs.Resolving.{Extraction, Resolved, afterLength, GoodSample}
+use Rattle.promise_rules.specs.Resolving.{Extraction, Resolved, GoodSample}
 use Rattle.promise_rules.proofs.ResolveLaws.{extraction, extraction-is}
 use Rattle.promise_rules.proofs.FaultLaws.{fault-of, is-fault}
-use Rattle.promise_rules.proofs.CallLaws.{rise, offset-byte, good-exactly, delivers, delivers-only}
+use Rattle.promise_rules.proofs.CallLaws.{rise, offset-byte, output-is, good-exactly, delivers, delivers-only}
 use Rattle.promise_rules.specs.BundleFaults.{BundleRefused}
 use Rattle.promise_rules.specs.Refused.{ExtractorRefused, SampleRefused, ResolveRefused, UnitRefused, NamesRefused, AuditRefused}
 
@@ -109,16 +108,12 @@ module _ (b : List ℕ) (g : Bytes b) where
   unresolved r n us e w =
       (good-exactly b g r e n (w .some) (w .there) .1 (w .good), delivers-only b g r e n (w .some) (w .there) us (w .delivery))
 
-  output-length : (r : Recording) (us : List Span) → length (output r us) ≡ length (each (afterLength r) us)
-  unfolding output written
-  output-length r us = refl
-
   resolving : (n room : ℕ) {m p : ℕ} → CallRefuses firstLayout b n room m p → ResolveRefused b n room m p
   resolving n room (CallRefuses.bundle e) = ResolveRefused.bundle (bundle-refused e)
   resolving n room (CallRefuses.recording r e (ResolveRefuses.number h)) = ResolveRefused.number r e h
   resolving n room (CallRefuses.recording r e (ResolveRefuses.sample h l j)) = ResolveRefused.sample r e (sample-refused r e n h l j)
   resolving n room (CallRefuses.recording r e (ResolveRefuses.tooLong h l j w)) =
-      ResolveRefused.room r (delivered r n) e (resolved r e n h l j) (rw (← output-length r (delivered r n)) w)
+      ResolveRefused.room r (delivered r n) e (resolved r e n h l j) (rw (← output-is r (delivered r n)) w)
 
   by-resolving : (n room : ℕ) {m p : ℕ} → ResolveRefused b n room m p → CallRefuses firstLayout b n room m p
   by-resolving n room (ResolveRefused.bundle w) = CallRefuses.bundle (refused-bundle w)
@@ -127,7 +122,7 @@ module _ (b : List ℕ) (g : Bytes b) where
       let k = refused-sample r e n w in CallRefuses.recording r e (ResolveRefuses.sample (k .0) (k .1) (k .2))
   by-resolving n room (ResolveRefused.room r us e w h) =
       let k = unresolved r n us e w in
-      CallRefuses.recording r e (ResolveRefuses.tooLong (w .some) (w .there) (k .0) (rw (output-length r (delivered r n), ← k .1) h))
+      CallRefuses.recording r e (ResolveRefuses.tooLong (w .some) (w .there) (k .0) (rw (output-is r (delivered r n), ← k .1) h))
 
   pub resolve-refused : (n room m p : ℕ) → (resolveCall firstLayout b n room ≡ refused m p) ↔ ResolveRefused b n room m p
   resolve-refused n room m p =

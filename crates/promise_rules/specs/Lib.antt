@@ -7,6 +7,7 @@
 --   First, SampleFaults, BundleFaults    the first place at fault; with which number, and where, a sample or a bundle is refused
 --   Refused     with which number, and where, a call is refused
 --   Returns     which answers the C functions give back
+--   Streams     a sample as a byte stream
 --   Contents    what is told of what a bundle holds
 pub mod Records
 pub mod Reading
@@ -21,4 +22,5 @@ pub mod BundleFaults
 pub mod Audits
 pub mod Refused
 pub mod Returns
+pub mod Streams
 pub mod Contents

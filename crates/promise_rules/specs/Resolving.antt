@@ -86,6 +86,7 @@ module _ (r : Recording) (n : ℕ) where
 --   deliveredUnit r m q          the unit at q of sample m, as it is delivered: its sample, its start after the length field, its size
 --   Delivers r n ps us    the units at places ps of sample n deliver us, in order: an aggregator's header is dropped, an
 --                         extractor replaced by the units that it copies, any other unit delivered as it stands
+--   unitBytes r u         the bytes of a delivered unit
 --   afterLength r u       a delivered unit as it is written
 --   Resolved r n us       sample n is good and delivers us
 --   StandsAt b r n u start size    where a delivered unit stands in the bundle
@@ -103,9 +104,12 @@ pub data Delivers (r : Recording) (n : ℕ) : List ℕ → List Span → Type 0 
       (p m : ℕ) (qs : List ℕ) {ps : List ℕ} {us : List Span} → type (sampleOf r n) p ≡ 31 → Extraction r n p m qs →
       Delivers r n ps us → Delivers r n (p ∷ ps) (map (deliveredUnit r m) qs ++ us)
 
+abbrev pub unitBytes : Recording → Span → List ℕ
+unitBytes r u = part (contentOf r (u .sample)) (u .start) (u .size)
+
 -- a delivered unit after its length in 4 bytes
 abbrev pub afterLength : Recording → Span → List ℕ
-afterLength r u = bytes 4 (u .size) ++ part (contentOf r (u .sample)) (u .start) (u .size)
+afterLength r u = bytes 4 (u .size) ++ unitBytes r u
 
 -- sample n is good and delivers us: all its units, included ones too, in order
 pub record Resolved (r : Recording) (n : ℕ) (us : List Span) : Type 0 where
@@ -118,7 +122,7 @@ pub record Resolved (r : Recording) (n : ℕ) (us : List Span) : Type 0 where
 pub record StandsAt (b : List ℕ) (r : Recording) (n : ℕ) (u : Span) (start size : ℕ) : Type 0 where
   pub some : 0 < size
   pub inside : start + size ≤ length b
-  pub bytes : part b start size ≡ part (contentOf r (u .sample)) (u .start) (u .size)
+  pub bytes : part b start size ≡ unitBytes r u
   pub from :
       (u .sample ≡ n) ⊎ ((p : ℕ) × (qs : List ℕ) × (p ∈ units (sampleOf r n)) × Extraction r n p (u .sample) qs)
 

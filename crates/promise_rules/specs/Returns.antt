@@ -24,7 +24,7 @@ use Rattle.samples.specs.Check.{checkAlone}
 use Rattle.bundles.specs.Bundles.{bundleVerdict}
 use Rattle.bundles.specs.Readers.{firstLayout}
 use Rattle.bundles.specs.Parts.{BundlePart}
-use Rattle.resolution_rules.specs.Calls.{resolveCall, partsCall}
+use Rattle.resolution_rules.specs.Calls.{resolveCall, streamCall, partsCall}
 use Rattle.naming_list_rules.specs.Naming.{namesCall}
 use Rattle.tally.specs.declared.Tally.{Tally}
 use Rattle.audit_rules.specs.Auditing.{auditCall}
@@ -37,6 +37,7 @@ pub data OutputAnswer (o : List ℕ) : Answer (List ℕ) → Type 0 where
   names : (b : List ℕ) → Bytes b → (s : ℕ) → OutputAnswer o (namesCall firstLayout b s (length o))
   audit : (b : List ℕ) → Bytes b → OutputAnswer o (auditCall firstLayout b (length o))
   units : (b : List ℕ) → Bytes b → (n : ℕ) → OutputAnswer o (partsCall firstLayout b n (length o))
+  stream : (b : List ℕ) → Bytes b → (n : ℕ) → OutputAnswer o (streamCall firstLayout b n (length o))
 
 pub data VerdictAnswer : Verdict → Type 0 where
   bundle : (b : List ℕ) → VerdictAnswer (bundleVerdict b)

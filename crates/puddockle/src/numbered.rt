@@ -1,7 +1,7 @@
 // One sample of a bundle, by its number.
 ghost use lib.ListN.{length};
 ghost use Rattle.bundles.specs.Readers.{firstLayout};
-ghost use Rattle.resolution_rules.specs.Calls.{resolveCall, placeCall, partsCall, namedCall};
+ghost use Rattle.resolution_rules.specs.Calls.{resolveCall, streamCall, placeCall, partsCall, namedCall};
 ghost use Rattle.naming_list_rules.specs.Naming.{namesCall};
 ghost use Rattle.puddockle.specs.Returns.{ReturnedOutput, ReturnedPart, ReturnedNamed};
 use crate::answer;
@@ -23,6 +23,21 @@ pub extern "C" fn puddockle_resolve(
 {
     let resolved = resolution::resolve(bundle, SampleNumber(sample as usize), out);
     answer::written(resolved, place, count)
+}
+
+#[no_mangle]
+pub extern "C" fn puddockle_stream(
+    bundle: &[u8],
+    sample: u64,
+    out: &mut [u8],
+    place: &mut u64,
+    count: &mut u64,
+) -> u32
+    ensures { λ r. ⌜ ReturnedOutput r (now (place .exit)) (now (count .exit)) (now (out .entry)) (now (out .exit))
+        (streamCall firstLayout (now (bundle .entry)) sample (length (now (out .entry)))) ⌝ }
+{
+    let streamed = resolution::stream(bundle, SampleNumber(sample as usize), out);
+    answer::written(streamed, place, count)
 }
 
 #[no_mangle]

@@ -10,8 +10,9 @@ ghost use Rattle.bundles.specs.Limits.{bundleMost};
 ghost use Rattle.bundles.specs.Recordings.{contentOf};
 ghost use Rattle.tables.specs.Tables.{recordingIn};
 ghost use Rattle.resolution_rules.specs.Resolving.{sampleOf, delivered, judged};
-ghost use Rattle.resolution_rules.specs.Calls.{written, output, resolve};
+ghost use Rattle.resolution_rules.specs.Calls.{resolve};
 ghost use Rattle.delivery.specs.Deliveries.{spanFor};
+ghost use Rattle.resolution.specs.Framing.{frontOf, framedUnit, framed};
 use delivery::Span;
 use delivery::Stepped;
 use judging::Judged;
@@ -22,26 +23,50 @@ use numbers::Written;
 use numbers::refusals;
 use units::Track;
 
-// A delivered unit after its length in 4 bytes, over a buffer that has room; the number of bytes written.
-fn put_unit(out: &mut [u8], at: usize, b: &[u8], t: &[u64], u: Span) -> usize
+// What stands in the 4 bytes before each unit: its length, or a start code.
+pub(crate) enum Framing {
+    Lengths,
+    StartCodes,
+}
+
+// The number in the 4 bytes before a unit of a size. A start code is 1 in 4 bytes.
+fn front(f: Framing, size: usize) -> usize
+    ensures { λ r. ⌜ r ≡ frontOf f size ⌝ }
+{
+    match f {
+        Framing::Lengths => size,
+        Framing::StartCodes => 1,
+    }
+}
+
+// A delivered unit after its 4 bytes, over a buffer that has room; the number of bytes written.
+fn put_unit(out: &mut [u8], at: usize, b: &[u8], t: &[u64], f: Framing, u: Span) -> usize
     requires { ⌜ (u .start .0 + u .size ≤ length (contentOf (recordingIn (now b) (now t)) (u .sample .0))) × (at + (4 + u .size) ≤ length (now out)) ⌝ }
-    ensures { λ r. ⌜ (r ≡ length (written (recordingIn (now (b .entry)) (now (t .entry))) (spanFor u)))
-        × (now (out .exit) ≡ put (now (out .entry)) at (written (recordingIn (now (b .entry)) (now (t .entry))) (spanFor u))) ⌝ }
+    ensures { λ r. ⌜ (r ≡ length (framedUnit f (recordingIn (now (b .entry)) (now (t .entry))) (spanFor u)))
+        × (now (out .exit) ≡ put (now (out .entry)) at (framedUnit f (recordingIn (now (b .entry)) (now (t .entry))) (spanFor u))) ⌝ }
 {
     let z = sample_tables::sample_bytes(b, t, u.sample);
     let size = u.size;
     let start = u.start.0;
     let end = start + size;
-    numbers::put_number(out, at, copies::LENGTH_BEFORE, size);
+    numbers::put_number(out, at, copies::LENGTH_BEFORE, front(f, size));
     numbers::put_bytes(out, at + copies::LENGTH_BEFORE, &z[start..end]);
     copies::LENGTH_BEFORE + size
 }
 
 // What sample n delivers, which is x and good, over the start of a buffer that has room.
-fn write_units(out: &mut [u8], b: &[u8], t: &[u64], n: SampleNumber, k: Track, x: &[u8])
+pub(crate) fn write_units(
+    out: &mut [u8],
+    b: &[u8],
+    t: &[u64],
+    f: Framing,
+    n: SampleNumber,
+    k: Track,
+    x: &[u8],
+)
     requires { ⌜ (sample k (now x) ≡ sampleOf (recordingIn (now b) (now t)) (n .0)) × (judged (recordingIn (now b) (now t)) (n .0) ≡ ok tt)
-        × (length (output (recordingIn (now b) (now t)) (delivered (recordingIn (now b) (now t)) (n .0))) ≤ length (now out)) ⌝ }
-    ensures { λ _. ⌜ now (out .exit) ≡ overwrite (now (out .entry)) (output (recordingIn (now (b .entry)) (now (t .entry))) (delivered (recordingIn (now (b .entry)) (now (t .entry))) (n .0))) ⌝ }
+        × (length (framed f (recordingIn (now b) (now t)) (delivered (recordingIn (now b) (now t)) (n .0))) ≤ length (now out)) ⌝ }
+    ensures { λ _. ⌜ now (out .exit) ≡ overwrite (now (out .entry)) (framed f (recordingIn (now (b .entry)) (now (t .entry))) (delivered (recordingIn (now (b .entry)) (now (t .entry))) (n .0))) ⌝ }
 {
     let mut at: usize = 0;
     let mut c = delivery::start();
@@ -59,7 +84,7 @@ fn write_units(out: &mut [u8], b: &[u8], t: &[u64], n: SampleNumber, k: Track, x
                 c = d;
             }
             Stepped::Unit(u, d) => {
-                at += put_unit(out, at, b, t, u.span);
+                at += put_unit(out, at, b, t, f, u.span);
                 c = d;
             }
         }
@@ -67,7 +92,7 @@ fn write_units(out: &mut [u8], b: &[u8], t: &[u64], n: SampleNumber, k: Track, x
 }
 
 // A refusal at 0.
-fn refused(number: u8) -> Written
+pub(crate) fn refused(number: u8) -> Written
     ensures { λ r. ⌜ answerOf r ≡ refused number 0 ⌝ }
 {
     Written::Refused(Refusal {
@@ -92,7 +117,7 @@ pub(crate) fn resolve_sample(b: &[u8], t: &[u64], n: SampleNumber, out: &mut [u8
             }
             let k = delivery::track_of(t, n);
             let x = sample_tables::sample_bytes(b, t, n);
-            write_units(out, b, t, n, k, x);
+            write_units(out, b, t, Framing::Lengths, n, k, x);
             Written::Count(size)
         }
     }

@@ -6,6 +6,7 @@
 --   Exactly    what a good sample delivers
 --   Once       every unit is delivered once, in its place
 --   Calls      what the calls answer
+--   Streams    what a sample is as a byte stream
 --   Amounts    own and copied bytes as sums over all units
 --   Sizes      how much a good sample delivers, at most
 --   Extracted  what the function on two samples gives
@@ -16,6 +17,7 @@ pub mod Good
 pub mod Exactly
 pub mod Once
 pub mod Calls
+pub mod Streams
 pub mod Amounts
 pub mod Sizes
 pub mod Extracted

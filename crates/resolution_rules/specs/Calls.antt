@@ -1,8 +1,9 @@
 -- What the calls on a bundle answer (01, 'Resolving', 'Numbers for no'): 1 to 13 first, then 30, then 14 to 28, then 29; for one delivered
--- unit 30 again, for its number, after 28; for one extractor 30 again, for its place, after 22. A reader says what a bundle b means; each
--- order of refusals stands here once, for all calls.
+-- unit 30 again, for its number, after 28; for one extractor 30 again, for its place, after 22; for a byte stream 32 between 28 and 29. A
+-- reader says what a bundle b means; each order of refusals stands here once, for all calls.
 --
 --   spanBytes r u                  the bytes of a delivered unit
+--   bytesOf r us                   the bytes of each of them
 --   written r u, output r us       a delivered unit after a 4-byte length; delivered units so
 --   numberFault count n            30
 --   onNumber count n a             30 for the number n of count, else a
@@ -11,8 +12,10 @@
 --   onUnit r n k a                 the same, then 30 for the number k of a delivered unit, else a
 --   onMeaning, onBundle            1 to 13 of a bundle by a reader, else what is said of its recording
 --   resolve r n                    sample n resolved
+--   stream r n                     what sample n delivers as a byte stream: 32 after 28 (02, [2])
 --   resolveUnit r n k              the kth unit that sample n delivers
 --   resolveCall reader b n room    the call on a bundle, with room for the output
+--   streamCall reader b n room     the same, as a byte stream
 --   unitCall reader b n k          the call for one unit
 --   placeOn starts u               where a unit stands, by where samples start
 --   placedBy starts a              the same for an answer
@@ -25,7 +28,7 @@
 --   spanIn reader b u              a delivered unit as a part of the bundle
 --   unitPart reader b a            that part for the answer of unitCall; empty if refused
 use Prim.Native.Nat.{ℕ, _+_}
-use mathlib.Core.List.{List, [], _∷_, _++_}
+use mathlib.Core.List.{List, [], _∷_, _++_, map}
 use mathlib.Core.Bool.{not}
 use lib.ListN.{length}
 use Rattle.words.specs.Tests.{outOf}
@@ -34,6 +37,7 @@ use Rattle.words.specs.Refusals.{_if_, Answer, refused, ok, _andThen_, _atPlace
 use Rattle.words.specs.Lists.{has, each, nth}
 use Rattle.words.specs.Bytes.{bytes, part}
 use Rattle.words.specs.Buffers.{within}
+use Rattle.byte_streams.specs.Writing.{toStream}
 use Rattle.units.specs.Aggregators.{extractors}
 use Rattle.samples.specs.Check.{check}
 use Rattle.bundles.specs.Parts.{BundlePart}
@@ -45,6 +49,9 @@ use Rattle.resolution_rules.specs.Resolving.{Span, own, named, nameFault
 module _ (r : Recording) where
   abbrev pub spanBytes : Span → List ℕ
   spanBytes u = part (contentOf r (u .sample)) (u .start) (u .size)
+
+  abbrev pub bytesOf : List Span → List (List ℕ)
+  bytesOf us = map spanBytes us
 
   unfoldable pub written : Span → List ℕ
   written u = bytes lengthBefore (u .size) ++ spanBytes u
@@ -86,6 +93,9 @@ module _ (r : Recording) (n : ℕ) where
   unfoldable pub resolve : Answer (List ℕ)
   resolve = onGood r n (ok (output r (delivered r n)))
 
+  unfoldable pub stream : Answer (List ℕ)
+  stream = onGood r n (toStream (bytesOf r (delivered r n)))
+
   unfoldable pub resolveUnit : ℕ → Answer Span
   resolveUnit k = onUnit r n k (ok (nth (delivered r n) k noSpan))
 
@@ -119,6 +129,9 @@ partsOf r n starts = onGood r n (ok (partsBy starts (delivered r n)))
 module _ (reader : Reader) (b : List ℕ) where
   unfoldable pub resolveCall : ℕ → ℕ → Answer (List ℕ)
   resolveCall n room = within room (onBundle reader b (λ r. resolve r n))
+
+  unfoldable pub streamCall : ℕ → ℕ → Answer (List ℕ)
+  streamCall n room = within room (onBundle reader b (λ r. stream r n))
 
   unfoldable pub unitCall : ℕ → ℕ → Answer Span
   unitCall n k = onBundle reader b (λ r. resolveUnit r n k)

@@ -29,7 +29,7 @@ fn answer(buffer: &[u8; 65536], n: usize) {
         2 => writerec::answer(fields),
         3 => check::answer(fields),
         4 => bundle::answer(fields),
-        5 => resolve::answer(fields),
+        5 => resolve::resolve(fields),
         6 => unit::answer(fields),
         7 => names::answer(fields),
         8 => replace::answer(fields),
@@ -41,6 +41,7 @@ fn answer(buffer: &[u8; 65536], n: usize) {
         14 => entries::sample(fields),
         15 => parts::answer(fields),
         16 => named::answer(fields),
+        17 => resolve::stream(fields),
         _ => print::line(b"unknown request"),
     }
 }

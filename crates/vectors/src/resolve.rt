@@ -1,4 +1,4 @@
-// The request `resolve`: the bytes of a bundle, a sample number, and the room for the output.
+// The requests `resolve` and `stream`: the bytes of a bundle, a sample number, and the room for the output.
 use crate::print;
 use crate::request;
 use numbers::SampleNumber;
@@ -12,7 +12,8 @@ fn print_resolved(resolved: Written, out: &[u8; 100000]) {
     }
 }
 
-pub(crate) fn answer(fields: &[u8]) {
+// Each unit after its length, or as a byte stream.
+fn answer(fields: &[u8], as_stream: bool) {
     let b = request::bytes(fields);
     let rest = request::skip_bytes(fields);
     let n = request::number(rest, 0);
@@ -22,6 +23,19 @@ pub(crate) fn answer(fields: &[u8]) {
         print::line(b"room too large");
         return;
     }
+    if as_stream {
+        let streamed = resolution::stream(b, SampleNumber(n), &mut out[0..room]);
+        print_resolved(streamed, &out);
+        return;
+    }
     let resolved = resolution::resolve(b, SampleNumber(n), &mut out[0..room]);
     print_resolved(resolved, &out);
+}
+
+pub(crate) fn resolve(fields: &[u8]) {
+    answer(fields, false);
+}
+
+pub(crate) fn stream(fields: &[u8]) {
+    answer(fields, true);
 }

@@ -2,26 +2,24 @@
 --
 --   entries-split, entries-snoc, skip-snoc     a table's entries, and its last one
 --   entries-length, entries-at, entries-mem    how many, which stands where
---   first-append, first-snoc                   the first refusal of joined lists
+--   and-assoc, first-append, first-snoc        the first refusal of verdicts one after the other, and of joined lists
 --   Walked, walked-start, -next, -refused, -end    a walk over entries that has come to its entry i, at the place p
 --   walk-keeps                                 what holds of a place and of the place after each entry without a refusal
 --   sum-append, map-append, map-at             sums and maps
 --   big-one                                    a number of one byte
 use Prim.Native.Nat.{ℕ, zero, suc, _+_, _-_, _≤_, _<_}
-use mathlib.Core.Path.{_≡_, refl, ap, ap₂, sym, _∙_, subst}
+use mathlib.Core.Path.{_≡_, refl, ap, sym, _∙_, subst}
 use mathlib.Core.List.{List, [], _∷_, _++_, map, List·Memᴰ, List·Memᴰ·head, List·Memᴰ·tail}
-use mathlib.Core.Bool.{Bool, true, false}
 use native.Mathlib.Omega.{arith}
 use native.Mathlib.Numerals.{add-one}
 use native.Mathlib.Nat.{sub-zero, add-zero}
 use lib.ListN.{length, getD}
-use Rattle.words.specs.Tests.{pick}
-use Rattle.words.specs.Refusals.{_if_, _orElse_, firstOf, Answer, refused, ok, Verdict, _andThen_, _atPlace_, first}
+use Rattle.words.specs.Refusals.{refused, ok, Verdict, _andThen_, _atPlace_, first}
 use Rattle.words.specs.Lists.{sum}
 use Rattle.words.specs.Walks.{entries, skip}
 use Rattle.words.specs.Bytes.{byteAt, big}
 use Rattle.words.proofs.Tests.{by-number}
-use Rattle.words.proofs.Refusals.{at-refused, at-none, and-ok, by-verdict, orElse-none, at-ok}
+use Rattle.words.proofs.Refusals.{at-refused, and-ok, at-ok}
 
 module _ (next : ℕ → ℕ) where
   pub entries-split : (i n p : ℕ) → i ≤ n → entries next n p ≡ entries next i p ++ entries next (n - i) (skip next i p)
@@ -63,7 +61,7 @@ module _ (next : ℕ → ℕ) where
   entries-mem (suc n) p zero h = List·Memᴰ·head refl
   entries-mem (suc n) p (suc i) h = List·Memᴰ·tail (entries-mem n (next p) i (omega arith))
 
-and-assoc : (u v w : Verdict) → ((u andThen v) andThen w) ≡ (u andThen (v andThen w))
+pub and-assoc : (u v w : Verdict) → ((u andThen v) andThen w) ≡ (u andThen (v andThen w))
 and-assoc (refused n p) v w = refl
 and-assoc (ok u) v w = refl
 

@@ -2,6 +2,7 @@
 --
 --   tests                      `search tests` answers a return whose definition goes by tests, from the branches on the way
 --   by-bool, by-number         cases of a computed value, with the equation
+--   not-true, not-false        a test that does not hold, and one that does
 --   and-both, and-holds        two tests of which both hold, both ways
 --   all-first                  tests that all hold: the first, and the others
 --   bool-same                  two tests that hold for the same
@@ -9,7 +10,7 @@
 --   within-count, count-within no number that is out of a count, both ways
 use Prim.Native.Nat.{ℕ, zero, suc, _≤_, _<_}
 use mathlib.Core.Path.{_≡_, refl, sym}
-use mathlib.Core.Bool.{Bool, true, false, _&&_, _||_}
+use mathlib.Core.Bool.{Bool, true, false, not, _&&_, _||_}
 use mathlib.Core.List.{List, [], _∷_}
 use native.Mathlib.Omega.{arith}
 use native.Mathlib.Nat.{pos-of-ne-zero}
@@ -29,6 +30,14 @@ module _ {G : Type 0} where
 
   pub true-false : (b : Bool) → b ≡ true → b ≡ false → G
   true-false b t f = let z : _≡_ {A = ℕ} 0 1 = cc in absurd (omega arith)
+
+pub not-true : (b : Bool) → not b ≡ true → b ≡ false
+not-true true e = true-false false e refl
+not-true false e = refl
+
+pub not-false : (b : Bool) → not b ≡ false → b ≡ true
+not-false true e = refl
+not-false false e = true-false true refl e
 
 pub and-both : (a b : Bool) → (a && b) ≡ true → (a ≡ true) × (b ≡ true)
 and-both true b e = (refl, e)

@@ -1,5 +1,5 @@
--- The refusal numbers of document 01, 'Numbers for no', by name, and the sets that the calls refuse with. The code's table is
--- crates/numbers/src/refusals.rt.
+-- The refusal numbers of document 01, 'Numbers for no', and of document 02, by name, and the sets that the calls refuse with. The code's
+-- table is crates/numbers/src/refusals.rt.
 --
 --   recordRefusals       a configuration record: 8 to 13
 --   bundleRefusals       a bundle, and the records in it: 1 to 13
@@ -111,6 +111,10 @@ noSuchNumber = 30
 abbrev pub fieldsFitNoRecord : ℕ
 fieldsFitNoRecord = 31
 
+-- a byte stream (02, [2])
+abbrev pub unitNotStreamable : ℕ
+unitNotStreamable = 32
+
 -- The sets, each in number order.
 abbrev pub recordRefusals : List ℕ
 recordRefusals = recordCut ∷ badVersion ∷ wrongFixedBits ∷ badLengthSize ∷ badSet ∷ bytesAfterRecord ∷ []
@@ -139,4 +143,5 @@ abbrev pub sampleRefusals : List ℕ
 sampleRefusals = formRefusals ++ extractorRefusals
 
 abbrev pub refusalNumbers : List ℕ
-refusalNumbers = bundleRefusals ++ sampleRefusals ++ (outputTooLong ∷ noSuchNumber ∷ fieldsFitNoRecord ∷ [])
+refusalNumbers =
+    bundleRefusals ++ sampleRefusals ++ (outputTooLong ∷ noSuchNumber ∷ fieldsFitNoRecord ∷ unitNotStreamable ∷ [])

@@ -9,8 +9,8 @@ use puddockle::*;
 
 use crate::timed;
 
-/// Both tracks have this length size.
-const LENGTH_SIZE: usize = 4;
+/// All tracks have this length size.
+pub const LENGTH_SIZE: usize = 4;
 
 pub fn run(rounds: usize) {
     println!("contents, best of {rounds} rounds, one thread; library: libpuddockle.a as it was built");
@@ -94,7 +94,7 @@ fn delivering(units: usize) -> Vec<u8> {
 
 /// The sections before the sample bytes, and their count: tracks by kind, reference entries, samples by track and
 /// length. Times rise from 0 in each track.
-fn head(kinds: &[u8], references: &[u8], samples: &[(u8, usize)]) -> Vec<u8> {
+pub fn head(kinds: &[u8], references: &[u8], samples: &[(u8, usize)]) -> Vec<u8> {
     let size = LENGTH_SIZE as u8 - 1;
     let mut bundle = vec![kinds.len() as u8];
     for &kind in kinds {

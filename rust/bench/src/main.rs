@@ -1,4 +1,5 @@
-//! Audits one bundle with the library and the peer in turn: `bench [ROUNDS]`. Other calls: `bench contents [ROUNDS]`.
+//! Audits one bundle with the library and the peer in turn: `bench [ROUNDS]`. Other calls: `bench contents [ROUNDS]`,
+//! `bench streams [ROUNDS]`.
 //!
 //! 16 MiB with 4,096 samples, then a quarter and a sixteenth of both, in four and sixteen times the rounds. The best
 //! of the rounds counts. All answers are compared. The slice for the lines is written to before each call.
@@ -8,6 +9,7 @@
 
 mod bundle;
 mod contents;
+mod streams;
 
 use std::time::{Duration, Instant};
 
@@ -22,12 +24,17 @@ type Times = [Duration; 3];
 
 fn main() {
     let mut words = std::env::args().skip(1).peekable();
-    let others = words.next_if(|word| word == "contents").is_some();
+    let others = words.next_if(|word| word == "contents" || word == "streams");
     let rounds = words.next().map_or(ROUNDS, |word| word.parse().expect("a number of rounds"));
-    if others {
-        return contents::run(rounds);
+    match others.as_deref() {
+        Some("contents") => contents::run(rounds),
+        Some(_) => streams::run(rounds),
+        None => audits(rounds),
     }
-    println!("audit, best of {rounds} rounds at 16 MiB, in turn, one thread");
+}
+
+/// Prints how the peer was compiled.
+fn settings() {
     println!(
         "peer: {}, opt-level {}, debug {}, {}; library: libpuddockle.a as it was built",
         env!("BENCH_COMPILER"),
@@ -38,6 +45,11 @@ fn main() {
     if cfg!(debug_assertions) {
         println!("WARNING: not a release build, the peer's times mean nothing");
     }
+}
+
+fn audits(rounds: usize) {
+    println!("audit, best of {rounds} rounds at 16 MiB, in turn, one thread");
+    settings();
     println!(
         "   bytes  samples  extractors  library ms     peer ms  library/peer  starts kept ms  library/starts kept"
     );

@@ -6,9 +6,10 @@ use std::ffi::OsStr;
 use puddockle::{AuditLine, Outcome, SampleNumber, Tally};
 
 use crate::arguments::{wrong, Arguments, Call};
-use crate::audited::{Audited, Dependents, Detail, LISTING_SECONDS};
+use crate::audited::{Audited, Dependents, LISTING_SECONDS};
 use crate::input;
 use crate::json::{document, Value};
+use crate::line::{sample_line, Detail};
 use crate::output::{say, Output, Status, Stop};
 use crate::words;
 
@@ -86,25 +87,13 @@ fn print(file: &OsStr, all: bool, out: &mut Output) -> Result<Status, Stop> {
         }
     };
     for (sample, line) in audited.numbered() {
-        match &line.outcome {
-            Outcome::Passed => writeln!(out, "{} passed {}", sample.0, line.units)?,
-            Outcome::Empty => writeln!(out, "{} empty", sample.0)?,
-            Outcome::Refused(no) => {
-                let detail = Detail::of(&bundle, sample, line).map_or(String::new(), in_words);
-                writeln!(out, "{} {}{detail}", sample.0, words::refusal(no))?;
-            }
-        }
+        writeln!(out, "{}", sample_line(&bundle, sample, line))?;
     }
     let Tally { passed, empty, refused } = audited.tally;
     writeln!(out, "passed {passed} empty {empty} refused {refused}")?;
     out.flush()?;
     print_dependents(Dependents::of(&bundle, &audited, all), out)?;
     Ok(audited.status())
-}
-
-fn in_words(detail: Detail) -> String {
-    let named = detail.named.map_or(String::new(), |SampleNumber(named)| format!(", names sample {named}"));
-    format!(" (track {}, time {}{named})", detail.track.0, detail.time)
 }
 
 fn print_dependents(mut dependents: Dependents, out: &mut Output) -> Result<(), Stop> {

@@ -2,9 +2,7 @@
 
 use std::time::{Duration, Instant};
 
-use puddockle::{
-    audit, counts, named, names, sample, AuditLine, Outcome, Refusal, SampleNumber, Tally, TrackNumber, LINE,
-};
+use puddockle::{audit, counts, names, AuditLine, Outcome, Refusal, SampleNumber, Tally, LINE};
 
 use crate::output::Status;
 
@@ -37,24 +35,6 @@ impl Audited {
             0 => Status::Held,
             _ => Status::Refused,
         }
-    }
-}
-
-/// Where a sample belongs and, for 25 to 28, the sample that the extractor names.
-pub struct Detail {
-    pub track: TrackNumber,
-    pub time: u64,
-    pub named: Option<SampleNumber>,
-}
-
-impl Detail {
-    pub fn of(bundle: &[u8], number: SampleNumber, line: &AuditLine) -> Option<Detail> {
-        let sample = sample(bundle, number).ok()?;
-        let named = match line.outcome {
-            Outcome::Refused(Refusal { number: 25..=28, place }) => named(bundle, number, place).ok(),
-            _ => None,
-        };
-        Some(Detail { track: sample.track, time: sample.time, named })
     }
 }
 

@@ -10,10 +10,10 @@ pub const CALL: Call = Call { name: "explain", help: HELP, operands: 1..=1, flag
 const HELP: &str = "\
 usage: puddockle explain NUMBER
 
-A refusal, 1 to 31, in words: the rule, what it means at the bench, what to do.
+A refusal, 1 to 32, in words: the rule, what it means at the bench, what to do.
 The causes are likely ones, not proved. 1 to 13 stop a whole recording or
 record, 14 to 22 are faults in a sample itself, 23 to 28 in what it borrows,
-29 to 31 in a call.
+29 to 31 in a call, and with 32 a sample cannot be written as a byte stream.
 
 Status: 0 printed; 2 wrong use.
 ";
@@ -34,7 +34,7 @@ fn run(arguments: &Arguments, out: &mut Output) -> Result<Status, Stop> {
 /// For each refusal, from 1, what it means and what to do: the table 'At the bench' of docs/FORMAT.md. What it says 'as'
 /// another number is said in full.
 #[rustfmt::skip]
-const AT_THE_BENCH: [(&str, &str); 31] = [
+const AT_THE_BENCH: [(&str, &str); 32] = [
     ("The file is over 16 MiB", "Export the recording in parts"),
     ("The file ends too early", "Copy it again from the scope and compare the sizes: the copy may have been broken off"),
     ("It says it has no track, or too many tracks, references or samples", "If the file is a bundle at all, export fewer tracks or a shorter part"),
@@ -66,4 +66,5 @@ const AT_THE_BENCH: [(&str, &str); 31] = [
     ("The caller's buffer is too small", "Nothing is wrong with the recording: lend a larger buffer"),
     ("There is no sample, unit, track or reference of that number, or no extractor at that place", "Ask for a number from 1 to the count"),
     ("The fields given make no record", "Nothing was written: look at the list under 'Writing' in docs/FORMAT.md"),
+    ("A unit has zeros where a byte stream cannot have them: a decoder could not find its end", "The encoder may not write 00 00 03, or zeros were added after the unit: export again. The sample still resolves, with lengths in place of start codes"),
 ];

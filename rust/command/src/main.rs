@@ -1,5 +1,6 @@
 //! The command `puddockle`: what the verified library says of recordings in files, in words and as JSON. Every
-//! judgement is the library's; here arguments and files are read and answers printed.
+//! judgement is the library's, but whether a parameter set can stand in a byte stream (parameter_sets.rs); here
+//! arguments and files are read and answers printed.
 
 #![forbid(unsafe_code)]
 
@@ -9,12 +10,15 @@ mod audited;
 mod explain;
 mod input;
 mod json;
+mod line;
 mod names;
 mod output;
+mod parameter_sets;
 mod places;
 mod record;
 mod record_words;
 mod refused;
+mod stream;
 mod tracks;
 mod units;
 mod whole_file;
@@ -26,19 +30,21 @@ use std::process::ExitCode;
 use arguments::{Arguments, Call};
 use output::{say, Output, Status, Stop};
 
-const CALLS: [Call; 6] = [audit::CALL, names::CALL, units::CALL, tracks::CALL, record::CALL, explain::CALL];
+const CALLS: [Call; 7] =
+    [audit::CALL, names::CALL, units::CALL, stream::CALL, tracks::CALL, record::CALL, explain::CALL];
 
 const HELP: &str = "\
 usage: puddockle audit FILE..             would each sample resolve?
        puddockle names FILE SAMPLE        the extractors that name a sample
        puddockle units FILE SAMPLE        the NAL units that a sample delivers
+       puddockle stream FILE              a track as a byte stream, for decoders
        puddockle tracks FILE              what is in a recording
        puddockle record FILE --kind KIND  a bare avcC or svcC record in words
        puddockle explain NUMBER           a refusal in words
 
-A FILE of audit, names, units and tracks is the bundle of a recording; - is
-standard input. puddockle CALL --help says more of a call, puddockle --version
-which version this is.
+A FILE of audit, names, units, stream and tracks is the bundle of a recording;
+- is standard input. puddockle CALL --help says more of a call, puddockle
+--version which version this is.
 
 Status: 0 nothing is refused; 1 a bundle, record or sample is refused; 2 wrong
 use, or a file that cannot be read or written.

@@ -6,7 +6,7 @@ use crate::arguments::{number, Arguments, Call};
 use crate::input;
 use crate::json::{document, Value};
 use crate::output::{say, Output, Status, Stop};
-use crate::refused::Refused;
+use crate::refused::{Asked, Refused};
 
 pub const CALL: Call = Call { name: "names", help: HELP, operands: 2..=2, flags: &["--json"], values: &[], run };
 
@@ -61,6 +61,6 @@ fn run(arguments: &Arguments, out: &mut Output) -> Result<Status, Stop> {
             }
             Ok(Status::Held)
         }
-        Err(no) => Ok(Refused { file, bundle: &bundle, sample: Some(sample), unit: None }.say(&no)),
+        Err(no) => Ok(Refused { file, bundle: &bundle, asked: Asked::Sample(sample) }.say(&no)),
     }
 }

@@ -2,43 +2,50 @@
 
 use std::ffi::OsStr;
 
-use puddockle::{counts, Refusal, SampleNumber};
+use puddockle::{counts, Counts, Refusal, SampleNumber, TrackNumber};
 
 use crate::arguments::NUMBER_MOST;
 use crate::input::title;
 use crate::output::{say, Status};
-use crate::words;
+use crate::words::counted;
 
 /// What was asked for.
+#[derive(Clone, Copy)]
+pub enum Asked {
+    Bundle,
+    Track(TrackNumber),
+    Sample(SampleNumber),
+    Unit(SampleNumber, u64),
+}
+
+/// What was asked for, of which file.
 pub struct Refused<'a> {
     pub file: &'a OsStr,
     pub bundle: &'a [u8],
-    pub sample: Option<SampleNumber>,
-    pub unit: Option<u64>,
+    pub asked: Asked,
 }
 
 impl Refused<'_> {
     /// Says on standard error why it is refused.
     pub fn say(&self, no: &Refusal) -> Status {
-        let (what, why) = match (no.number, self.sample) {
-            (1..=13, _) | (_, None) => ("bundle".into(), no.meaning().into()),
-            (30, Some(sample)) => self.missing(sample),
-            (_, Some(SampleNumber(number))) => (format!("sample {number}"), no.meaning().into()),
+        let counts = counts(self.bundle).unwrap_or(Counts { tracks: 0, references: 0, samples: 0 });
+        let has = |count, what| format!("the bundle has {}", counted(count, what));
+        let (what, why) = match (no.number, self.asked) {
+            (1..=13, _) | (_, Asked::Bundle) => ("bundle".into(), no.meaning().into()),
+            (30, Asked::Unit(sample, unit)) if (1..=counts.samples).contains(&sample.0) => {
+                (format!("unit {} of sample {}", given(unit), sample.0), "no such unit is delivered".into())
+            }
+            (30, Asked::Sample(sample) | Asked::Unit(sample, _)) => {
+                (format!("sample {}", given(sample.0)), has(counts.samples, "sample"))
+            }
+            (30, Asked::Track(track)) => (format!("track {}", given(track.0)), has(counts.tracks, "track")),
+            (_, Asked::Sample(sample) | Asked::Unit(sample, _)) => {
+                (format!("sample {}", sample.0), no.meaning().into())
+            }
+            (_, Asked::Track(track)) => (format!("track {}", track.0), no.meaning().into()),
         };
         say(format!("{}: {what} refused {} at {} - {why}", title(self.file), no.number, no.place));
         Status::Refused
-    }
-
-    /// For 30, what is not there and why: the sample or, where that is there, the unit.
-    fn missing(&self, sample: SampleNumber) -> (String, String) {
-        let samples = counts(self.bundle).map_or(0, |counts| counts.samples);
-        let named = format!("sample {}", given(sample.0));
-        match self.unit {
-            Some(unit) if (1..=samples).contains(&sample.0) => {
-                (format!("unit {} of {named}", given(unit)), "no such unit is delivered".into())
-            }
-            _ => (named, format!("the bundle has {}", words::counted(samples, "sample"))),
-        }
     }
 }
 

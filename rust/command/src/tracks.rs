@@ -10,7 +10,7 @@ use crate::input;
 use crate::json::{document, Value};
 use crate::output::{Output, Status, Stop};
 use crate::record_words;
-use crate::refused::Refused;
+use crate::refused::{Asked, Refused};
 use crate::words::counted;
 
 pub const CALL: Call = Call { name: "tracks", help: HELP, operands: 1..=1, flags: &["--json"], values: &[], run };
@@ -121,6 +121,6 @@ fn run(arguments: &Arguments, out: &mut Output) -> Result<Status, Stop> {
     }
     match contents {
         Ok(contents) => contents.print(out).map(|()| Status::Held),
-        Err(no) => Ok(Refused { file, bundle: &bundle, sample: None, unit: None }.say(&no)),
+        Err(no) => Ok(Refused { file, bundle: &bundle, asked: Asked::Bundle }.say(&no)),
     }
 }

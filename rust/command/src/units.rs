@@ -9,7 +9,7 @@ use crate::input;
 use crate::json::{document, Value};
 use crate::output::{Output, Status, Stop};
 use crate::places::Places;
-use crate::refused::Refused;
+use crate::refused::{Asked, Refused};
 use crate::whole_file::WholeFile;
 use crate::words::{unit_name, unit_type};
 
@@ -53,14 +53,7 @@ fn run(arguments: &Arguments, out: &mut Output) -> Result<Status, Stop> {
     if json && to.is_some_and(|to| to == "-") {
         return Err(wrong(&CALL, "--json and -o - both go to standard output".into()));
     }
-    if arguments.flag("--force") && to.is_none() {
-        return Err(wrong(&CALL, "--force goes with -o".into()));
-    }
-    // The place of OUT is looked at before the work is done.
-    let to_file = match to {
-        Some(to) if to != "-" => Some(WholeFile::new(to, file, arguments.flag("--force"))?),
-        _ => None,
-    };
+    let to_file = WholeFile::asked(&CALL, arguments, file)?;
     let bundle = input::bundle(file)?;
     let found = match only {
         Some(only) => one(&bundle, sample, only),
@@ -72,7 +65,10 @@ fn run(arguments: &Arguments, out: &mut Output) -> Result<Status, Stop> {
     }
     let numbers = match &found {
         Ok(numbers) => numbers,
-        Err(no) if !json => return Ok(Refused { file, bundle: &bundle, sample: Some(sample), unit: only }.say(no)),
+        Err(no) if !json => {
+            let asked = only.map_or(Asked::Sample(sample), |unit| Asked::Unit(sample, unit));
+            return Ok(Refused { file, bundle: &bundle, asked }.say(no));
+        }
         Err(_) => &vec![],
     };
     match (json, to) {

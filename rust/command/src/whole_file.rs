@@ -8,6 +8,7 @@ use std::os::unix::fs::{MetadataExt, OpenOptionsExt};
 use std::path::{Path, PathBuf};
 use std::process;
 
+use crate::arguments::{wrong, Arguments, Call};
 use crate::output::Stop;
 use crate::words::shown;
 
@@ -20,6 +21,16 @@ pub struct WholeFile {
 }
 
 impl WholeFile {
+    /// The file that `-o` names; none for standard output. It is looked at before the work is done.
+    pub fn asked(call: &Call, arguments: &Arguments, from: &OsStr) -> Result<Option<WholeFile>, Stop> {
+        let force = arguments.flag("--force");
+        match arguments.value("-o") {
+            None if force => Err(wrong(call, "--force goes with -o".into())),
+            Some(name) if name != "-" => WholeFile::new(name, from, force).map(Some),
+            _ => Ok(None),
+        }
+    }
+
     /// A file to write. Refused where something is there that may not be replaced; `from` is the file that is read.
     pub fn new(name: &OsStr, from: &OsStr, force: bool) -> Result<WholeFile, Stop> {
         let path = Path::new(name);

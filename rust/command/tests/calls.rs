@@ -287,7 +287,7 @@ fn help_and_version() {
     assert_eq!((help.status, help.said.as_str()), (Some(0), ""));
     // The width of a terminal.
     assert!(help.text().lines().all(|line| line.len() <= 80));
-    for call in ["audit", "names", "units", "tracks", "record", "explain"] {
+    for call in ["audit", "names", "units", "stream", "tracks", "record", "explain"] {
         assert!(help.text().contains(&format!("puddockle {call} ")), "{call}");
         for words in [[call, "--help"], [call, "-h"]] {
             let ran = run(words);
@@ -304,7 +304,7 @@ fn man_page() {
     let page = std::fs::read_to_string(root().join("docs/puddockle.1")).unwrap().replace('\\', "");
     assert!(page.contains(&format!("Puddockle {}\"", puddockle::VERSION)));
     let mut options = 0;
-    for call in ["audit", "names", "units", "tracks", "record", "explain"] {
+    for call in ["audit", "names", "units", "stream", "tracks", "record", "explain"] {
         assert!(page.contains(&format!(".B puddockle {call}\n")) && page.contains(&format!(".B {call}\n")), "{call}");
         let help = run([call, "--help"]);
         for line in help.text().lines().filter(|line| line.trim_start().starts_with('-')) {
@@ -316,7 +316,7 @@ fn man_page() {
             options += 1;
         }
     }
-    assert_eq!(options, 11);
+    assert_eq!(options, 16);
 }
 
 /// Wrong use: a message, nothing printed, status 2.
@@ -348,12 +348,19 @@ fn wrong_use() {
         &["units", bench, "1", "--force"],
         &["units", bench, "1", "-o"],
         &["units", bench, "1", "-o", "-", "--json"],
+        &["stream"],
+        &["stream", bench, "1"],
+        &["stream", bench, "--track", "x"],
+        &["stream", bench, "--sample="],
+        &["stream", bench, "--track", "1", "--sample", "1"],
+        &["stream", bench, "--track", "1", "--force"],
+        &["stream", bench, "--track", "1", "--json"],
         &["tracks"],
         &["tracks", bench, bench],
         &["tracks", "--json=yes", bench],
         &["explain"],
         &["explain", "0"],
-        &["explain", "32"],
+        &["explain", "33"],
         &["explain", "18446744073709551616"],
         &["explain", "4294967297"],
         &["explain", "--json", "1"],

@@ -22,6 +22,7 @@ fn what_cannot_be_read() {
     for call in [
         &["names", "FILE", "1"][..],
         &["units", "FILE", "1"],
+        &["stream", "FILE"],
         &["tracks", "FILE"],
         &["record", "FILE", "--kind", "avc"],
     ] {
@@ -108,6 +109,7 @@ fn output_that_cannot_be_written() {
         "audit examples/damaged.bin",
         "audit --json examples/damaged.bin",
         "units examples/bench.bin 2 -o -",
+        "stream examples/bench.bin --track 2",
         "tracks examples/bench.bin",
         "--help",
         "explain 1",

@@ -47,6 +47,45 @@ fn many_units() {
     fails(shell("ulimit -v 60000; $P units b.bin 1 -o -", &folder.0), "no memory for 4194304 units");
 }
 
+/// 4,096 samples as a byte stream, whole and in short time.
+#[test]
+fn sixteen_mebibytes_as_a_stream() {
+    let folder = Folder::new();
+    let mut bundle = good(16_777_216);
+    folder.file("large.bin", &bundle);
+    let start = Instant::now();
+    let ran = shell("$P stream large.bin -o out", &folder.0);
+    assert!(start.elapsed() < Duration::from_secs(20), "{:?}", start.elapsed());
+    assert_eq!((ran.status, ran.said.as_str()), (Some(0), ""));
+    // The bundle has 4-byte lengths too: its samples with a start code in place of each.
+    let mut expected = bundle.split_off(1 + 3 + 7 + 1 + 2 + 4096 * 13 + 4);
+    let mut rest = &mut expected[..];
+    while let Some((length, after)) = rest.split_first_chunk_mut::<4>() {
+        let unit = u32::from_be_bytes(*length) as usize;
+        *length = [0, 0, 0, 1];
+        rest = &mut after[unit..];
+    }
+    assert!(std::fs::read(folder.0.join("out")).unwrap() == expected);
+}
+
+/// One sample that delivers more than the bundle has bytes; and in too little memory a message.
+#[test]
+fn long_stream() {
+    let unit = vec![0x65; 1 << 20];
+    let picture = [&(unit.len() as u32).to_be_bytes()[..], &unit].concat();
+    let extractor = [0, 0, 0, 14, 0x7F, 0x80, 0, 3, 1, 0, 0, 0, 0, 0, 0, 0, 0, 0];
+    let svc: &[u8] = &[1, 83, 0, 30, 0xFF, 0, 0];
+    let samples = [(1, 0, picture), (2, 0, extractor.repeat(64))];
+    let folder = Folder::new();
+    folder.file("b.bin", &bundle(&[(0, AVC_L4), (1, svc)], &[(2, 1)], &samples));
+    let ran = shell("$P stream b.bin --sample 2", &folder.0);
+    assert_eq!((ran.status, ran.said.as_str()), (Some(0), ""));
+    assert!(ran.out == [&[0, 0, 0, 1], &unit[..]].concat().repeat(64));
+    let ran = shell("ulimit -v 150000; $P stream b.bin --sample 2 -o out", &folder.0);
+    fails(ran, "no memory for the stream of sample 2, 268435456 bytes");
+    assert_eq!(folder.names(), ["b.bin"]);
+}
+
 /// 4,096 refused samples, each slow to go over: what hangs on them is listed up to a time, and the cut is told.
 #[test]
 fn many_refused() {

@@ -18,6 +18,7 @@ pub enum Call<'a> {
     CheckSample { kind: u32, length_size: u32, sample: &'a [u8] },
     CheckBundle { bundle: &'a [u8] },
     Resolve { bundle: &'a [u8], sample: u64, room: usize },
+    Stream { bundle: &'a [u8], sample: u64, room: usize },
     Unit { bundle: &'a [u8], sample: u64, unit: u64 },
     Names { bundle: &'a [u8], sample: u64, room: usize },
     Audit { bundle: &'a [u8], room: usize },
@@ -68,6 +69,7 @@ impl Call<'_> {
             Call::CheckSample { kind, length_size, sample } => check_sample(kind, length_size, sample),
             Call::CheckBundle { bundle } => check_bundle(bundle),
             Call::Resolve { bundle, sample, room } => resolve(bundle, sample, room),
+            Call::Stream { bundle, sample, room } => stream(bundle, sample, room),
             Call::Unit { bundle, sample, unit } => one_unit(bundle, sample, unit),
             Call::Names { bundle, sample, room } => names(bundle, sample, room),
             Call::Audit { bundle, room } => audit(bundle, room),
@@ -178,6 +180,27 @@ fn resolve(bundle: &[u8], sample: u64, room: usize) -> Outcome {
     // SAFETY: as said above.
     given.number = unsafe {
         puddockle_resolve(
+            pointer(bundle),
+            bundle.len(),
+            sample,
+            pointer_mut(out),
+            out.len(),
+            &mut given.place,
+            &mut given.count,
+        )
+    };
+    outcome(answer, given, &expected, &written)
+}
+
+fn stream(bundle: &[u8], sample: u64, room: usize) -> Outcome {
+    let mut expected = buffer::bytes(room);
+    let mut written = expected.clone();
+    let answer = calls::stream_sample(bundle, sample, expected.lent());
+    let mut given = Answer { place: UNSET, count: UNSET, ..Answer::default() };
+    let out = written.lent();
+    // SAFETY: as said above.
+    given.number = unsafe {
+        puddockle_stream(
             pointer(bundle),
             bundle.len(),
             sample,

@@ -136,6 +136,22 @@ fn trailer_cut() -> Vec<Vec<u8>> {
     bundles
 }
 
+/// B0 with every unit of one to four of these bytes in its first sample, for a byte stream. The second has a unit before
+/// an extractor that copies it.
+pub fn with_zeros() -> Vec<Vec<u8>> {
+    let values = [0, 1, 2, 3, 4, 0x65];
+    let mut units = vec![vec![]];
+    let mut bundles = Vec::new();
+    for _ in 1..=4 {
+        units = units.iter().flat_map(|unit| values.map(|value| [&unit[..], &[value]].concat())).collect();
+        for unit in &units {
+            let first = [&[unit.len() as u8], &unit[..]].concat();
+            bundles.push(with_samples(&first, &[&[0x02, 0x65, 0x88], &extractor(1, 0, 0, 0)[..]].concat()));
+        }
+    }
+    bundles
+}
+
 /// All small fixed bundles.
 pub fn bundles() -> Vec<Vec<u8>> {
     let mut bundles = neighbours(&B0);
@@ -246,15 +262,18 @@ fn limits() -> Vec<Vec<u8>> {
     vec![tracks(16), tracks(17), references(64), references(65), samples(4096), samples(4097), wrapping]
 }
 
-/// A good bundle of the most bytes, and one that is a byte too long: one unit with L = 4.
-pub fn longest() -> [Vec<u8>; 2] {
+/// A good bundle of the most bytes, the same with a unit that ends in 00, and one that is a byte too long: one unit with
+/// L = 4.
+pub fn longest() -> [Vec<u8>; 3] {
     let mut bundle = [&[1][..], &B0[1..8], &[0xFF, 0xE0, 0], &[0, 0, 1, 1, 0, 0, 0, 0, 0, 0, 0, 0]].concat();
     let length = LONGEST - bundle.len() - 8;
     put(&mut bundle, length as u64, 4);
     put(&mut bundle, length as u64, 4);
     put(&mut bundle, length as u64 - 4, 4);
     bundle.resize(LONGEST, 0x61);
+    let mut ending = bundle.clone();
+    ending[LONGEST - 1] = 0;
     let mut longer = bundle.clone();
     longer.push(0);
-    [bundle, longer]
+    [bundle, ending, longer]
 }

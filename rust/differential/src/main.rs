@@ -81,12 +81,20 @@ impl Run {
             self.whence = format!("fixed bundle {index}");
             rounds::fixed_round(bundle, &mut |call| self.ask(call));
         }
+        for (index, bundle) in fixed::with_zeros().iter().enumerate() {
+            self.whence = format!("fixed bundle with zeros {index}");
+            for (sample, room) in [(1, 8), (1, 7), (1, 0), (2, 14), (2, 13)] {
+                self.ask(Call::Stream { bundle, sample, room });
+            }
+        }
         for (index, bundle) in fixed::longest().iter().enumerate() {
             self.whence = format!("longest bundle {index}");
             self.ask(Call::CheckBundle { bundle });
             self.ask(Call::Audit { bundle, room: 13 });
             self.ask(Call::Resolve { bundle, sample: 1, room: bundle.len() });
             self.ask(Call::Resolve { bundle, sample: 1, room: 100 });
+            self.ask(Call::Stream { bundle, sample: 1, room: bundle.len() });
+            self.ask(Call::Stream { bundle, sample: 1, room: 100 });
             self.ask(Call::Unit { bundle, sample: 1, unit: 1 });
             self.ask(Call::Names { bundle, sample: 1, room: 0 });
             self.ask(Call::Counts { bundle });

@@ -98,6 +98,7 @@ fn bundle_round(random: &mut Random, bundle: &[u8], ask: &mut impl FnMut(Call)) 
         let sample = random.near(samples);
         let needed = resolved_length(bundle, sample);
         ask(Call::Resolve { bundle, sample, room: room(random, needed) });
+        ask(Call::Stream { bundle, sample, room: room(random, needed) });
         let units = unit_count(bundle, sample);
         ask(Call::Unit { bundle, sample, unit: random.near(units) });
     }
@@ -153,6 +154,7 @@ pub fn fixed_round(bundle: &[u8], ask: &mut impl FnMut(Call)) {
         let needed = resolved_length(bundle, sample) as usize;
         for room in [needed, needed.saturating_sub(1), needed + 3] {
             ask(Call::Resolve { bundle, sample, room });
+            ask(Call::Stream { bundle, sample, room });
         }
         let needed = names_length(bundle, sample) as usize;
         for room in [needed, needed.saturating_sub(1), needed + 3] {

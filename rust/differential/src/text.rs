@@ -23,6 +23,9 @@ impl Call<'_> {
             Call::Resolve { bundle, sample, room } => {
                 format!("bundle {} sample {sample} room {room}", hex(bundle))
             }
+            Call::Stream { bundle, sample, room } => {
+                format!("bundle {} sample {sample} room {room}", hex(bundle))
+            }
             Call::Unit { bundle, sample, unit } => format!("bundle {} sample {sample} unit {unit}", hex(bundle)),
             Call::Names { bundle, sample, room } => {
                 format!("bundle {} sample {sample} room {room}", hex(bundle))

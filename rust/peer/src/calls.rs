@@ -11,6 +11,7 @@ use crate::record::{self, Record, Sets, Trailer};
 use crate::record_writer::{self, Fields, LentSets, TrailerFields};
 use crate::refusal::*;
 use crate::resolve::{resolve, unit, units};
+use crate::stream::stream;
 
 /// How many numbers describe a record.
 pub const FIELD_COUNT: usize = 18;
@@ -112,6 +113,10 @@ pub fn sample_named(bundle: &[u8], sample: u64, place: u64) -> Answer {
 
 pub fn resolve_sample(bundle: &[u8], sample: u64, out: &mut [u8]) -> Answer {
     answer(resolve(bundle, sample, out), counted)
+}
+
+pub fn stream_sample(bundle: &[u8], sample: u64, out: &mut [u8]) -> Answer {
+    answer(stream(bundle, sample, out), counted)
 }
 
 pub fn one_unit(bundle: &[u8], sample: u64, number: u64) -> Answer {

@@ -1,8 +1,8 @@
-//! An independent implementation of document 01 and of document 02's request [1], written from the papers.
+//! An independent implementation of document 01 and of document 02's requests [1] and [2], written from the papers.
 //!
 //! The verified library is compared with it, answer by answer and in speed. Nothing here is shared with the
-//! library. Layouts are those of ISO/IEC 14496-15:2010, 5.2.4.1 and Annexes A and B; refusal numbers, places and
-//! their order are document 01's.
+//! library. Layouts are those of ISO/IEC 14496-15:2010, 5.2.4.1 and Annexes A and B, and of ISO/IEC 14496-10, Annex B;
+//! refusal numbers, places and their order are those of documents 01 and 02.
 //!
 //! | module | what it has |
 //! |---|---|
@@ -13,6 +13,7 @@
 //! | `bundle`, `contents`, `forms` | a bundle read; what is in it; its samples' forms, each checked once |
 //! | `extractor`, `link`, `copy` | an extractor, the sample it names, what it copies |
 //! | `deliver`, `resolve` | the units that a sample delivers, written out, as parts, or one of them |
+//! | `stream` | the units that a sample delivers, written as a byte stream |
 //! | `names`, `audit`, `program` | the naming list and the sample named, the audit, the program's text |
 //! | `calls` | every call of the C interface, on slices |
 
@@ -37,4 +38,5 @@ pub mod record;
 pub mod record_writer;
 pub mod refusal;
 pub mod resolve;
+pub mod stream;
 pub mod unit;

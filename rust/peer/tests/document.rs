@@ -1,4 +1,4 @@
-//! Document 01's own cases: B0, M1 to M12, and the case with times; document 02's request [1].
+//! Document 01's own cases: B0, M1 to M12, and the case with times; document 02's requests [1] and [2].
 
 use peer::calls::{self, Answer};
 use peer::program;
@@ -189,6 +189,62 @@ fn trailer_absent_in_a_bundle() {
     one_more.insert(11, 0xFD);
     assert_eq!(calls::check_bundle(&one_more), refused(8, 1));
     assert_eq!(program::text(&one_more), "bundle refused 8 at 1\n");
+}
+
+/// Request [2]: sample 2 with these units as a byte stream, in a buffer of `room` bytes, or the refusal.
+fn second_stream(units: &[&[u8]], room: usize) -> Result<Vec<u8>, Answer> {
+    let sample: Vec<u8> = units.iter().flat_map(|unit| [&[unit.len() as u8], *unit].concat()).collect();
+    stream_of(&with_samples(&[0x02, 0x65, 0x00], &sample), room)
+}
+
+/// Sample 2 of a bundle as a byte stream, or the refusal.
+fn stream_of(bundle: &[u8], room: usize) -> Result<Vec<u8>, Answer> {
+    let mut out = vec![0xEE; room];
+    let answer = calls::stream_sample(bundle, 2, &mut out);
+    assert!(out[answer.count as usize..].iter().all(|&byte| byte == 0xEE));
+    match answer.number {
+        0 => Ok(out[..answer.count as usize].to_vec()),
+        _ => Err(answer),
+    }
+}
+
+/// Request [2]: a start code of four bytes before each unit; what a unit must not hold.
+#[test]
+fn byte_stream() {
+    let good: [&[u8]; 2] = [&[0x00, 0x00, 0x03, 0x00, 0x65], &[0x61]];
+    let stream = vec![0, 0, 0, 1, 0, 0, 3, 0, 0x65, 0, 0, 0, 1, 0x61];
+    assert_eq!(second_stream(&good, 64), Ok(stream.clone()));
+    assert_eq!(second_stream(&good, 14), Ok(stream));
+    assert_eq!(second_stream(&good, 13), Err(refused(29, 0)));
+    assert_eq!(second_stream(&[], 0), Ok(Vec::new()));
+    for third in 0..=255 {
+        let unit = [0x61, 0x00, 0x00, third, 0x88];
+        let expected = if third <= 2 { Err(refused(32, 0)) } else { Ok([&[0, 0, 0, 1], &unit[..]].concat()) };
+        assert_eq!(second_stream(&[&unit], 64), expected, "{third}");
+    }
+    for last in [&[0x00][..], &[0x61, 0x00], &[0x61, 0x00, 0x00], &[0x61, 0x00, 0x00, 0x03, 0x00]] {
+        assert_eq!(second_stream(&[last], 64), Err(refused(32, 0)), "{last:?}");
+    }
+    // Two zeros at a unit's start are not joined to the start code or to the unit before.
+    assert_eq!(second_stream(&[&[0x00, 0x03], &[0x00, 0x00, 0x61]], 64).map(|stream| stream.len()), Ok(13));
+}
+
+/// Request [2]: the place is that of the length in the resolved output; 32 comes after 28 and before 29.
+#[test]
+fn byte_stream_refused() {
+    let bad: &[u8] = &[0x61, 0x00];
+    assert_eq!(second_stream(&[&[0x61, 0x62, 0x63], bad, bad], 64), Err(refused(32, 7)));
+    assert_eq!(second_stream(&[&[0x61, 0x62, 0x63], bad, bad], 0), Err(refused(32, 7)));
+    // The unit that cannot stand in a stream is copied from sample 1.
+    let copy = extractor(1, 0, 0, 0);
+    assert_eq!(second_stream(&[&[0x61], &copy[1..]], 64), Err(refused(32, 5)));
+    // A refused extractor after it comes first.
+    let no_reference = extractor(2, 0, 0, 0);
+    assert_eq!(second_stream(&[bad, &no_reference[1..]], 64), Err(refused(23, 3)));
+    assert_eq!(stream_of(&b0(), 6), Ok(vec![0, 0, 0, 1, 0x65, 0x88]));
+    let mut out = [0; 64];
+    assert_eq!(calls::stream_sample(&b0(), 3, &mut out), refused(30, 0));
+    assert_eq!(calls::stream_sample(&b0()[..15], 2, &mut out), refused(2, 11));
 }
 
 #[test]

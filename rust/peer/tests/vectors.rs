@@ -43,6 +43,10 @@ impl Calls for Peer {
         calls::resolve_sample(bundle, sample, out).into()
     }
 
+    fn stream(bundle: &[u8], sample: u64, out: &mut [u8]) -> Answer {
+        calls::stream_sample(bundle, sample, out).into()
+    }
+
     fn unit(bundle: &[u8], sample: u64, unit: u64) -> Answer {
         calls::one_unit(bundle, sample, unit).into()
     }

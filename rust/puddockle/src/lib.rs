@@ -1,5 +1,6 @@
 //! Verified reading of inspection video: decoder configuration records, samples with extractors and aggregators, and
-//! the audit of a whole recording (ISO/IEC 14496-15:2010, 5.2.4.1 and Annexes A and B).
+//! the audit of a whole recording (ISO/IEC 14496-15:2010, 5.2.4.1 and Annexes A and B), and byte streams for decoders
+//! (ISO/IEC 14496-10, Annex B).
 //!
 //! The work is done by a static library whose functions are proved; this crate wraps its C interface. It adds no
 //! rules and keeps nothing. Every function takes any bytes whatever. It needs neither the standard library nor a heap:
@@ -7,7 +8,7 @@
 //! without the standard library must have `memcpy` and `memset`, which it calls.
 //!
 //! ```
-//! use puddockle::{audit, counts, resolve, units, Outcome, SampleNumber, LINE, SPAN};
+//! use puddockle::{audit, counts, resolve, stream, units, Outcome, SampleNumber, LINE, SPAN};
 //!
 //! // Two tracks, AVC and SVC; sample 1 has one NAL unit, and sample 2 has an extractor that copies it.
 //! let bundle = [
@@ -35,6 +36,10 @@
 //! let mut out = vec![0; room];
 //! assert_eq!(resolve(&bundle, SampleNumber(2), &mut out), Ok(room));
 //! assert_eq!(out, [0, 0, 0, 2, 0x65, 0x88]);
+//!
+//! // And as a byte stream for a decoder, each unit after a start code: as many bytes.
+//! assert_eq!(stream(&bundle, SampleNumber(2), &mut out), Ok(room));
+//! assert_eq!(out, [0, 0, 0, 1, 0x65, 0x88]);
 //!
 //! // A refusal has a number, a place and a text.
 //! let no = resolve(&bundle, SampleNumber(3), &mut out).unwrap_err();
@@ -106,7 +111,7 @@ pub use names::{named, names, NamesEntry, NamingList, NAMES_ENTRY};
 pub use record::{read_record, write_record, Record, Sets, SetsIter, Trailer};
 pub use refusal::Refusal;
 pub use sample::{check_sample, Kind, LengthSize};
-pub use units::{resolve, unit, units, Span, UnitNumber, Units, SPAN};
+pub use units::{resolve, stream, unit, units, Span, UnitNumber, Units, SPAN};
 
 /// The version of this crate, and of the library and the header that it belongs to.
 pub const VERSION: &str = env!("CARGO_PKG_VERSION");

@@ -103,6 +103,17 @@ extern "C" {
         count: *mut u64,
     ) -> u32;
 
+    /// What a sample delivers, written as a byte stream.
+    pub fn puddockle_stream(
+        bundle: *const u8,
+        bundle_len: usize,
+        sample: u64,
+        out: *mut u8,
+        out_len: usize,
+        place: *mut u64,
+        count: *mut u64,
+    ) -> u32;
+
     /// Where the units that a sample delivers lie in the bundle: two numbers a unit.
     pub fn puddockle_units(
         bundle: *const u8,

@@ -3,8 +3,8 @@
 use core::error::Error;
 use core::fmt;
 
-/// A no: its number (1 to 31) and its place. The place is an offset in the bundle for 1 to 13, in the sample for 14
-/// to 28, else 0; for a record alone or a sample alone, 4 and 8 to 13 are at 0.
+/// A no: its number (1 to 32) and its place. The place is an offset in the bundle for 1 to 13, in the sample for 14
+/// to 28, in the resolved output for 32, else 0; for a record alone or a sample alone, 4 and 8 to 13 are at 0.
 #[derive(Clone, Copy, Debug, PartialEq, Eq)]
 pub struct Refusal {
     /// Which rule was broken first: see [`meaning`](Refusal::meaning).
@@ -56,6 +56,7 @@ impl Refusal {
             29 => "output longer than the slice lent for it",
             30 => "nothing of that number, or no extractor at that place",
             31 => "fields fit no record",
+            32 => "a unit cannot stand in a byte stream",
             _ => "unknown refusal",
         }
     }

@@ -1,7 +1,7 @@
-//! What a sample delivers: written as bytes, or lent unit by unit.
+//! What a sample delivers: written as bytes or as a byte stream, or lent unit by unit.
 
 use crate::bundle::part;
-use crate::raw::{puddockle_resolve, puddockle_unit, puddockle_units};
+use crate::raw::{puddockle_resolve, puddockle_stream, puddockle_unit, puddockle_units};
 use crate::{Refusal, SampleNumber};
 
 /// The number of a delivered unit of a sample, from 1.
@@ -17,6 +17,21 @@ pub fn resolve(bundle: &[u8], sample: SampleNumber, out: &mut [u8]) -> Result<us
     // SAFETY: both slices are valid for their lengths, `out` is lent to us alone, and the two numbers are our own.
     let number = unsafe {
         puddockle_resolve(bundle.as_ptr(), bundle.len(), sample.0, out.as_mut_ptr(), out.len(), &mut place, &mut count)
+    };
+    Refusal::check(number, place)?;
+    Ok(count as usize)
+}
+
+/// Writes the units that a sample delivers as a byte stream (ISO/IEC 14496-10, Annex B), `00 00 00 01` before each, to
+/// the front of `out` and answers how many bytes that is. Refused with 1 to 13, 30, 14 to 28, 32, 29; `out` is then
+/// untouched. 32 is for the first unit that holds `00 00 00`, `00 00 01` or `00 00 02` or ends in `00`.
+///
+/// The stream is as long as what [`resolve`] writes, and needs as much room.
+pub fn stream(bundle: &[u8], sample: SampleNumber, out: &mut [u8]) -> Result<usize, Refusal> {
+    let (mut place, mut count) = (0, 0);
+    // SAFETY: both slices are valid for their lengths, `out` is lent to us alone, and the two numbers are our own.
+    let number = unsafe {
+        puddockle_stream(bundle.as_ptr(), bundle.len(), sample.0, out.as_mut_ptr(), out.len(), &mut place, &mut count)
     };
     Refusal::check(number, place)?;
     Ok(count as usize)

@@ -54,6 +54,29 @@ fn b0_resolves() {
     assert_eq!(resolve(&b0(), SampleNumber(1 << 32 | 1), &mut [0; 64]), refused(30, 0));
 }
 
+/// The byte stream of sample 2; nothing past the count is changed, nothing at all on a refusal.
+fn second_stream(bundle: &[u8], room: usize) -> Result<Vec<u8>, Refusal> {
+    let mut out = [0xEE; 64];
+    let result = stream(bundle, SampleNumber(2), &mut out[..room]);
+    assert!(out[result.unwrap_or(0)..].iter().all(|&byte| byte == 0xEE));
+    result.map(|count| out[..count].to_vec())
+}
+
+#[test]
+fn b0_stream() {
+    assert_eq!(second_stream(&b0(), 6), Ok(vec![0, 0, 0, 1, 0x65, 0x88]));
+    assert_eq!(second_stream(&b0(), 5), refused(29, 0));
+    assert_eq!(stream(&b0(), SampleNumber(3), &mut [0; 64]), refused(30, 0));
+    assert_eq!(second_stream(&b0()[..15], 64), refused(2, 11));
+    // The unit that ends in 00 is copied, after a good one of 4 bytes; 00 00 03 is good.
+    let own = [0x04, 0x00, 0x00, 0x03, 0x61];
+    let copying = [&own[..], &extractor(1, 0, 0, 0)].concat();
+    assert_eq!(second_stream(&bundle(&[0x02, 0x65, 0x00], &copying), 0), refused(32, 8));
+    assert_eq!(second_stream(&bundle(&ONE_UNIT, &copying), 64).map(|stream| stream.len()), Ok(14));
+    let no = second_stream(&bundle(&ONE_UNIT, &[0x03, 0x00, 0x00, 0x02]), 64).unwrap_err();
+    assert_eq!(no.to_string(), "refused 32 at 0: a unit cannot stand in a byte stream");
+}
+
 #[test]
 fn b0_unit_is_a_part_of_the_bundle() {
     let bundle = b0();

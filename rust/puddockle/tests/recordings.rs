@@ -78,6 +78,48 @@ fn sample_text(bundle: &[u8], number: SampleNumber) -> String {
     format!("{units}\t0\t{count}\t{}", &digest::sha256(&out[..count])[..32])
 }
 
+/// A sample's byte stream is its units, each after a start code; or it is refused as the sample is, or with 32 for a unit
+/// that cannot stand there.
+#[test]
+fn streams() {
+    let directory = common::directory("PUDDOCKLE_RECORDINGS", "recordings");
+    let (mut written, mut not_streamable, mut refused) = (0, 0, 0);
+    for path in [common::files(&directory, "bin"), common::files(&directory.join("damaged"), "bin")].concat() {
+        let bundle = fs::read(&path).unwrap();
+        for number in (1..=counts(&bundle).map_or(1, |counts| counts.samples)).map(SampleNumber) {
+            let (mut resolved, mut out) = (vec![0; 1 << 20], vec![0; 1 << 20]);
+            let streamed = stream(&bundle, number, &mut out);
+            let expected = resolve(&bundle, number, &mut resolved).and_then(|count| start_codes(&resolved[..count]));
+            assert!(
+                streamed.map(|count| &out[..count]) == expected.as_deref().map_err(|&no| no),
+                "{path:?} {number:?}"
+            );
+            match streamed {
+                Ok(_) => written += 1,
+                Err(no) if no.number == 32 => not_streamable += 1,
+                Err(_) => refused += 1,
+            }
+        }
+    }
+    println!("{written} streams written, {not_streamable} refused with 32, {refused} refused as the sample is");
+    assert!(written > 0 && refused > 0);
+}
+
+/// Resolved output with start codes in place of the lengths, or 32.
+fn start_codes(resolved: &[u8]) -> Result<Vec<u8>, Refusal> {
+    let mut out = Vec::new();
+    while let Some((length, rest)) = resolved[out.len()..].split_first_chunk::<4>() {
+        let unit = &rest[..u32::from_be_bytes(*length) as usize];
+        let held = |three: &[u8]| unit.windows(3).any(|window| window == three);
+        if unit.ends_with(&[0]) || held(&[0, 0, 0]) || held(&[0, 0, 1]) || held(&[0, 0, 2]) {
+            return Err(Refusal { number: 32, place: out.len() as u64 });
+        }
+        out.extend([0, 0, 0, 1]);
+        out.extend(unit);
+    }
+    Ok(out)
+}
+
 /// Records as the tools wrote them: the answers stand in README.md; what was read is written again as the same bytes.
 #[test]
 fn records() {

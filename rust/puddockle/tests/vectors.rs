@@ -77,6 +77,16 @@ impl Calls for Library {
         answer
     }
 
+    fn stream(bundle: &[u8], sample: u64, out: &mut [u8]) -> Answer {
+        let mut answer = Answer { place: UNSET, count: UNSET, ..Answer::default() };
+        let (place, count) = (&mut answer.place, &mut answer.count);
+        // SAFETY: as said above.
+        answer.number = unsafe {
+            puddockle_stream(bundle.as_ptr(), bundle.len(), sample, out.as_mut_ptr(), out.len(), place, count)
+        };
+        answer
+    }
+
     fn unit(bundle: &[u8], sample: u64, unit: u64) -> Answer {
         let mut answer = Answer { place: UNSET, start: UNSET, length: UNSET, ..Answer::default() };
         let (place, start, length) = (&mut answer.place, &mut answer.start, &mut answer.length);

@@ -89,6 +89,9 @@ fn plain(random: &mut Random, manner: &Manner, included: bool) -> Vec<u8> {
     let length = random.between(if long { 4 } else { 1 }, longest);
     let mut unit = random.bytes(length);
     unit[0] = unit_type | (random.byte() & 3) << 5;
+    if random.once_in(8) {
+        put_zeros(random, &mut unit);
+    }
     if fault(random, manner) {
         match random.below(3) {
             0 => unit.clear(),
@@ -100,6 +103,16 @@ fn plain(random: &mut Random, manner: &Manner, included: bool) -> Vec<u8> {
         }
     }
     unit
+}
+
+/// Two zeros and a third byte at some place of a unit, or as much of them as it has bytes left: often what a byte stream
+/// cannot have, and often what it just can. At its front they make it a unit of type 0.
+fn put_zeros(random: &mut Random, unit: &mut [u8]) {
+    let start = random.below(unit.len());
+    let three = [0, 0, random.pick(&[0, 1, 2, 3, 3, 3, 4, 0xFF])];
+    for (byte, value) in unit[start..].iter_mut().zip(three) {
+        *byte = value;
+    }
 }
 
 /// An extractor, not yet aimed.

@@ -33,6 +33,7 @@ pub trait Calls: Sized {
     fn check_sample(kind: u32, length_size: u32, sample: &[u8]) -> Answer;
     fn check_bundle(bundle: &[u8]) -> Answer;
     fn resolve(bundle: &[u8], sample: u64, out: &mut [u8]) -> Answer;
+    fn stream(bundle: &[u8], sample: u64, out: &mut [u8]) -> Answer;
     fn unit(bundle: &[u8], sample: u64, unit: u64) -> Answer;
     fn names(bundle: &[u8], sample: u64, out: &mut [u8]) -> Answer;
     fn audit(bundle: &[u8], lines: &mut [u8]) -> Answer;
@@ -109,6 +110,11 @@ fn answer<C: Calls>(words: &[&str]) -> String {
         ["resolve", bytes, sample, room] => {
             let mut out = vec![CANARY; number(room)];
             let answer = C::resolve(&hex(bytes), number(sample), &mut out);
+            written(&answer, &out, "")
+        }
+        ["stream", bytes, sample, room] => {
+            let mut out = vec![CANARY; number(room)];
+            let answer = C::stream(&hex(bytes), number(sample), &mut out);
             written(&answer, &out, "")
         }
         ["unit", bytes, sample, unit] => {

@@ -1,0 +1,55 @@
+-- A bundle that is refused is so by its own refusal; the table has room for any. Assumes nothing.
+use borrow.Author.Needs.{needs}
+use native.Mathlib.Omega.{arith}
+use mathlib.Core.Path.{sym, _∙_}
+use lib.ListN.{length}
+use Rattle.resolution.proofs.stream.Statement.{statement}
+use Rattle.words.proofs.Buffers.{refuse}
+use Rattle.bundles.specs.Readers.{firstLayout}
+use Rattle.filling.proofs.Promises.{table-refuses, table-short}
+use Rattle.resolution_rules.proofs.Streams.{stream-bundle}
+use Rattle.resolution.proofs.Answered.{stream-filled}
+use Rattle.resolution.proofs.stream.Tie as tie
+
+slice-aggregate-fill-table : tie.Need-slice-aggregate-fill-table
+slice-aggregate-fill-table c = search needs
+
+fill-table-requires : tie.Need-fill-table-requires
+fill-table-requires c κs = search needs
+
+enum-known-filled : tie.Need-enum-known-filled
+enum-known-filled c = search needs
+
+enum-told : tie.Need-enum-told
+enum-told c = search needs
+
+slice-aggregate-stream-sample : tie.Need-slice-aggregate-stream-sample
+slice-aggregate-stream-sample c = search needs
+
+stream-sample-requires : tie.Need-stream-sample-requires
+stream-sample-requires c κs = table-short _ _ (sym (c .before .before .before .before .before .fill-table .ensures .0) ∙ c .before .before .enum-told .given .1)
+
+returns : tie.Need-returns
+returns c =
+    let a = c .before .before .before .before .before .before .before .before .args in
+    refuse (stream-bundle firstLayout (a .b .now) (a .n .0) _ (table-refuses (a .b .now) _ (c .before .filled .given .0 .0) (omega arith) (sym (c .before .before .before .before .fill-table .ensures .0) ∙ c .before .filled .given .1)))
+
+same-length : tie.Need-same-length
+same-length c = search needs
+
+returns-2 : tie.Need-returns-2
+returns-2 c = rw (← stream-filled _ _ (sym (c .before .before .before .before .before .before .before .before .fill-table .ensures .0) ∙ c .before .before .before .before .before .enum-told .given .1) (c .before .before .before .before .before .before .before .before .fill-table .ensures .1) (c .before .before .before .before .before .before .before .before .before .before .before .before .args .n .0) (length (c .before .before .before .before .before .before .before .before .before .before .before .before .args .out .now))) (c .before .before .stream-sample .ensures)
+
+pub stream-spec : {M : Type 1} → statement M
+stream-spec =
+    tie.close
+    (tie.spec
+    slice-aggregate-fill-table
+    fill-table-requires
+    enum-known-filled
+    enum-told
+    slice-aggregate-stream-sample
+    stream-sample-requires
+    returns
+    same-length
+    returns-2)
