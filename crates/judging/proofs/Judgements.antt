@@ -31,7 +31,7 @@ use Rattle.resolution_rules.proofs.Amounts.{delivered-size, output-bytes}
 use Rattle.resolution_rules.proofs.Good.{good-rules}
 use Rattle.resolution_rules.proofs.Sizes.{delivered-most}
 use Rattle.delivery.proofs.Folds.{content-most}
-use Rattle.judging.specs.Steps.{amountFor, judgement, judgementIn, formIn}
+use Rattle.judging.specs.Steps.{amountFor, onSampleIn, judgement, judgementIn, formIn}
 use Rattle.judging.specs.declared.Amount.{Amount}
 
 module _ (r : Recording) (n : ℕ) where
@@ -61,22 +61,25 @@ module _ (b t : List ℕ) (n : ℕ) where
   abbrev Fault : ℕ
   Fault = numberFault (sampleCount (recordingIn b t .layout)) n
 
+  -- a bundle that is too long, and one that is not, whatever is said of the sample
+  on-long : {A : Type 0} (a : Answer A) → bundleMost < length b → onSampleIn b t n a ≡ refused bundleTooLong 0
+  on-long a h = rw (lt-ltb bundleMost (length b) h)
+
+  on-short : {A : Type 0} (a : Answer A) → length b ≤ bundleMost → onSampleIn b t n a ≡ onSample R n a
+  on-short a h = rw (le-ltb bundleMost (length b) h)
+
   pub form-long : bundleMost < length b → formIn b t n ≡ refused bundleTooLong 0
   unfolding formIn
-  form-long h = rw (lt-ltb bundleMost (length b) h)
-
-  long-judged : bundleMost < length b → judgementIn b t n ≡ refused bundleTooLong 0
-  unfolding judgementIn
-  long-judged h = rw (lt-ltb bundleMost (length b) h)
+  form-long h = on-long (check (sampleOf R n)) h
 
   module _ (h : length b ≤ bundleMost) where
     short : judgementIn b t n ≡ onSample R n (judgement R n)
     unfolding judgementIn
-    short = rw (le-ltb bundleMost (length b) h)
+    short = on-short (judgement R n) h
 
     form-short : formIn b t n ≡ onSample R n (check (sampleOf R n))
     unfolding formIn
-    form-short = rw (le-ltb bundleMost (length b) h)
+    form-short = on-short (check (sampleOf R n)) h
 
     pub form-none : {f : ℕ} → f ≡ numberFault (sampleCount (recordingIn b t .layout)) n → (f ≡ 0 → ⊥) → formIn b t n ≡ refused f 0
     form-none e z = form-short ∙ rw (at-refused 0 e z)
@@ -125,12 +128,12 @@ module _ (b t : List ℕ) (n : ℕ) where
     form-refused h a = form-case a (Fault atPlace 0) refl (sym (form-short h) ∙ e)
 
     pub refused-judged : judgementIn b t n ≡ refused m q
-    unfolding judgement
+    unfolding judgementIn judgement
     refused-judged = by-bool (ltb bundleMost (length b))
         (λ l.
         let k = ltb-true bundleMost (length b) l in
         let s = refused-same (sym (form-long k) ∙ e) in
-        long-judged k ∙ rw (s .0, s .1))
+        on-long (judgement R n) k ∙ rw (s .0, s .1))
         (λ l. let k = ltb-false bundleMost (length b) l in short k ∙ form-refused k (ok (amountFor R n)))
 
   -- and that is not
