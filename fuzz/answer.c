@@ -6,11 +6,12 @@ const struct answer unset = {0,     UNSET, UNSET, UNSET, UNSET, UNSET, UNSET,
                              UNSET, {UNSET, UNSET, UNSET, UNSET}};
 
 const char *const call_names[CALLS] = {"read_record", "write_record", "check_sample", "check_bundle", "resolve",
-                                       "stream",      "unit",         "names",        "audit",        "counts",
-                                       "track",       "reference",    "sample",       "units",        "named"};
+                                       "stream",      "from_stream",  "unit",         "names",        "audit",
+                                       "counts",      "track",        "reference",    "sample",       "units",
+                                       "named"};
 
 /* One more than the largest number. */
-#define NUMBERS 33
+#define NUMBERS 35
 
 /* Bit n is set where the call may give number n. */
 #define RANGE(first, last) (((uint64_t)2 << (last)) - ((uint64_t)1 << (first)))
@@ -21,6 +22,7 @@ static const uint64_t allowed[CALLS] = {
     [CHECK_BUNDLE] = RANGE(0, 13),
     [RESOLVE] = RANGE(0, 30),
     [STREAM] = RANGE(0, 30) | RANGE(32, 32),
+    [FROM_STREAM] = RANGE(0, 0) | RANGE(11, 11) | RANGE(29, 29) | RANGE(33, 34),
     [UNIT] = RANGE(0, 28) | RANGE(30, 30),
     [NAMES] = RANGE(0, 13) | RANGE(29, 30),
     [AUDIT] = RANGE(0, 13) | RANGE(29, 29),
@@ -39,7 +41,7 @@ void judge(enum call call, const struct answer *a, uint64_t detail) {
     MUST(a->number < NUMBERS && (allowed[call] >> a->number & 1));
     MUST(a->place != UNSET);
     MUST(a->number != 0 || a->place == 0);
-    MUST(a->number < 29 || a->number == 32 || a->place == 0);
+    MUST(a->number < 29 || a->number >= 32 || a->place == 0);
     reached[call][a->number]++;
     counters[(call * NUMBERS + a->number) * 16 + detail % 16] = 1;
 }

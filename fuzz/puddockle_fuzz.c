@@ -5,7 +5,8 @@
  * the number is one that the call may give, what is written ends at the count, nothing is written on a refusal, the
  * input is unchanged, both calls agree. Between calls: a record read and written again is the same bytes; a record is
  * accepted up to its trailer, and not with a part of it; the units of a resolved sample are those asked for one by one;
- * the audit's line agrees with resolving; stream.c has byte streams, contents.c the calls on the contents of a bundle.
+ * the audit's line agrees with resolving; stream.c has byte streams written, from_stream.c read, contents.c the calls on
+ * the contents of a bundle.
  *
  * The answers themselves are fed back to the fuzzer as counters, since the library brings none of its own.
  */
@@ -15,6 +16,7 @@
 #include "answer.h"
 #include "build.h"
 #include "contents.h"
+#include "from_stream.h"
 #include "input.h"
 #include "lend.h"
 #include "stream.h"
@@ -362,7 +364,7 @@ static void try_both_sides(const uint8_t *bundle, size_t length, struct input in
 int LLVMFuzzerTestOneInput(const uint8_t *data, size_t size) {
     static uint8_t built[ROOM];
     struct input in = {data, size};
-    switch (take_below(&in, 8)) {
+    switch (take_below(&in, 9)) {
     case 0:
         try_read_record(&in);
         break;
@@ -380,6 +382,9 @@ int LLVMFuzzerTestOneInput(const uint8_t *data, size_t size) {
         try_both_sides(in.bytes, in.left, numbers);
         break;
     }
+    case 4:
+        try_from_stream(&in);
+        break;
     default: {
         struct input numbers = {in.bytes, in.left < 2 ? in.left : 2};
         in.bytes += numbers.left;

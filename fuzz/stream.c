@@ -3,6 +3,7 @@
 #include <string.h>
 
 #include "../include/puddockle.h"
+#include "from_stream.h"
 
 /* The length before a unit in resolved output, and the start code before it in a stream. */
 #define PREFIX 4
@@ -71,7 +72,7 @@ static void judge_stream(const uint8_t *bytes, const uint8_t *units, size_t coun
 
 struct answer try_stream(const uint8_t *bundle, size_t length, uint64_t sample, enum side side,
                          const struct answer *resolved, const uint8_t *units) {
-    static uint8_t kept[STREAM_MOST];
+    static uint8_t kept[STREAM_MOST], written[STREAM_MOST];
     if (resolved->number == 0 && resolved->count > 0)
         memcpy(kept, units, resolved->count); /* the units stand where the stream goes */
     uint8_t *out = lend(OUT, side, STREAM_MOST);
@@ -94,6 +95,8 @@ struct answer try_stream(const uint8_t *bundle, size_t length, uint64_t sample, 
     }
     MUST(a.number == 0 && a.count == count);
     judge_stream(out, kept, count);
+    memcpy(written, out, count);
+    read_back(written, kept, count);
     /* The exact room is enough, one byte less is not. */
     MUST(stream(bundle, length, sample, lend(OUT, side, count), count).number == 0);
     if (count > 0)

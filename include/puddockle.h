@@ -2,7 +2,8 @@
  * Puddockle: verified reading of inspection video, for C.
  *
  * Decoder configuration records read and written, samples checked, resolved to plain NAL units and written as a byte
- * stream, what is in a recording (a bundle) told, the whole of it audited, the extractors that name a sample listed.
+ * stream, a byte stream read into a sample, what is in a recording (a bundle) told, the whole of it audited, the
+ * extractors that name a sample listed.
  * Layouts are those of ISO/IEC 14496-15:2010, 5.2.4.1 and Annexes A and B, and of ISO/IEC 14496-10, Annex B.
  * docs/FORMAT.md has all rules: the bundle, records, units, resolving, and what to do about each refusal.
  *
@@ -29,11 +30,12 @@
  *
  * How much room an output needs
  *
- *   puddockle_audit    PUDDOCKLE_LINE bytes a sample of puddockle_counts; at most PUDDOCKLE_LINES_MOST
- *   puddockle_units    PUDDOCKLE_SPAN numbers for each unit that the sample's audit line says
- *   puddockle_resolve  the sum of 4 and the length of each unit of puddockle_units
- *   puddockle_stream   as puddockle_resolve
- *   puddockle_names    never more bytes than the bundle has
+ *   puddockle_audit        PUDDOCKLE_LINE bytes a sample of puddockle_counts; at most PUDDOCKLE_LINES_MOST
+ *   puddockle_units        PUDDOCKLE_SPAN numbers for each unit that the sample's audit line says
+ *   puddockle_resolve      the sum of 4 and the length of each unit of puddockle_units
+ *   puddockle_stream       as puddockle_resolve
+ *   puddockle_from_stream  never more bytes than stream_len + stream_len / 4; where L is 1 or 2, than stream_len
+ *   puddockle_names        never more bytes than the bundle has
  *
  * How time grows
  *
@@ -60,7 +62,7 @@ extern "C" {
 
 /* What a function returns: 0, or a refusal. After each its place. Those of 1 to 13 are offsets in the bundle, those of
  * 14 to 28 offsets in the sample that was asked for or given, that of 32 an offset in what puddockle_resolve would
- * write. */
+ * write, those of 33 and 34 offsets in the byte stream. */
 enum {
     PUDDOCKLE_ACCEPTED = 0,
 
@@ -81,8 +83,8 @@ enum {
     PUDDOCKLE_REFUSED_RECORD_CUT = 8,               /* the track entry; 0 for a record alone */
     PUDDOCKLE_REFUSED_BAD_VERSION = 9,              /* not 1: as 8 */
     PUDDOCKLE_REFUSED_WRONG_FIXED_BITS = 10,        /* as 8 */
-    PUDDOCKLE_REFUSED_BAD_LENGTH_SIZE = 11,         /* L is 3: as 8; given to puddockle_check_sample and not 1, 2 or
-                                                       4: 0 */
+    PUDDOCKLE_REFUSED_BAD_LENGTH_SIZE = 11,         /* L is 3: as 8; given to puddockle_check_sample or
+                                                       puddockle_from_stream and not 1, 2 or 4: 0 */
     PUDDOCKLE_REFUSED_BAD_SET = 12,                 /* empty, its top bit set, or a wrong type: as 8 */
     PUDDOCKLE_REFUSED_BYTES_AFTER_RECORD = 13,      /* as 8 */
 
@@ -114,8 +116,14 @@ enum {
     PUDDOCKLE_REFUSED_FIELDS_FIT_NO_RECORD = 31,
 
     /* a delivered unit, for a byte stream */
-    PUDDOCKLE_REFUSED_UNIT_NOT_STREAMABLE = 32      /* it holds 00 00 00, 00 00 01 or 00 00 02, or ends in 00: its
+    PUDDOCKLE_REFUSED_UNIT_NOT_STREAMABLE = 32,     /* it holds 00 00 00, 00 00 01 or 00 00 02, or ends in 00: its
                                                        4-byte length in what puddockle_resolve would write */
+
+    /* a byte stream */
+    PUDDOCKLE_REFUSED_BAD_BYTE_STREAM = 33,         /* a byte above 00 before the first start code: that byte; 00 00 02
+                                                       in a unit: the 02; three or more zeros and a byte above 01 in a
+                                                       unit: that byte; an empty unit: the 01 of its start code */
+    PUDDOCKLE_REFUSED_UNIT_EXCEEDS_LENGTH_SIZE = 34 /* a unit of 256^L bytes or more: its first byte */
 };
 
 /* Kinds of tracks and records. */
@@ -335,6 +343,30 @@ uint32_t puddockle_stream(const uint8_t *bundle, size_t bundle_len,
                           uint64_t sample,
                           uint8_t *out, size_t out_len,
                           uint64_t *place, uint64_t *count);
+
+/*
+ * Reads a byte stream (ISO/IEC 14496-10, Annex B) and writes its units as a sample.
+ *
+ * length_size         L of the sample
+ * stream, stream_len  the stream: zeros, then units, each after a start code, which is 00 00 01. Zeros before a start
+ *                     code belong to no unit: a unit runs from just after its start code up to the zeros before the
+ *                     next start code or the end. No bytes, or zeros only, are a stream without units
+ * out, out_len        where the sample goes: the units, each after its length in L bytes
+ *
+ * Refusals, first that applies first: 11 (length_size is not 1, 2 or 4), at 0. Then the first of 33 and 34 by its
+ * place, an offset in the stream: 33 for a byte above 00 before the first start code, at that byte (the 01 of a start
+ * code is none); for 00 00 02 in a unit, at the 02; for three or more zeros and a byte above 01 in a unit, at that
+ * byte; for a unit without bytes, or with zeros alone up to the next start code or the end, at the 01 of its start
+ * code; 34 for a unit of 256^L bytes or more, at its first byte, so before any 33 inside it. Then 29, at 0. Units are
+ * not judged further: puddockle_check_sample does that.
+ * Accepted: *count bytes are written (0 for a stream without units). What puddockle_stream wrote gives, with L 4, what
+ * puddockle_resolve writes. Refused: nothing is written, *count is 0.
+ * Time: linear in the stream.
+ */
+uint32_t puddockle_from_stream(uint32_t length_size,
+                               const uint8_t *stream, size_t stream_len,
+                               uint8_t *out, size_t out_len,
+                               uint64_t *place, uint64_t *count);
 
 /*
  * Finds all delivered units of a sample, without a copy.

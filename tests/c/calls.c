@@ -478,6 +478,8 @@ static void constants(void)
     SAME(PUDDOCKLE_REFUSED_NO_SUCH_NUMBER, 30);
     SAME(PUDDOCKLE_REFUSED_FIELDS_FIT_NO_RECORD, 31);
     SAME(PUDDOCKLE_REFUSED_UNIT_NOT_STREAMABLE, 32);
+    SAME(PUDDOCKLE_REFUSED_BAD_BYTE_STREAM, 33);
+    SAME(PUDDOCKLE_REFUSED_UNIT_EXCEEDS_LENGTH_SIZE, 34);
     SAME(PUDDOCKLE_AVC, 0);
     SAME(PUDDOCKLE_SVC, 1);
     SAME(PUDDOCKLE_BUNDLE_MOST, 16777216);
@@ -766,6 +768,188 @@ static void streams_of_samples(void)
     stream_refused(bundle, length, 2, 64, 26, 0, __LINE__);
 }
 
+/* A byte stream read with so much room: a refusal at a place, and nothing is written. */
+static void reading_refused(uint32_t size, const uint8_t *stream, size_t length, size_t room, uint32_t number, uint64_t at, int line)
+{
+    uint8_t out[64];
+    uint64_t place = UNSET, count = UNSET;
+    memset(out, FILL, sizeof out);
+    same("number", puddockle_from_stream(size, stream, length, room ? out : NULL, room, &place, &count), number, line);
+    same("place", place, at, line);
+    same("count", count, 0, line);
+    same("untouched", untouched(out, sizeof out), 1, line);
+}
+
+/* A byte stream is read as these bytes, in that much room and in more, and is too long for less. */
+static void reading_written(uint32_t size, const uint8_t *stream, size_t length, const uint8_t *expected, size_t needed, int line)
+{
+    uint8_t out[64];
+    for (size_t room = needed; room <= needed + 2; room++) {
+        uint64_t place = UNSET, count = UNSET;
+        memset(out, FILL, sizeof out);
+        same("number", puddockle_from_stream(size, stream, length, room ? out : NULL, room, &place, &count), 0, line);
+        same("place", place, 0, line);
+        same("count", count, needed, line);
+        same("bytes", needed > 0 && memcmp(out, expected, needed) != 0, 0, line);
+        same("untouched", untouched(out + needed, sizeof out - needed), 1, line);
+    }
+    for (size_t room = 0; room < needed; room++)
+        reading_refused(size, stream, length, room, 29, 0, line);
+}
+
+/* A byte stream without units, and what is refused with 33 whatever the length size and the room. */
+static void no_units(const uint8_t *stream, size_t length, int line)
+{
+    for (uint32_t size = 1; size <= 4; size *= 2)
+        reading_written(size, stream, length, NULL, 0, line);
+}
+
+static void not_a_stream(const uint8_t *stream, size_t length, uint64_t at, int line)
+{
+    for (uint32_t size = 1; size <= 4; size *= 2)
+        for (size_t room = 0; room <= 64; room += 32)
+            reading_refused(size, stream, length, room, 33, at, line);
+}
+
+#define NOT_A_STREAM(at, ...) not_a_stream((const uint8_t[]){ __VA_ARGS__ }, sizeof (const uint8_t[]){ __VA_ARGS__ }, at, __LINE__)
+
+static void streams_read(void)
+{
+    /* start codes with zeros before them, zeros after units, 00 00 03, zeros and 00 01 at the front and the end of units */
+    static const uint8_t stream[] = { 0, 0, 0, 0, 1, 0x65, 0, 0, 3, 0x88, 0, 0, 1, 0, 0, 0x61, 0, 1, 0, 0, 0, 0, 0, 1, 1, 0, 0, 1, 0, 2, 0, 0, 0 };
+    static const uint8_t one[] = { 5, 0x65, 0, 0, 3, 0x88, 5, 0, 0, 0x61, 0, 1, 1, 1, 2, 0, 2 };
+    static const uint8_t two[] = { 0, 5, 0x65, 0, 0, 3, 0x88, 0, 5, 0, 0, 0x61, 0, 1, 0, 1, 1, 0, 2, 0, 2 };
+    static const uint8_t four[] = { 0, 0, 0, 5, 0x65, 0, 0, 3, 0x88, 0, 0, 0, 5, 0, 0, 0x61, 0, 1, 0, 0, 0, 1, 1, 0, 0, 0, 2, 0, 2 };
+    static const uint8_t zeros[16];
+    reading_written(1, stream, sizeof stream, one, sizeof one, __LINE__);
+    reading_written(2, stream, sizeof stream, two, sizeof two, __LINE__);
+    reading_written(4, stream, sizeof stream, four, sizeof four, __LINE__);
+    for (size_t less = 1; less <= 3; less++)
+        reading_written(1, stream, sizeof stream - less, one, sizeof one, __LINE__);
+    no_units(NULL, 0, __LINE__);
+    for (size_t length = 1; length <= sizeof zeros; length++)
+        no_units(zeros, length, __LINE__);
+
+    /* before the first start code; a 01 after fewer than two zeros ends none */
+    NOT_A_STREAM(0, 0x65);
+    NOT_A_STREAM(0, 1);
+    NOT_A_STREAM(0, 1, 0, 0, 1, 0x65);
+    NOT_A_STREAM(1, 0, 1, 0x65);
+    NOT_A_STREAM(1, 0, 1, 0, 0, 1, 0x65);
+    NOT_A_STREAM(3, 0, 0, 0, 2, 0, 0, 1, 0x65);
+    /* in a unit: the first of them, also in a unit after another */
+    NOT_A_STREAM(6, 0, 0, 1, 0, 0, 0, 5);
+    NOT_A_STREAM(9, 0, 0, 1, 0x65, 0, 0, 0, 0, 0, 0x65);
+    NOT_A_STREAM(6, 0, 0, 1, 0x65, 0, 0, 2, 0, 0, 0, 5);
+    NOT_A_STREAM(7, 0, 0, 1, 0x65, 0, 0, 0, 5, 0, 0, 2);
+    NOT_A_STREAM(10, 0, 0, 1, 0x65, 0, 0, 1, 0x61, 0, 0, 2, 0, 0, 1);
+    /* empty units: the first of them */
+    NOT_A_STREAM(2, 0, 0, 1);
+    NOT_A_STREAM(2, 0, 0, 1, 0);
+    NOT_A_STREAM(3, 0, 0, 0, 1, 0, 0, 0);
+    NOT_A_STREAM(2, 0, 0, 1, 0, 0, 1, 0x65);
+    NOT_A_STREAM(2, 0, 0, 1, 0, 0, 0, 1, 0x65, 0, 0, 2);
+    NOT_A_STREAM(6, 0, 0, 1, 0x65, 0, 0, 1, 0, 0, 1, 0, 0, 1);
+    NOT_A_STREAM(7, 0, 0, 1, 0x65, 0, 0, 0, 1);
+
+    /* every byte after one, two and three zeros, in the middle and at the front of a unit */
+    for (unsigned value = 0; value < 256; value++) {
+        for (size_t count = 1; count <= 3; count++) {
+            for (size_t front = 0; front <= 1; front++) {
+                uint8_t bytes[16] = { 0, 0, 1, 0x65 }, unit[16] = { 0 };
+                size_t at = 3 + front + count, length = at + 2, run = value == 0 ? count + 1 : count;
+                memset(bytes + 3 + front, 0, count);
+                bytes[at] = (uint8_t)value;
+                bytes[at + 1] = 0x88;
+                unit[0] = (uint8_t)(length - 3);
+                memcpy(unit + 1, bytes + 3, length - 3);
+                if (value == 1 && count >= 2 && front == 0)
+                    not_a_stream(bytes, length, 2, __LINE__);
+                else if (value == 1 && count >= 2)
+                    reading_written(1, bytes, length, (const uint8_t[]){ 1, 0x65, 1, 0x88 }, 4, __LINE__);
+                else if (run >= 3 || (run == 2 && value == 2))
+                    not_a_stream(bytes, length, value == 0 ? at + 1 : at, __LINE__);
+                else
+                    reading_written(1, bytes, length, unit, length - 2, __LINE__);
+            }
+        }
+    }
+
+    /* units of every length up to 12 that end in 01 or 00 01, before another */
+    for (size_t length = 1; length <= 12; length++) {
+        for (size_t zero = 0; zero <= 1 && zero < length; zero++) {
+            uint8_t bytes[20] = { 0, 0, 1 }, unit[20] = { (uint8_t)length };
+            memset(bytes + 3, 0x65, length);
+            bytes[2 + length] = 1;
+            if (zero)
+                bytes[1 + length] = 0;
+            memcpy(bytes + 3 + length, "\0\0\1\x61", 4);
+            memcpy(unit + 1, bytes + 3, length);
+            memcpy(unit + 1 + length, "\1\x61", 2);
+            reading_written(1, bytes, length + 7, unit, length + 3, __LINE__);
+        }
+    }
+
+    /* other length sizes, before all */
+    static const uint32_t SIZES[] = { 0, 3, 5, 6, 8, 255, 256, 257, 258, 260, 0x10001, 0x80000004, UINT32_MAX };
+    for (size_t i = 0; i < sizeof SIZES / sizeof *SIZES; i++) {
+        reading_refused(SIZES[i], stream, sizeof stream, 64, 11, 0, __LINE__);
+        reading_refused(SIZES[i], stream + 5, sizeof stream - 5, 0, 11, 0, __LINE__);
+        reading_refused(SIZES[i], NULL, 0, 0, 11, 0, __LINE__);
+    }
+}
+
+/* A unit of `most` bytes fits length size `size`, and one of a byte more does not, whatever follows it. */
+static void longest_units(uint32_t size, size_t most)
+{
+    static uint8_t stream[65536 + 32], out[65536 + 32];
+    const uint64_t most_bytes = most;
+    for (size_t zeros = 0; zeros <= 6; zeros++) {
+        uint64_t place = UNSET, count = UNSET;
+        memset(stream, 0, sizeof stream);
+        memcpy(stream, "\0\0\1\x61\0\0\0\1", 8);
+        memset(stream + 8, 0x65, most);
+        memset(out, FILL, sizeof out);
+        SAME(puddockle_from_stream(size, stream, 8 + most + zeros, out, 1 + 2 * size + most, &place, &count), 0);
+        SAME(place, 0);
+        SAME(count, 1 + 2 * size + most_bytes);
+        SAME(out[size], 0x61);
+        for (uint32_t i = 0; i < size; i++)
+            SAME(out[size + 1 + i], 0xFF);
+        SAME(memcmp(out + 1 + 2 * size, stream + 8, most), 0);
+        SAME(untouched(out + 1 + 2 * size + most, sizeof out - 1 - 2 * size - most), 1);
+        reading_refused(size, stream, 8 + most + zeros, 64, 29, 0, __LINE__);
+        /* a byte more is 34, before a 33 after the unit or inside it */
+        memcpy(stream + 8 + most, "\x65\0\0\2\0\0\1", 7);
+        reading_refused(size, stream, 8 + most + 1 + zeros, 0, 34, 8, __LINE__);
+        stream[10] = stream[11] = 0;
+        stream[12] = 2;
+        reading_refused(size, stream, 8 + most + 1, 64, 34, 8, __LINE__);
+        reading_refused(size, stream, 8 + most, 64, 33, 12, __LINE__);
+        reading_refused(4, stream, 8 + most + 1, 64, 33, 12, __LINE__);
+        /* an empty unit before it comes first */
+        stream[3] = 0;
+        reading_refused(size, stream, 8 + most + 1, 64, 33, 2, __LINE__);
+    }
+}
+
+/* What puddockle_stream wrote is read as what puddockle_resolve writes. */
+static void streams_read_back(void)
+{
+    const struct { const uint8_t *sample; size_t length; } samples[] = {
+        { TWO, sizeof TWO }, { WHOLE, sizeof WHOLE }, { ZEROS, sizeof ZEROS }, { EXTRACTOR, sizeof EXTRACTOR }, { TWO, 0 },
+    };
+    for (size_t i = 0; i < sizeof samples / sizeof *samples; i++) {
+        uint8_t bundle[128], resolved[64], stream[64];
+        uint64_t place, count = UNSET, streamed = UNSET;
+        size_t length = with_samples(bundle, TWO, sizeof TWO, samples[i].sample, samples[i].length);
+        SAME(puddockle_resolve(bundle, length, 2, resolved, sizeof resolved, &place, &count), 0);
+        SAME(puddockle_stream(bundle, length, 2, stream, sizeof stream, &place, &streamed), 0);
+        SAME(streamed, count);
+        reading_written(4, stream, (size_t)streamed, resolved, (size_t)count, __LINE__);
+    }
+}
+
 /* What the extractor at that place of sample `sample` names: the refusal and its place, or the number of the sample. */
 static void name(const uint8_t *bundle, size_t length, uint64_t sample, uint64_t extractor, uint32_t number, uint64_t at, uint64_t expected, int line)
 {
@@ -828,6 +1012,10 @@ int main(void)
     parts_of_bundle();
     units_of_samples();
     streams_of_samples();
+    streams_read();
+    longest_units(1, 255);
+    longest_units(2, 65535);
+    streams_read_back();
     named_by_extractors();
     printf("%u checks, %u failed\n", checks, failures);
     return failures != 0;

@@ -1,7 +1,9 @@
-"""The rules of docs/FORMAT.md in Python, for the answers of the vectors that make_contents makes and of stream.txt.
+"""The rules of docs/FORMAT.md in Python, for the answers of the vectors that make_contents makes and of stream.txt and from_stream.txt.
 
-Written from FORMAT.md alone (`stream` from request [2] of document 02), plainly and not for speed. A refusal is the exception No, with a number and a place.
+Written from FORMAT.md alone (`stream` and `from_stream` from requests [2] and [3] of document 02), plainly and not for speed. A refusal is the exception No,
+with a number and a place.
 """
+import re
 
 
 class No(Exception):
@@ -321,6 +323,31 @@ def stream(data, number, room):
         if unit.endswith(b"\0") or any(three in unit for three in (b"\0\0\0", b"\0\0\1", b"\0\0\2")):
             raise No(32, len(out))
         out += b"\0\0\0\1" + unit
+    if len(out) > room:
+        raise No(29)
+    return [out.hex() or "-"]
+
+
+def from_stream(data, size, room):
+    """The sample that a byte stream is read into, in hexadecimal."""
+    if size not in (1, 2, 4):
+        raise No(11)
+    codes = [code.start() for code in re.finditer(b"\0\0\1", data)]
+    before = data[: codes[0]] if codes else data
+    if any(before):
+        raise No(33, len(before) - len(before.lstrip(b"\0")))
+    out = b""
+    for code, end in zip(codes, codes[1:] + [len(data)]):
+        start = code + 3
+        unit = data[start:end].rstrip(b"\0")
+        if not unit:
+            raise No(33, start - 1)
+        if len(unit) >= 256**size:
+            raise No(34, start)
+        fault = re.search(b"\0\0\2|\0{3,}[^\0\1]", unit)
+        if fault:
+            raise No(33, start + fault.end() - 1)
+        out += len(unit).to_bytes(size, "big") + unit
     if len(out) > room:
         raise No(29)
     return [out.hex() or "-"]

@@ -3,6 +3,7 @@
 --   AllStreamable                 every unit of a list can stand in a byte stream
 --   stream-written                what is written is a byte stream of the units
 --   stream-all                    every unit of a byte stream can stand in one
+--   stream-split                  a byte stream split at its start codes: zeros, and its units with the zeros after them
 --   stream-unique                 a byte stream is that of one list of units only
 --   stream-joined                 two byte streams, one after the other, are that of the units of both
 --   verdict-append                32 in two lists of units, one after the other
@@ -27,7 +28,9 @@ use Rattle.words.proofs.Refusals.{and-ok, at-ok, if-none, ok-refused, refused-s
 use Rattle.byte_streams.specs.Grammar.{zeros, Streamable, StartCoded, ByteStream}
 use Rattle.byte_streams.specs.Writing.{startCode, isStreamable, streamOf, streamVerdict}
 use Rattle.byte_streams.proofs.Units.{ends-to, streamable-from, streamable-to}
-use Rattle.byte_streams.proofs.Splits.{Parts, split, strip, NoCode, split-append, split-code, code-free, strip-zeros}
+use Rattle.byte_streams.specs.Reading.{Parts, split, strip}
+use Rattle.byte_streams.specs.Faults.{NoStartCode}
+use Rattle.byte_streams.proofs.Splits.{split-append, split-code, none-in, code-free, strip-zeros}
 
 abbrev pub AllStreamable : List (List ℕ) → Type 0
 AllStreamable us = (u : List ℕ) → u ∈ us → Streamable u
@@ -51,29 +54,26 @@ coded-all (StartCoded.unit u h n c) w m = ⊎-elim (λ e. rw e h) (λ k. coded-a
 pub stream-all : {us : List (List ℕ)} {s : List ℕ} → ByteStream us s → AllStreamable us
 stream-all (ByteStream.stream n c) = coded-all c
 
-no-code : (u : List ℕ) → Streamable u → NoCode u
-no-code u h a b e = h .noForbidden a b 1 e (omega arith)
+no-start-code : (u : List ℕ) → Streamable u → NoStartCode u
+no-start-code u h a b e = h .noForbidden a b 1 e (omega arith)
 
 coded-units : {us : List (List ℕ)} {s : List ℕ} → StartCoded us s → (split s .before ≡ []) × (map strip (split s .after) ≡ us)
 coded-units StartCoded.none = (unfold split in refl, unfold split in refl)
 coded-units (StartCoded.unit {us} {s} u h n c) =
     let below = coded-units c in
     let t : split (u ++ (zeros n ++ s)) ≡ record { before = u ++ zeros n; after = split s .after } =
-    ap split (sym (append-assoc u (zeros n) s)) ∙ split-append (u ++ zeros n) s (code-free u n (no-code u h)) (below .0) in
+    ap split (sym (append-assoc u (zeros n) s)) ∙ split-append (u ++ zeros n) s (code-free u n (no-start-code u h)) (below .0) in
     let w : split (0 ∷ 0 ∷ 1 ∷ (u ++ (zeros n ++ s))) ≡ record { before = []; after = (u ++ zeros n) ∷ split s .after } = split-code (u ++ (zeros n ++ s)) ∙ ap (λ (r : Parts). record { before = []; after = r .before ∷ r .after }) t in
     (ap (λ (r : Parts). r .before) w, ap (λ (r : Parts). map strip (r .after)) w ∙ ap₂ _∷_ (strip-zeros u n (ends-to u (h .noZeroAtEnd))) (below .1))
 
-none-in : NoCode []
-none-in [] b e = let z : _≡_ {A = ℕ} 0 1 = cc in omega arith
-none-in (y ∷ a) b e = let z : _≡_ {A = ℕ} 0 1 = cc in omega arith
-
-stream-units : {us : List (List ℕ)} {s : List ℕ} → ByteStream us s → map strip (split s .after) ≡ us
-stream-units (ByteStream.stream {us} {s} n c) =
+pub stream-split : {us : List (List ℕ)} {s : List ℕ} → ByteStream us s → (n : ℕ) × (split s .before ≡ zeros n) × (map strip (split s .after) ≡ us)
+stream-split (ByteStream.stream {us} {s} n c) =
     let b = coded-units c in
-    ap (λ (r : Parts). map strip (r .after)) (split-append (zeros n) s (code-free [] n none-in) (b .0)) ∙ b .1
+    let t = split-append (zeros n) s (code-free [] n none-in) (b .0) in
+    (n, ap (λ (r : Parts). r .before) t, ap (λ (r : Parts). map strip (r .after)) t ∙ b .1)
 
 pub stream-unique : {us vs : List (List ℕ)} {s : List ℕ} → ByteStream us s → ByteStream vs s → us ≡ vs
-stream-unique a b = sym (stream-units a) ∙ stream-units b
+stream-unique a b = sym (stream-split a .2) ∙ stream-split b .2
 
 -- two byte streams, after n zeros: the zeros between go to the unit before them
 zeros-join : (n k : ℕ) (t : List ℕ) → zeros n ++ (zeros k ++ t) ≡ zeros (n + k) ++ t
@@ -115,14 +115,14 @@ unfolding streamOf each
 stream-size u us = let l = length-append (startCode ++ u) (streamOf us) in omega arith
 
 -- 32
-abbrev unitVerdict : ℕ → List ℕ → Verdict
-unitVerdict p u = (unitNotStreamable if not (isStreamable u)) atPlace p
+abbrev oneVerdict : ℕ → List ℕ → Verdict
+oneVerdict p u = (unitNotStreamable if not (isStreamable u)) atPlace p
 
 verdict-none : (p : ℕ) → streamVerdict p [] ≡ ok tt
 unfolding streamVerdict
 verdict-none p = refl
 
-verdict-step : (p : ℕ) (u : List ℕ) (us : List (List ℕ)) → streamVerdict p (u ∷ us) ≡ (unitVerdict p u andThen streamVerdict (p + (4 + length u)) us)
+verdict-step : (p : ℕ) (u : List ℕ) (us : List (List ℕ)) → streamVerdict p (u ∷ us) ≡ (oneVerdict p u andThen streamVerdict (p + (4 + length u)) us)
 unfolding streamVerdict
 verdict-step p u us = refl
 
@@ -131,13 +131,13 @@ verdict-append p [] vs = unfold streamVerdict in unfold streamOf in unfold each 
 verdict-append p (u ∷ us) vs =
     let below = verdict-append (p + (4 + length u)) us vs in
     let q : p + (4 + length u) + length (streamOf us) ≡ p + length (streamOf (u ∷ us)) = let l = stream-size u us in omega arith in
-    verdict-step p u (us ++ vs) ∙ ap (λ (v : Verdict). unitVerdict p u andThen v) (below ∙ ap (λ (r : ℕ). streamVerdict (p + (4 + length u)) us andThen streamVerdict r vs) q)
-    ∙ sym (and-assoc (unitVerdict p u) (streamVerdict (p + (4 + length u)) us) _) ∙ ap (λ (v : Verdict). v andThen streamVerdict (p + length (streamOf (u ∷ us))) vs) (sym (verdict-step p u us))
+    verdict-step p u (us ++ vs) ∙ ap (λ (v : Verdict). oneVerdict p u andThen v) (below ∙ ap (λ (r : ℕ). streamVerdict (p + (4 + length u)) us andThen streamVerdict r vs) q)
+    ∙ sym (and-assoc (oneVerdict p u) (streamVerdict (p + (4 + length u)) us) _) ∙ ap (λ (v : Verdict). v andThen streamVerdict (p + length (streamOf (u ∷ us))) vs) (sym (verdict-step p u us))
 
 pub verdict-ok : (p : ℕ) (us : List (List ℕ)) → streamVerdict p us ≡ ok tt → AllStreamable us
 verdict-ok p [] e u m = absurd (List·Memᴰ·not-nil m)
 verdict-ok p (w ∷ us) e u m =
-    let a = and-ok (unitVerdict p w) (streamVerdict (p + (4 + length w)) us) (sym (verdict-step p w us) ∙ e) in
+    let a = and-ok (oneVerdict p w) (streamVerdict (p + (4 + length w)) us) (sym (verdict-step p w us) ∙ e) in
     let below = verdict-ok (p + (4 + length w)) us (a .1) u in
     ⊎-elim
     (λ g. rw g (streamable-from w (not-false (isStreamable w) (if-none 31 _ (at-ok _ p (a .0))))))
@@ -168,7 +168,7 @@ pub record FirstBad (us : List (List ℕ)) (p q : ℕ) : Type 0 where
 pub verdict-first : (p : ℕ) (us : List (List ℕ)) {n q : ℕ} → streamVerdict p us ≡ refused n q → (n ≡ unitNotStreamable) × FirstBad us p q
 verdict-first p [] e = ok-refused (sym e ∙ verdict-none p)
 verdict-first p (u ∷ us) {n} {q} e =
-    let f : (unitVerdict p u andThen streamVerdict (p + (4 + length u)) us) ≡ refused n q = sym (verdict-step p u us) ∙ e in
+    let f : (oneVerdict p u andThen streamVerdict (p + (4 + length u)) us) ≡ refused n q = sym (verdict-step p u us) ∙ e in
     let below : streamVerdict (p + (4 + length u)) us ≡ refused n q → (n ≡ unitNotStreamable) × FirstBad us (p + (4 + length u)) q = λ g. verdict-first (p + (4 + length u)) us g in
     by-bool (isStreamable u)
     (λ t.

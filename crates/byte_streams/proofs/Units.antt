@@ -1,6 +1,8 @@
 -- The test `isStreamable` and the facts `Streamable` say the same. Assumes nothing.
 --
 --   ends-tail, ends-from, ends-to    `endsInZero`: of what follows a byte; and as a fact, both ways
+--   or-right                         a test or another that holds
+--   three-from                       `isForbidden` as facts
 --   forbidden-tail                   what a list holds, it holds with a byte before it too
 --   forbidden-from, forbidden-to     `holdsForbidden` as a fact, both ways
 --   streamable-from, streamable-to   `isStreamable` and Streamable, both ways
@@ -39,7 +41,7 @@ ends-to (suc x ∷ []) h = refl
 ends-to (x ∷ y ∷ u) h = ends-to (y ∷ u) (λ a e. h (x ∷ a) (ap (λ l. x ∷ l) e))
 
 -- what it holds
-or-right : (a b : Bool) → b ≡ true → (a || b) ≡ true
+pub or-right : (a b : Bool) → b ≡ true → (a || b) ≡ true
 or-right true b e = refl
 or-right false b e = e
 
@@ -56,7 +58,7 @@ forbidden-found (y ∷ a) b x h = forbidden-tail y (a ++ (0 ∷ 0 ∷ x ∷ b)) 
 pub forbidden-from : (u : List ℕ) → holdsForbidden u ≡ false → (a b : List ℕ) (x : ℕ) → u ≡ a ++ (0 ∷ 0 ∷ x ∷ b) → x ≤ 2 → ⊥
 forbidden-from u f a b x e h = true-false (holdsForbidden u) (ap holdsForbidden e ∙ forbidden-found a b x h) f
 
-three-from : (x y z : ℕ) → isForbidden x y z ≡ true → (x ≡ 0) × (y ≡ 0) × (z ≤ 2)
+pub three-from : (x y z : ℕ) → isForbidden x y z ≡ true → (x ≡ 0) × (y ≡ 0) × (z ≤ 2)
 three-from x y z e =
     let a = and-both _ _ e in
     let b = and-both _ _ (a .1) in

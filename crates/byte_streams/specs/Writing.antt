@@ -1,6 +1,6 @@
 -- Units written as a byte stream (02, [2]): each after 00 00 00 01; or 32 of the first unit that can stand in no byte stream.
 --
---   startCode            00 00 00 01
+--   startCode            00 00 00 01, a start code of four bytes; where one is read, its last three
 --   endsInZero u         whether u ends in 00
 --   isForbidden x y z    whether three bytes are 00 00 00, 00 00 01 or 00 00 02
 --   holdsForbidden u     whether such three stand in u; 00 00 03 may

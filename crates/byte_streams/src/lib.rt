@@ -1,46 +1,67 @@
-// Which units can stand in a byte stream.
+// Which units can stand in a byte stream, and where they stop in one.
 ghost use mathlib.Core.Path.{_≡_};
-ghost use Prim.Native.Nat.{_+_, _≤_};
-ghost use lib.ListN.{length};
 ghost use Rattle.byte_streams.specs.Writing.{isStreamable};
-ghost use Rattle.byte_streams.specs.Places.{forbiddenAt};
+ghost use Rattle.byte_streams.specs.Places.{unitStop, zerosEnd};
 
-// Whether 00 00 00, 00 00 01 or 00 00 02 stands at a place.
-fn is_forbidden(u: &[u8], i: usize) -> bool
-    requires { ⌜ i + 3 ≤ length (now u) ⌝ }
-    ensures { λ r. ⌜ r ≡ forbiddenAt (now (u .entry)) i ⌝ }
+// Where a unit stops that starts at a place: where 00 00 00, 00 00 01 or 00 00 02 next stands, or the zeros at the end start.
+pub fn unit_stop(s: &[u8], from: usize) -> usize
+    ensures { λ r. ⌜ r ≡ unitStop (now (s .entry)) from ⌝ }
 {
-    if u[i] != 0 {
-        return false;
+    let n = s.len();
+    if n <= from {
+        return from;
     }
-    if u[i + 1] != 0 {
-        return false;
+    let mut i = from;
+    while 2 < n - i {
+        // none of them stands at i, i + 1 or i + 2 where the third byte is above 02, at i or i + 1 where the second is above 00
+        if 2 < s[i + 2] {
+            i += 3;
+        } else {
+            if s[i + 1] != 0 {
+                i += 2;
+            } else {
+                if s[i] == 0 {
+                    return i;
+                }
+                i += 1;
+            }
+        }
     }
-    u[i + 2] <= 2
+    // at most two bytes are left
+    if n <= i {
+        return i;
+    }
+    if s[n - 1] != 0 {
+        return n;
+    }
+    if 1 < n - i {
+        if s[i] != 0 {
+            return i + 1;
+        }
+    }
+    i
+}
+
+// Where the zeros end that start at a place.
+pub fn zeros_end(s: &[u8], from: usize) -> usize
+    ensures { λ r. ⌜ r ≡ zerosEnd (now (s .entry)) from ⌝ }
+{
+    let mut p = from;
+    while p < s.len() {
+        if s[p] != 0 {
+            return p;
+        }
+        p += 1;
+    }
+    p
 }
 
 // Whether a unit can stand in a byte stream: it is not empty, does not end in 00, and holds none of 00 00 00, 00 00 01, 00 00 02.
 pub fn is_streamable(u: &[u8]) -> bool
     ensures { λ r. ⌜ r ≡ isStreamable (now (u .entry)) ⌝ }
 {
-    let n = u.len();
-    if n == 0 {
+    if u.len() == 0 {
         return false;
     }
-    if u[n - 1] == 0 {
-        return false;
-    }
-    let mut i: usize = 0;
-    while 2 < n - i {
-        // a byte above 02 stands in none of them: they are looked for after it
-        if 2 < u[i + 2] {
-            i += 3;
-        } else {
-            if is_forbidden(u, i) {
-                return false;
-            }
-            i += 1;
-        }
-    }
-    true
+    unit_stop(u, 0) == u.len()
 }

@@ -74,8 +74,12 @@ pub const FIELDS_FIT_NO_RECORD: u8 = 31;
 // a byte stream
 pub const UNIT_NOT_STREAMABLE: u8 = 32;
 
+pub const BAD_BYTE_STREAM: u8 = 33;
+
+pub const UNIT_EXCEEDS_LENGTH_SIZE: u8 = 34;
+
 // How many there are.
-pub const COUNT: usize = 32;
+pub const COUNT: usize = 34;
 
 // All of them, in order.
 pub fn table() -> [u8; COUNT]
@@ -114,6 +118,8 @@ pub fn table() -> [u8; COUNT]
         NO_SUCH_NUMBER,
         FIELDS_FIT_NO_RECORD,
         UNIT_NOT_STREAMABLE,
+        BAD_BYTE_STREAM,
+        UNIT_EXCEEDS_LENGTH_SIZE,
     ]
 }
 

@@ -41,12 +41,12 @@ by-kind kind f g = by-bool (kind ≡? 0)
     (λ u. f Svc (inr (eqb-true _ _ u, refl)))
     (λ u. g (eqb-false _ _ t) (eqb-false _ _ u)))
 
-size-known : (z : LengthSize) → lengthSizeOf (inBytes z) ≡ sizes.Known z
+pub size-known : (z : LengthSize) → lengthSizeOf (inBytes z) ≡ sizes.Known z
 size-known One = refl
 size-known Two = refl
 size-known Four = refl
 
-by-size : {G : Type 0} (l : ℕ) → ((z : LengthSize) → inBytes z ≡ l → G) → ((l ∈ (1 ∷ 2 ∷ 4 ∷ []) → ⊥) → lengthSizeOf l ≡ sizes.Unknown → G) → G
+pub by-size : {G : Type 0} (l : ℕ) → ((z : LengthSize) → inBytes z ≡ l → G) → ((l ∈ (1 ∷ 2 ∷ 4 ∷ []) → ⊥) → lengthSizeOf l ≡ sizes.Unknown → G) → G
 by-size l f g = by-bool (l ≡? 1)
     (λ t. f One (sym (eqb-true _ _ t)))
     (λ t. by-bool (l ≡? 2)

@@ -22,4 +22,5 @@ pub mod ContentLaws
 pub mod StandLaws
 pub mod NamedLaws
 pub mod StreamLaws
+pub mod FromStreamLaws
 pub mod Cited

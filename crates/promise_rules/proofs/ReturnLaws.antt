@@ -2,13 +2,13 @@
 use Prim.Native.Nat.{ℕ, suc, _≤_}
 use mathlib.Core.Path.{_≡_, refl, sym, _∙_, subst}
 use mathlib.Core.Bool.{true}
-use mathlib.Core.List.{List, [], _∷_, _++_, map, Memᴰ·append-left, Memᴰ·append-right, List·Memᴰ·not-nil, List·Memᴰ·cases-cons}
+use mathlib.Core.List.{List, [], _∷_, _++_, map, Memᴰ·append-left, Memᴰ·append-right, List·Memᴰ·not-nil, List·Memᴰ·cases-cons, List·Memᴰ·eq-of-singleton}
 use mathlib.Core.Logic.{_⊎_, inl, inr, ⊎-elim}
 use native.Mathlib.Omega.{arith}
 use lib.ListN.{length, getD, drop}
 use Rattle.words.specs.Tests.{_<?_, _≡?_}
 use Rattle.words.specs.Refusals.{Answer, refused, ok, Verdict}
-use Rattle.words.specs.RefusalNumbers.{fieldsFitNoRecord, unitNotStreamable, recordRefusals, bundleRefusals, formRefusals, extractorRefusals, sampleRefusals, refusalNumbers}
+use Rattle.words.specs.RefusalNumbers.{fieldsFitNoRecord, recordRefusals, bundleRefusals, formRefusals, extractorRefusals, sampleRefusals, refusalNumbers}
 use Rattle.words.specs.Lists.{_∈_, some}
 use Rattle.words.specs.Bytes.{Bytes, part}
 use Rattle.words.specs.Buffers.{within, leaves, overwrite, Wrote}
@@ -43,11 +43,12 @@ use Rattle.promise_rules.specs.BundleFaults.{BundleRefused}
 use Rattle.promise_rules.specs.Refused.{CheckRefused, ExtractorFault, SampleRefused, ResolveRefused, UnitRefused, NamesRefused, AuditRefused}
 use Rattle.promise_rules.specs.Returns.{OutputAnswer, VerdictAnswer, OutputGiven, NumbersGiven, VerdictGiven, PartGiven, TallyGiven, ValuesGiven}
 use Rattle.promise_rules.specs.Contents.{NumberRefused, UnitsRefused, NamedRefused}
-use Rattle.promise_rules.specs.Streams.{StreamRefused}
+use Rattle.promise_rules.specs.Streams.{StreamRefused, FromStreamRefused}
 use Rattle.promise_rules.proofs.ContentLaws as contents
 use Rattle.promise_rules.proofs.StandLaws.{units-refused}
 use Rattle.promise_rules.proofs.NamedLaws.{named-refused}
 use Rattle.promise_rules.proofs.StreamLaws.{stream-refused}
+use Rattle.promise_rules.proofs.FromStreamLaws.{fault-place, from-stream-refused}
 use Rattle.promise_rules.proofs.RecordLaws as records
 use Rattle.promise_rules.proofs.SampleFaultLaws.{by-form}
 use Rattle.promise_rules.proofs.BundleFaultLaws.{by-bundle}
@@ -104,6 +105,16 @@ stream-number b g (StreamRefused.number r e h) = in-table 30 refl
 stream-number b g (StreamRefused.sample r e w) = sample-number w
 stream-number b g (StreamRefused.unit r us u vs e w h z) = in-table 32 refl
 stream-number b g (StreamRefused.room r us e w h l) = in-table 29 refl
+
+from-stream-number : {n : ℕ} {s : List ℕ} {room m p : ℕ} → FromStreamRefused n s room m p → m ∈ refusalNumbers
+unfolding some
+from-stream-number (FromStreamRefused.size h) = in-table 11 refl
+from-stream-number {n} {s} (FromStreamRefused.fault {m} {p} i f) = number (fault-place n s m p (f .fault) .0)
+  where
+    number : (m ≡ 33) ⊎ (m ≡ 34) → m ∈ refusalNumbers
+    number (inl e) = subst (λ (k : ℕ). k ∈ refusalNumbers) (sym e) (in-table 33 refl)
+    number (inr e) = subst (λ (k : ℕ). k ∈ refusalNumbers) (sym e) (in-table 34 refl)
+from-stream-number (FromStreamRefused.room us w l) = in-table 29 refl
 
 unit-number : (b : List ℕ) → Bytes b → {n k m p : ℕ} → UnitRefused b n k m p → m ∈ refusalNumbers
 unfolding some
@@ -192,7 +203,7 @@ write-by kind ns a c x room (Known k) q {m} {p} e = by-number (numbersFault k ns
     (λ z. write-number (records.write-refused-exactly (fieldsFrom k ns) a c x kind room m p .0 (sym (numbered.write-known kind k ns a c x room q z) ∙ e)))
     (λ n z.
     let w : suc n ∈ (31 ∷ []) = subst (λ (j : ℕ). j ∈ (31 ∷ [])) z (none-or-some (31 ∷ []) (fault-31 k ns) (omega arith)) in
-    subst (λ (j : ℕ). j ∈ refusalNumbers) (refused-same (sym (write-fault kind k ns a c x room n q z) ∙ e) .0) (Memᴰ·append-right bundleRefusals (Memᴰ·append-right sampleRefusals (Memᴰ·append-right (29 ∷ 30 ∷ []) (Memᴰ·append-left (unitNotStreamable ∷ []) w)))))
+    subst (λ (j : ℕ). j ∈ refusalNumbers) (refused-same (sym (write-fault kind k ns a c x room n q z) ∙ e) .0) (subst (λ (j : ℕ). j ∈ refusalNumbers) (sym (List·Memᴰ·eq-of-singleton w)) (in-table 31 refl)))
 write-by kind ns a c x room Unknown q {m} {p} e = subst (λ (j : ℕ). j ∈ refusalNumbers) (refused-same (sym (write-unknown kind ns a c x room q) ∙ e) .0) (in-table 4 refl)
 
 output-number : (o : List ℕ) {a : Answer (List ℕ)} → OutputAnswer o a → (m p : ℕ) → a ≡ refused m p → m ∈ refusalNumbers
@@ -202,6 +213,7 @@ output-number o (OutputAnswer.names b g s) m p e = names-number b g (refusals.na
 output-number o (OutputAnswer.audit b g) m p e = audit-number b g (refusals.audit-refused b g (length o) m p .0 e)
 output-number o (OutputAnswer.units b g n) m p e = units-number b g (units-refused b g n (length o) m p .0 e)
 output-number o (OutputAnswer.stream b g n) m p e = stream-number b g (stream-refused b g n (length o) m p .0 e)
+output-number o (OutputAnswer.fromStream n s) m p e = from-stream-number (from-stream-refused n s (length o) m p .0 e)
 
 verdict-number : {a : Verdict} → VerdictAnswer a → (m p : ℕ) → a ≡ refused m p → m ∈ refusalNumbers
 verdict-number (VerdictAnswer.bundle b) m p e = of-bundle (refusals-within b m p e .number)

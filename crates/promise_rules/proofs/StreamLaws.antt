@@ -275,7 +275,7 @@ module _ (b : List ℕ) (g : Bytes b) where
     )
 
     -- a sample that is given as a byte stream, or is refused with 32, is there
-    there-by :
+    pub there-by :
         {G : Type 0} (room : ℕ) → (streamCall firstLayout b n room ≡ refused 30 0 → ⊥) → (0 < n → n ≤ sampleCount (r .layout) → G) → G
     there-by room h go = by-count (sampleCount (r .layout)) n (λ z. absurd (h (none r accepted n room z))) go
 

@@ -19,6 +19,7 @@ use Rattle.words.specs.RefusalNumbers.{refusalNumbers}
 use Rattle.words.specs.Refusals.{Answer, refused, ok, Verdict}
 use Rattle.words.specs.Lists.{_∈_}
 use Rattle.words.specs.Bytes.{Bytes}
+use Rattle.byte_streams.specs.Reading as reading
 use Rattle.record_numbers.specs.Numbers.{writeNumbers}
 use Rattle.samples.specs.Check.{checkAlone}
 use Rattle.bundles.specs.Bundles.{bundleVerdict}
@@ -38,6 +39,7 @@ pub data OutputAnswer (o : List ℕ) : Answer (List ℕ) → Type 0 where
   audit : (b : List ℕ) → Bytes b → OutputAnswer o (auditCall firstLayout b (length o))
   units : (b : List ℕ) → Bytes b → (n : ℕ) → OutputAnswer o (partsCall firstLayout b n (length o))
   stream : (b : List ℕ) → Bytes b → (n : ℕ) → OutputAnswer o (streamCall firstLayout b n (length o))
+  fromStream : (n : ℕ) (s : List ℕ) → OutputAnswer o (reading.fromStream n s (length o))
 
 pub data VerdictAnswer : Verdict → Type 0 where
   bundle : (b : List ℕ) → VerdictAnswer (bundleVerdict b)

@@ -31,8 +31,8 @@ use Words.*
 -- Demand 1.
 -- That every entry takes any bytes and ends is what `rt check` proves of the code: no public function requires anything. Its
 -- answer is the definition's that its contract cites. `Bytes b` says that b holds numbers below 256, as every lent slice does.
--- A call is refused with a number of the table, at a place, exactly as the cases say. The numbers of the table are 1, 2, .. 32:
-pub table-numbers : refusalNumbers ≡ upto 32
+-- A call is refused with a number of the table, at a place, exactly as the cases say. The numbers of the table are 1, 2, .. 34:
+pub table-numbers : refusalNumbers ≡ upto 34
 unfolding upto
 table-numbers = refl
 

@@ -3,6 +3,7 @@ mod audited;
 mod bundle;
 mod check;
 mod entries;
+mod from_stream;
 mod named;
 mod names;
 mod parts;
@@ -42,6 +43,7 @@ fn answer(buffer: &[u8; 65536], n: usize) {
         15 => parts::answer(fields),
         16 => named::answer(fields),
         17 => resolve::stream(fields),
+        18 => from_stream::answer(fields),
         _ => print::line(b"unknown request"),
     }
 }

@@ -2,15 +2,6 @@
 use crate::print;
 use crate::request;
 use numbers::SampleNumber;
-use numbers::Written;
-
-// What was answered.
-fn print_listed(listed: Written, out: &[u8; 100000]) {
-    match listed {
-        Written::Refused(r) => print::refused(r, out),
-        Written::Count(n) => print::written(out, n),
-    }
-}
 
 pub(crate) fn answer(fields: &[u8]) {
     let b = request::bytes(fields);
@@ -23,5 +14,5 @@ pub(crate) fn answer(fields: &[u8]) {
         return;
     }
     let listed = naming_list::names(b, SampleNumber(n), &mut out[0..room]);
-    print_listed(listed, &out);
+    print::answered(listed, &out);
 }

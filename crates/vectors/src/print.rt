@@ -2,6 +2,7 @@
 use crate::request;
 use libc::STDOUT_FILENO;
 use numbers::Refusal;
+use numbers::Written;
 
 // What a buffer is filled with before it is lent.
 pub(crate) const FILL: u8 = 0xEE;
@@ -91,4 +92,12 @@ pub(crate) fn written(out: &[u8], n: usize) {
     bytes(request::part(out, 0, n));
     changed(out, n);
     end();
+}
+
+// The line of a call that writes to a lent buffer of 100,000 bytes.
+pub(crate) fn answered(answer: Written, out: &[u8; 100000]) {
+    match answer {
+        Written::Refused(r) => refused(r, out),
+        Written::Count(n) => written(out, n),
+    }
 }

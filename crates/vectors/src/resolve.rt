@@ -2,15 +2,6 @@
 use crate::print;
 use crate::request;
 use numbers::SampleNumber;
-use numbers::Written;
-
-// What was answered.
-fn print_resolved(resolved: Written, out: &[u8; 100000]) {
-    match resolved {
-        Written::Refused(r) => print::refused(r, out),
-        Written::Count(n) => print::written(out, n),
-    }
-}
 
 // Each unit after its length, or as a byte stream.
 fn answer(fields: &[u8], as_stream: bool) {
@@ -25,11 +16,11 @@ fn answer(fields: &[u8], as_stream: bool) {
     }
     if as_stream {
         let streamed = resolution::stream(b, SampleNumber(n), &mut out[0..room]);
-        print_resolved(streamed, &out);
+        print::answered(streamed, &out);
         return;
     }
     let resolved = resolution::resolve(b, SampleNumber(n), &mut out[0..room]);
-    print_resolved(resolved, &out);
+    print::answered(resolved, &out);
 }
 
 pub(crate) fn resolve(fields: &[u8]) {

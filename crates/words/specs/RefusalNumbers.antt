@@ -111,9 +111,15 @@ noSuchNumber = 30
 abbrev pub fieldsFitNoRecord : ℕ
 fieldsFitNoRecord = 31
 
--- a byte stream (02, [2])
+-- a byte stream (02, [2] and [3])
 abbrev pub unitNotStreamable : ℕ
 unitNotStreamable = 32
+
+abbrev pub badByteStream : ℕ
+badByteStream = 33
+
+abbrev pub unitExceedsLengthSize : ℕ
+unitExceedsLengthSize = 34
 
 -- The sets, each in number order.
 abbrev pub recordRefusals : List ℕ
@@ -144,4 +150,5 @@ sampleRefusals = formRefusals ++ extractorRefusals
 
 abbrev pub refusalNumbers : List ℕ
 refusalNumbers =
-    bundleRefusals ++ sampleRefusals ++ (outputTooLong ∷ noSuchNumber ∷ fieldsFitNoRecord ∷ unitNotStreamable ∷ [])
+    bundleRefusals ++ sampleRefusals
+    ++ (outputTooLong ∷ noSuchNumber ∷ fieldsFitNoRecord ∷ unitNotStreamable ∷ badByteStream ∷ unitExceedsLengthSize ∷ [])

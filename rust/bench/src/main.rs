@@ -1,5 +1,5 @@
 //! Audits one bundle with the library and the peer in turn: `bench [ROUNDS]`. Other calls: `bench contents [ROUNDS]`,
-//! `bench streams [ROUNDS]`.
+//! `bench streams [ROUNDS]`, `bench unstream [ROUNDS]`.
 //!
 //! 16 MiB with 4,096 samples, then a quarter and a sixteenth of both, in four and sixteen times the rounds. The best
 //! of the rounds counts. All answers are compared. The slice for the lines is written to before each call.
@@ -10,6 +10,7 @@
 mod bundle;
 mod contents;
 mod streams;
+mod unstream;
 
 use std::time::{Duration, Instant};
 
@@ -24,11 +25,12 @@ type Times = [Duration; 3];
 
 fn main() {
     let mut words = std::env::args().skip(1).peekable();
-    let others = words.next_if(|word| word == "contents" || word == "streams");
+    let others = words.next_if(|word| ["contents", "streams", "unstream"].contains(&word.as_str()));
     let rounds = words.next().map_or(ROUNDS, |word| word.parse().expect("a number of rounds"));
     match others.as_deref() {
         Some("contents") => contents::run(rounds),
-        Some(_) => streams::run(rounds),
+        Some("streams") => streams::run(rounds),
+        Some(_) => unstream::run(rounds),
         None => audits(rounds),
     }
 }

@@ -88,12 +88,17 @@ fn make(size: usize, samples: usize, unit: usize) -> (Vec<u8>, usize) {
 /// A slice of random bytes that can stand in a byte stream, after its length.
 fn put_unit(bundle: &mut Vec<u8>, length: usize, random: &mut Random) {
     bundle.extend((length as u32).to_be_bytes());
-    bundle.push(0x61);
+    put_random(bundle, length, random);
+}
+
+/// A slice of random bytes, one or more, that can stand in a byte stream.
+pub fn put_random(bytes: &mut Vec<u8>, length: usize, random: &mut Random) {
+    bytes.push(0x61);
     for _ in 1..length {
         let byte = random.below(256) as u8;
         // After two zeros an encoder has 03.
-        bundle.push(if bundle.ends_with(&[0, 0]) { byte.max(3) } else { byte });
+        bytes.push(if bytes.ends_with(&[0, 0]) { byte.max(3) } else { byte });
     }
-    let last = bundle.len() - 1;
-    bundle[last] |= 0x80;
+    let last = bytes.len() - 1;
+    bytes[last] |= 0x80;
 }

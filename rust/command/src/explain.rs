@@ -10,10 +10,11 @@ pub const CALL: Call = Call { name: "explain", help: HELP, operands: 1..=1, flag
 const HELP: &str = "\
 usage: puddockle explain NUMBER
 
-A refusal, 1 to 32, in words: the rule, what it means at the bench, what to do.
+A refusal, 1 to 34, in words: the rule, what it means at the bench, what to do.
 The causes are likely ones, not proved. 1 to 13 stop a whole recording or
 record, 14 to 22 are faults in a sample itself, 23 to 28 in what it borrows,
-29 to 31 in a call, and with 32 a sample cannot be written as a byte stream.
+29 to 31 in a call. With 32 a sample cannot be written as a byte stream, with 33
+and 34 a byte stream cannot be written as a sample.
 
 Status: 0 printed; 2 wrong use.
 ";
@@ -34,7 +35,7 @@ fn run(arguments: &Arguments, out: &mut Output) -> Result<Status, Stop> {
 /// For each refusal, from 1, what it means and what to do: the table 'At the bench' of docs/FORMAT.md. What it says 'as'
 /// another number is said in full.
 #[rustfmt::skip]
-const AT_THE_BENCH: [(&str, &str); 32] = [
+const AT_THE_BENCH: [(&str, &str); 34] = [
     ("The file is over 16 MiB", "Export the recording in parts"),
     ("The file ends too early", "Copy it again from the scope and compare the sizes: the copy may have been broken off"),
     ("It says it has no track, or too many tracks, references or samples", "If the file is a bundle at all, export fewer tracks or a shorter part"),
@@ -45,7 +46,7 @@ const AT_THE_BENCH: [(&str, &str); 32] = [
     ("A track's decoder set-up ends too early", "The record's length is wrong, or its exporter left a set or the trailer half written: export again"),
     ("A decoder set-up is of another version", "Not an avcC or svcC record, or damage: export again"),
     ("Reserved bits of a decoder set-up are wrong", "A real SVC muxer writes them wrong: export with another muxer"),
-    ("Lengths of 3 bytes", "Export with 1, 2 or 4. In a call on one sample: the caller gave a wrong L"),
+    ("Lengths of 3 bytes", "Export with 1, 2 or 4. In a call on one sample or byte stream: the caller gave a wrong L"),
     ("A parameter set is empty, damaged or in the wrong list", "The track cannot be decoded: export again"),
     ("Something follows the decoder set-up", "The record's length is wrong, or a trailer was written for a profile that has none: export again"),
     ("The sample ends inside a length", "The sample was cut, or its track's L is wrong"),
@@ -67,4 +68,6 @@ const AT_THE_BENCH: [(&str, &str); 32] = [
     ("There is no sample, unit, track or reference of that number, or no extractor at that place", "Ask for a number from 1 to the count"),
     ("The fields given make no record", "Nothing was written: look at the list under 'Writing' in docs/FORMAT.md"),
     ("A unit has zeros where a byte stream cannot have them: a decoder could not find its end", "The encoder may not write 00 00 03, or zeros were added after the unit: export again. The sample still resolves, with lengths in place of start codes"),
+    ("The file is no byte stream: something stands before its first start code, a start code has no unit after it, or a unit has zeros that no unit can have", "An MP4 file or a sample with lengths is none: write it as a byte stream first. Else it was cut at a start code, or is damaged: copy again"),
+    ("A unit is too long for the lengths asked for", "The stream may be good: ask for lengths of 2 or 4 bytes"),
 ];

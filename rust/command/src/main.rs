@@ -21,6 +21,7 @@ mod refused;
 mod stream;
 mod tracks;
 mod units;
+mod unstream;
 mod whole_file;
 mod words;
 
@@ -30,14 +31,16 @@ use std::process::ExitCode;
 use arguments::{Arguments, Call};
 use output::{say, Output, Status, Stop};
 
-const CALLS: [Call; 7] =
-    [audit::CALL, names::CALL, units::CALL, stream::CALL, tracks::CALL, record::CALL, explain::CALL];
+const CALLS: [Call; 8] =
+    [audit::CALL, names::CALL, units::CALL, stream::CALL, unstream::CALL, tracks::CALL, record::CALL, explain::CALL];
 
 const HELP: &str = "\
 usage: puddockle audit FILE..             would each sample resolve?
        puddockle names FILE SAMPLE        the extractors that name a sample
        puddockle units FILE SAMPLE        the NAL units that a sample delivers
        puddockle stream FILE              a track as a byte stream, for decoders
+       puddockle unstream FILE --length-size L
+                                          a byte stream as a sample
        puddockle tracks FILE              what is in a recording
        puddockle record FILE --kind KIND  a bare avcC or svcC record in words
        puddockle explain NUMBER           a refusal in words
@@ -46,8 +49,8 @@ A FILE of audit, names, units, stream and tracks is the bundle of a recording;
 - is standard input. puddockle CALL --help says more of a call, puddockle
 --version which version this is.
 
-Status: 0 nothing is refused; 1 a bundle, record or sample is refused; 2 wrong
-use, or a file that cannot be read or written.
+Status: 0 nothing is refused; 1 a bundle, record, sample or byte stream is
+refused; 2 wrong use, or a file that cannot be read or written.
 ";
 
 fn main() -> ExitCode {

@@ -12,7 +12,7 @@ use puddockle::Refusal;
 pub enum Status {
     /// Nothing is refused.
     Held = 0,
-    /// A bundle, record or sample is refused.
+    /// A bundle, record, sample or byte stream is refused.
     Refused = 1,
     /// Wrong use, or a file that cannot be read or written.
     Failed = 2,

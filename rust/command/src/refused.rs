@@ -50,6 +50,6 @@ impl Refused<'_> {
 }
 
 /// A number that was given; of the largest ones it is only known that they are that large.
-fn given(number: u64) -> String {
+pub fn given(number: u64) -> String {
     format!("{number}{}", if number == NUMBER_MOST { " or more" } else { "" })
 }

@@ -280,6 +280,8 @@ fn unit_types() {
     assert_eq!(told, names);
 }
 
+const CALLS: [&str; 8] = ["audit", "names", "units", "stream", "unstream", "tracks", "record", "explain"];
+
 #[test]
 fn help_and_version() {
     prints(&["--version"], 0, &format!("puddockle {}\n", puddockle::VERSION));
@@ -287,7 +289,7 @@ fn help_and_version() {
     assert_eq!((help.status, help.said.as_str()), (Some(0), ""));
     // The width of a terminal.
     assert!(help.text().lines().all(|line| line.len() <= 80));
-    for call in ["audit", "names", "units", "stream", "tracks", "record", "explain"] {
+    for call in CALLS {
         assert!(help.text().contains(&format!("puddockle {call} ")), "{call}");
         for words in [[call, "--help"], [call, "-h"]] {
             let ran = run(words);
@@ -304,19 +306,17 @@ fn man_page() {
     let page = std::fs::read_to_string(root().join("docs/puddockle.1")).unwrap().replace('\\', "");
     assert!(page.contains(&format!("Puddockle {}\"", puddockle::VERSION)));
     let mut options = 0;
-    for call in ["audit", "names", "units", "stream", "tracks", "record", "explain"] {
+    for call in CALLS {
         assert!(page.contains(&format!(".B puddockle {call}\n")) && page.contains(&format!(".B {call}\n")), "{call}");
         let help = run([call, "--help"]);
         for line in help.text().lines().filter(|line| line.trim_start().starts_with('-')) {
             let option = line.split_whitespace().next().unwrap();
-            assert!(
-                page.contains(&format!(".B {option}")) || page.contains(&format!(".BI {option} ")),
-                "{call} {option}"
-            );
+            let entries = [format!(".TP\n.B {option}"), format!(".TP\n.BI {option} ")];
+            assert!(entries.iter().any(|entry| page.contains(entry)), "{call} {option}");
             options += 1;
         }
     }
-    assert_eq!(options, 16);
+    assert_eq!(options, 19);
 }
 
 /// Wrong use: a message, nothing printed, status 2.
@@ -355,12 +355,22 @@ fn wrong_use() {
         &["stream", bench, "--track", "1", "--sample", "1"],
         &["stream", bench, "--track", "1", "--force"],
         &["stream", bench, "--track", "1", "--json"],
+        &["unstream", bench],
+        &["unstream", "--length-size", "4"],
+        &["unstream", bench, bench, "--length-size", "4"],
+        &["unstream", bench, "--length-size"],
+        &["unstream", bench, "--length-size="],
+        &["unstream", bench, "--length-size", "-4"],
+        &["unstream", bench, "--length-size", "4x"],
+        &["unstream", bench, "--length-size", "4", "--length-size=4"],
+        &["unstream", bench, "--length-size", "4", "--force"],
+        &["unstream", bench, "--length-size", "4", "--json"],
         &["tracks"],
         &["tracks", bench, bench],
         &["tracks", "--json=yes", bench],
         &["explain"],
         &["explain", "0"],
-        &["explain", "33"],
+        &["explain", "35"],
         &["explain", "18446744073709551616"],
         &["explain", "4294967297"],
         &["explain", "--json", "1"],

@@ -23,6 +23,7 @@ fn what_cannot_be_read() {
         &["names", "FILE", "1"][..],
         &["units", "FILE", "1"],
         &["stream", "FILE"],
+        &["unstream", "FILE", "--length-size", "4"],
         &["tracks", "FILE"],
         &["record", "FILE", "--kind", "avc"],
     ] {
@@ -110,6 +111,7 @@ fn output_that_cannot_be_written() {
         "audit --json examples/damaged.bin",
         "units examples/bench.bin 2 -o -",
         "stream examples/bench.bin --track 2",
+        "stream examples/bench.bin --track 2 | $P unstream - --length-size 4",
         "tracks examples/bench.bin",
         "--help",
         "explain 1",

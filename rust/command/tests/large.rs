@@ -86,6 +86,66 @@ fn long_stream() {
     assert_eq!(folder.names(), ["b.bin"]);
 }
 
+/// Byte streams of 16 MiB, read whole and in short time: zeros; the units that make the longest sample; one unit; many
+/// zeros after each unit.
+#[test]
+fn sixteen_mebibytes_from_a_stream() {
+    const SIZE: usize = 1 << 24;
+    let folder = Folder::new();
+    let reads = |stream: &[u8], length_size: usize| -> Ran {
+        folder.file("stream", stream);
+        let start = Instant::now();
+        let ran = shell(&format!("$P unstream stream --length-size {length_size} -o out --force"), &folder.0);
+        assert!(start.elapsed() < Duration::from_secs(20), "{:?}", start.elapsed());
+        ran
+    };
+    let gives = |stream: &[u8], length_size: usize, sample: &[u8]| {
+        let ran = reads(stream, length_size);
+        assert_eq!((ran.status, ran.text()), (Some(0), ""), "{}", ran.said);
+        assert!(std::fs::read(folder.0.join("out")).unwrap() == sample, "{length_size}");
+    };
+    gives(&vec![0; SIZE], 1, &[]);
+    for length_size in [1, 2, 4] {
+        let unit = [&[0; 3][4 - length_size..], &[1, 0x65]].concat();
+        gives(&[0, 0, 1, 0x65].repeat(SIZE / 4), length_size, &unit.repeat(SIZE / 4));
+    }
+    let unit = vec![0x65; SIZE - 3];
+    let one = [&[0, 0, 1], &unit[..]].concat();
+    gives(&one, 4, &[&(unit.len() as u32).to_be_bytes(), &unit[..]].concat());
+    let zeros = [&[0, 0, 1, 0x65, 9][..], &[0; 4091]].concat();
+    gives(&zeros.repeat(SIZE / 4096), 2, &[0, 2, 0x65, 9].repeat(SIZE / 4096));
+    std::fs::remove_file(folder.0.join("out")).unwrap();
+    // Refused: at the first unit, and at the last byte.
+    for (stream, length_size, told) in [
+        (one, 2, "34 at 3"),
+        ([0, 0, 1].repeat(SIZE / 3), 4, "33 at 2"),
+        ([&[0, 0, 1, 0x65].repeat(SIZE / 4 - 1)[..], &[0, 0, 0, 1]].concat(), 4, "33 at 16777215"),
+        ([&[0, 0, 1, 0x65], &vec![0; SIZE - 5][..], &[2]].concat(), 4, "33 at 16777215"),
+        ([&vec![0; SIZE - 1][..], &[9]].concat(), 4, "33 at 16777215"),
+    ] {
+        let ran = reads(&stream, length_size);
+        assert_eq!((ran.status, ran.text()), (Some(1), ""));
+        assert!(ran.said.starts_with(&format!("puddockle: stream: byte stream refused {told} - ")), "{}", ran.said);
+    }
+    assert_eq!(folder.names(), ["stream"]);
+}
+
+/// A stream longer than the command reads, also one without an end; and in too little memory a message.
+#[test]
+fn streams_too_long() {
+    let folder = Folder::new();
+    let ran = shell("$P unstream /dev/zero --length-size 4 -o out", &folder.0);
+    fails(ran, "/dev/zero: longer than 1073741824 bytes");
+    let file = std::fs::File::create(folder.0.join("stream")).unwrap();
+    file.set_len(1 << 30).unwrap();
+    let ran = shell("ulimit -v 46000; $P unstream stream --length-size 4 -o out", &folder.0);
+    fails(ran, "stream: cannot be read: ");
+    file.set_len(1 << 24).unwrap();
+    let ran = shell("ulimit -v 46000; $P unstream stream --length-size 4 -o out", &folder.0);
+    fails(ran, "stream: no memory for the sample, 20971520 bytes");
+    assert_eq!(folder.names(), ["stream"]);
+}
+
 /// 4,096 refused samples, each slow to go over: what hangs on them is listed up to a time, and the cut is told.
 #[test]
 fn many_refused() {

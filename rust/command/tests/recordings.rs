@@ -3,21 +3,10 @@
 mod common;
 
 use std::fs;
-use std::path::{Path, PathBuf};
+use std::path::Path;
 
 use common::*;
 use puddockle::{counts, resolve, unit, SampleNumber, UnitNumber};
-
-fn recordings() -> Vec<PathBuf> {
-    let folders = ["examples", "tests/recordings", "tests/recordings/damaged"];
-    let files = folders.iter().flat_map(|folder| fs::read_dir(root().join(folder)).unwrap());
-    let files =
-        files.map(|entry| entry.unwrap().path()).filter(|path| path.extension().is_some_and(|end| end == "bin"));
-    let mut files: Vec<PathBuf> = files.collect();
-    files.sort();
-    assert!(files.len() > 50, "{}", files.len());
-    files
-}
 
 #[test]
 fn audits() {

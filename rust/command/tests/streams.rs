@@ -3,7 +3,6 @@
 mod common;
 
 use std::fs;
-use std::path::PathBuf;
 
 use common::*;
 use puddockle::{counts, read_record, reference, sample, track, ReferenceNumber, SampleNumber, TrackNumber};
@@ -11,26 +10,6 @@ use puddockle::{counts, read_record, reference, sample, track, ReferenceNumber, 
 /// Units with a start code before each.
 fn stream<U: AsRef<[u8]>>(units: &[U]) -> Vec<u8> {
     units.iter().flat_map(|unit| [&[0, 0, 0, 1], unit.as_ref()].concat()).collect()
-}
-
-/// The units of what `puddockle units -o -` writes, each after its length in 4 bytes.
-fn units_of(mut resolved: &[u8]) -> Vec<Vec<u8>> {
-    let mut units = Vec::new();
-    while let Some((length, rest)) = resolved.split_first_chunk::<4>() {
-        let (unit, rest) = rest.split_at(u32::from_be_bytes(*length) as usize);
-        units.push(unit.to_vec());
-        resolved = rest;
-    }
-    units
-}
-
-fn recordings() -> Vec<PathBuf> {
-    let folders = ["examples", "tests/recordings", "tests/recordings/damaged"];
-    let files = folders.iter().flat_map(|folder| fs::read_dir(root().join(folder)).unwrap());
-    let files = files.map(|entry| entry.unwrap().path());
-    let mut files: Vec<PathBuf> = files.filter(|path| path.extension().is_some_and(|end| end == "bin")).collect();
-    files.sort();
-    files
 }
 
 /// Every track of every accepted recording: the units of its samples in order, and of those left out the line of X.out.

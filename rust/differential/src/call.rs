@@ -7,11 +7,13 @@ use peer::record_writer::LentSets;
 use puddockle::raw::*;
 
 use crate::buffer::{self, UNSET};
+use crate::byte_streams;
 use crate::contents;
 use crate::make::fields::MadeFields;
 
 /// A call of the C interface with all its arguments. `room` is the length of the slice lent for the output,
-/// in numbers for `ReadRecord` and `Units`, else in bytes.
+/// in numbers for `ReadRecord` and `Units`, else in bytes. `ReadBack` is `stream` and then `from_stream`, of a sample
+/// whose stream is written and has `length` bytes.
 pub enum Call<'a> {
     ReadRecord { kind: u32, record: &'a [u8], room: usize },
     WriteRecord { kind: u32, fields: &'a MadeFields, room: usize },
@@ -19,6 +21,8 @@ pub enum Call<'a> {
     CheckBundle { bundle: &'a [u8] },
     Resolve { bundle: &'a [u8], sample: u64, room: usize },
     Stream { bundle: &'a [u8], sample: u64, room: usize },
+    FromStream { length_size: u32, stream: &'a [u8], room: usize },
+    ReadBack { length_size: u32, bundle: &'a [u8], sample: u64, length: usize },
     Unit { bundle: &'a [u8], sample: u64, unit: u64 },
     Names { bundle: &'a [u8], sample: u64, room: usize },
     Audit { bundle: &'a [u8], room: usize },
@@ -70,6 +74,10 @@ impl Call<'_> {
             Call::CheckBundle { bundle } => check_bundle(bundle),
             Call::Resolve { bundle, sample, room } => resolve(bundle, sample, room),
             Call::Stream { bundle, sample, room } => stream(bundle, sample, room),
+            Call::FromStream { length_size, stream, room } => byte_streams::from_stream(length_size, stream, room),
+            Call::ReadBack { length_size, bundle, sample, length } => {
+                byte_streams::read_back(length_size, bundle, sample, length)
+            }
             Call::Unit { bundle, sample, unit } => one_unit(bundle, sample, unit),
             Call::Names { bundle, sample, room } => names(bundle, sample, room),
             Call::Audit { bundle, room } => audit(bundle, room),

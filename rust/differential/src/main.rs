@@ -4,9 +4,11 @@
 //! at the first differences, or if a number was not reached by a call that can give it.
 
 mod buffer;
+mod byte_streams;
 mod call;
 mod contents;
 mod fixed;
+mod fixed_streams;
 mod make;
 mod places;
 mod random;
@@ -87,6 +89,7 @@ impl Run {
                 self.ask(Call::Stream { bundle, sample, room });
             }
         }
+        self.fixed_streams();
         for (index, bundle) in fixed::longest().iter().enumerate() {
             self.whence = format!("longest bundle {index}");
             self.ask(Call::CheckBundle { bundle });
@@ -95,6 +98,9 @@ impl Run {
             self.ask(Call::Resolve { bundle, sample: 1, room: 100 });
             self.ask(Call::Stream { bundle, sample: 1, room: bundle.len() });
             self.ask(Call::Stream { bundle, sample: 1, room: 100 });
+            // With L = 4 a plain sample resolves to itself.
+            let length = peer::calls::sample(bundle, 1).values[3] as usize;
+            rounds::stream_back(bundle, 1, length, &mut |call| self.ask(call));
             self.ask(Call::Unit { bundle, sample: 1, unit: 1 });
             self.ask(Call::Names { bundle, sample: 1, room: 0 });
             self.ask(Call::Counts { bundle });
@@ -120,6 +126,28 @@ impl Run {
             self.whence = format!("fixed sample {sample:02x?}");
             for (kind, length_size) in [(0, 1), (1, 1), (1, 2), (0, 4), (2, 1), (1, 3), (256, 1), (1, 257)] {
                 self.ask(Call::CheckSample { kind, length_size, sample: &sample });
+            }
+        }
+    }
+
+    fn fixed_streams(&mut self) {
+        for streams in [fixed_streams::short(), fixed_streams::at_limits()] {
+            for (index, stream) in streams.iter().enumerate() {
+                self.whence = format!("fixed stream {index} of {} bytes", stream.len());
+                rounds::fixed_stream(stream, &mut |call| self.ask(call));
+            }
+        }
+        for (index, stream) in fixed_streams::long().iter().enumerate() {
+            self.whence = format!("long stream {index}");
+            for (length_size, room) in [(4, 5 << 22), (4, 1 << 24), (2, 100), (1, 0)] {
+                self.ask(Call::FromStream { length_size, stream, room });
+            }
+        }
+        for length_size in fixed_streams::LENGTH_SIZES {
+            self.whence = "fixed length size".to_string();
+            for stream in [&[][..], &[0, 0, 0], &[0, 0, 1, 0x65], &[0x65], &[0, 0, 1]] {
+                self.ask(Call::FromStream { length_size, stream, room: 8 });
+                self.ask(Call::FromStream { length_size, stream, room: 0 });
             }
         }
     }

@@ -6,13 +6,15 @@ use crate::call::{Call, Outcome};
 
 /// The calls by name, with the numbers that documents 01 and 02 let each give (0: accepted). Then the numbers of audit lines,
 /// and what accepted records say of their trailer: 0 none, 1 absent, 2 present.
-const CALLS: [(&str, &[(u32, u32)]); 19] = [
+const CALLS: [(&str, &[(u32, u32)]); 21] = [
     ("read_record", &[(0, 0), (4, 4), (8, 13), (29, 29)]),
     ("write_record", &[(0, 0), (4, 4), (29, 29), (31, 31)]),
     ("check_sample", &[(0, 0), (4, 4), (11, 11), (14, 22)]),
     ("check_bundle", &[(0, 13)]),
     ("resolve", &[(0, 30)]),
     ("stream", &[(0, 30), (32, 32)]),
+    ("from_stream", &[(0, 0), (11, 11), (29, 29), (33, 34)]),
+    ("stream read back", &[(0, 0), (34, 34)]),
     ("unit", &[(0, 28), (30, 30)]),
     ("names", &[(0, 13), (29, 30)]),
     ("audit", &[(0, 13), (29, 29)]),
@@ -45,6 +47,8 @@ impl Call<'_> {
             Call::CheckBundle { .. } => "check_bundle",
             Call::Resolve { .. } => "resolve",
             Call::Stream { .. } => "stream",
+            Call::FromStream { .. } => "from_stream",
+            Call::ReadBack { .. } => "stream read back",
             Call::Unit { .. } => "unit",
             Call::Names { .. } => "names",
             Call::Audit { .. } => "audit",

@@ -7,6 +7,7 @@ use crate::make::bundle::make_bundle;
 use crate::make::fields::{make_fields, MadeFields};
 use crate::make::record::make_bytes;
 use crate::make::sample::{make_sample, Manner};
+use crate::make::stream::make_stream;
 use crate::places;
 use crate::random::Random;
 
@@ -22,10 +23,11 @@ fn kind(random: &mut Random) -> u32 {
 
 /// One round of a run.
 pub fn round(random: &mut Random, ask: &mut impl FnMut(Call)) {
-    match random.below(8) {
+    match random.below(9) {
         0 => record_round(random, ask),
         1 => fields_round(random, ask),
         2 => sample_round(random, ask),
+        3 => stream_round(random, ask),
         _ => {
             let bundle = make_bundle(random);
             bundle_round(random, &bundle, ask);
@@ -75,17 +77,50 @@ fn sample_round(random: &mut Random, ask: &mut impl FnMut(Call)) {
     if random.once_in(3) {
         random.damage(&mut sample);
     }
-    let length_size = match random.below(24) {
-        0 => 0,
-        1 => 3,
-        2 => 256 + size as u32,
-        3 => random.next() as u32,
-        _ => size as u32,
-    };
+    let length_size = length_size(random, size as u32);
     ask(Call::CheckSample { kind, length_size, sample: &sample });
     for other in [1, 2, 4] {
         ask(Call::CheckSample { kind: kind & 1, length_size: other, sample: &sample });
     }
+}
+
+/// Mostly this length size, sometimes one that is none or only looks so in fewer bits.
+fn length_size(random: &mut Random, size: u32) -> u32 {
+    match random.below(24) {
+        0 => 0,
+        1 => 3,
+        2 => 256 + size,
+        3 => random.next() as u32,
+        _ => size,
+    }
+}
+
+fn stream_round(random: &mut Random, ask: &mut impl FnMut(Call)) {
+    let stream = make_stream(random);
+    read_stream(random, &stream, ask);
+}
+
+/// A byte stream read with every length size, in exact room, in one byte less, and in another.
+fn read_stream(random: &mut Random, stream: &[u8], ask: &mut impl FnMut(Call)) {
+    for size in [1, 2, 4] {
+        let needed = sample_length(size, stream);
+        let length_size = length_size(random, size);
+        for room in [needed as usize, needed.saturating_sub(1) as usize, room(random, needed)] {
+            ask(Call::FromStream { length_size, stream, room });
+        }
+    }
+}
+
+/// The stream of a sample as the library writes it, read back. Answers the stream as the peer writes it, if it does.
+pub fn stream_back(bundle: &[u8], sample: u64, length: usize, ask: &mut impl FnMut(Call)) -> Option<Vec<u8>> {
+    let mut stream = vec![0; length];
+    if calls::stream_sample(bundle, sample, &mut stream).number != 0 {
+        return None;
+    }
+    for length_size in [1, 2, 4] {
+        ask(Call::ReadBack { length_size, bundle, sample, length });
+    }
+    Some(stream)
 }
 
 /// All calls on a bundle, for random samples, units and rooms.
@@ -99,6 +134,11 @@ fn bundle_round(random: &mut Random, bundle: &[u8], ask: &mut impl FnMut(Call)) 
         let needed = resolved_length(bundle, sample);
         ask(Call::Resolve { bundle, sample, room: room(random, needed) });
         ask(Call::Stream { bundle, sample, room: room(random, needed) });
+        if random.once_in(4) {
+            if let Some(stream) = stream_back(bundle, sample, needed as usize, ask) {
+                read_stream(random, &stream, ask);
+            }
+        }
         let units = unit_count(bundle, sample);
         ask(Call::Unit { bundle, sample, unit: random.near(units) });
     }
@@ -156,6 +196,7 @@ pub fn fixed_round(bundle: &[u8], ask: &mut impl FnMut(Call)) {
             ask(Call::Resolve { bundle, sample, room });
             ask(Call::Stream { bundle, sample, room });
         }
+        stream_back(bundle, sample, needed, ask);
         let needed = names_length(bundle, sample) as usize;
         for room in [needed, needed.saturating_sub(1), needed + 3] {
             ask(Call::Names { bundle, sample, room });
@@ -210,6 +251,22 @@ fn room(random: &mut Random, needed: u64) -> usize {
 /// How long the sample's resolved units are; 0 where it is refused.
 fn resolved_length(bundle: &[u8], sample: u64) -> u64 {
     (1..=unit_count(bundle, sample)).map(|unit| 4 + calls::one_unit(bundle, sample, unit).length).sum()
+}
+
+/// How long the sample is that a byte stream is read into; 0 where it is refused.
+fn sample_length(length_size: u32, stream: &[u8]) -> u64 {
+    let mut out = vec![0; stream.len() + stream.len() / 4];
+    calls::sample_from_stream(length_size, stream, &mut out).count
+}
+
+/// A fixed byte stream: exact room, one byte less, more, with each length size.
+pub fn fixed_stream(stream: &[u8], ask: &mut impl FnMut(Call)) {
+    for length_size in [1, 2, 4] {
+        let needed = sample_length(length_size, stream) as usize;
+        for room in [needed, needed.saturating_sub(1), needed + 3] {
+            ask(Call::FromStream { length_size, stream, room });
+        }
+    }
 }
 
 /// How many units the sample delivers; 0 where it is refused.

@@ -26,6 +26,12 @@ impl Call<'_> {
             Call::Stream { bundle, sample, room } => {
                 format!("bundle {} sample {sample} room {room}", hex(bundle))
             }
+            Call::FromStream { length_size, stream, room } => {
+                format!("length_size {length_size} stream {} room {room}", hex(stream))
+            }
+            Call::ReadBack { length_size, bundle, sample, length } => {
+                format!("length_size {length_size} bundle {} sample {sample} length {length}", hex(bundle))
+            }
             Call::Unit { bundle, sample, unit } => format!("bundle {} sample {sample} unit {unit}", hex(bundle)),
             Call::Names { bundle, sample, room } => {
                 format!("bundle {} sample {sample} room {room}", hex(bundle))

@@ -4,6 +4,7 @@ use crate::audit::{audit, Tally};
 use crate::bundle::Bundle;
 use crate::contents;
 use crate::form;
+use crate::from_stream::from_stream;
 use crate::kind::Kind;
 use crate::length_size::LengthSize;
 use crate::names::{named, names};
@@ -117,6 +118,10 @@ pub fn resolve_sample(bundle: &[u8], sample: u64, out: &mut [u8]) -> Answer {
 
 pub fn stream_sample(bundle: &[u8], sample: u64, out: &mut [u8]) -> Answer {
     answer(stream(bundle, sample, out), counted)
+}
+
+pub fn sample_from_stream(length_size: u32, stream: &[u8], out: &mut [u8]) -> Answer {
+    answer(from_stream(length_size, stream, out), counted)
 }
 
 pub fn one_unit(bundle: &[u8], sample: u64, number: u64) -> Answer {

@@ -1,4 +1,4 @@
-//! An independent implementation of document 01 and of document 02's requests [1] and [2], written from the papers.
+//! An independent implementation of document 01 and of document 02's requests [1] to [3], written from the papers.
 //!
 //! The verified library is compared with it, answer by answer and in speed. Nothing here is shared with the
 //! library. Layouts are those of ISO/IEC 14496-15:2010, 5.2.4.1 and Annexes A and B, and of ISO/IEC 14496-10, Annex B;
@@ -14,6 +14,7 @@
 //! | `extractor`, `link`, `copy` | an extractor, the sample it names, what it copies |
 //! | `deliver`, `resolve` | the units that a sample delivers, written out, as parts, or one of them |
 //! | `stream` | the units that a sample delivers, written as a byte stream |
+//! | `from_stream` | a byte stream read into a sample |
 //! | `names`, `audit`, `program` | the naming list and the sample named, the audit, the program's text |
 //! | `calls` | every call of the C interface, on slices |
 
@@ -28,6 +29,7 @@ pub mod deliver;
 pub mod extractor;
 pub mod form;
 pub mod forms;
+pub mod from_stream;
 pub mod kind;
 pub mod length_size;
 pub mod link;

@@ -1,7 +1,7 @@
 //! Refusals: a number of document 01 or 02 and a place.
 
 /// A no. The place is a byte offset: in the bundle for 1 to 13, in the sample asked for 14 to 28, in the resolved output
-/// for 32, else 0.
+/// for 32, in the byte stream for 33 and 34, else 0.
 #[derive(Clone, Copy, Debug, PartialEq, Eq)]
 pub struct Refusal {
     pub number: u8,
@@ -45,3 +45,5 @@ pub const ROOM: u8 = 29;
 pub const NUMBER: u8 = 30;
 pub const FIELDS: u8 = 31;
 pub const UNIT_NOT_STREAMABLE: u8 = 32;
+pub const BAD_BYTE_STREAM: u8 = 33;
+pub const UNIT_EXCEEDS_LENGTH_SIZE: u8 = 34;

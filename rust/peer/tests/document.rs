@@ -1,4 +1,4 @@
-//! Document 01's own cases: B0, M1 to M12, and the case with times; document 02's requests [1] and [2].
+//! Document 01's own cases: B0, M1 to M12, and the case with times; document 02's requests [1] to [3].
 
 use peer::calls::{self, Answer};
 use peer::program;
@@ -245,6 +245,88 @@ fn byte_stream_refused() {
     let mut out = [0; 64];
     assert_eq!(calls::stream_sample(&b0(), 3, &mut out), refused(30, 0));
     assert_eq!(calls::stream_sample(&b0()[..15], 2, &mut out), refused(2, 11));
+}
+
+/// Request [3]: what a byte stream is read as, in a buffer of `room` bytes, or the refusal.
+fn from_stream(size: u32, stream: &[u8], room: usize) -> Result<Vec<u8>, Answer> {
+    let mut out = vec![0xEE; room];
+    let answer = calls::sample_from_stream(size, stream, &mut out);
+    assert!(out[answer.count as usize..].iter().all(|&byte| byte == 0xEE));
+    match answer.number {
+        0 => Ok(out[..answer.count as usize].to_vec()),
+        _ => Err(answer),
+    }
+}
+
+/// Request [3]: start codes of three and four bytes, zeros before and after units, zeros at a unit's start.
+#[test]
+fn byte_stream_in() {
+    let stream = [0, 0, 0, 0, 0, 1, 0x65, 0, 0, 1, 0, 0, 0x61, 0, 1, 0, 0, 0, 1, 0, 0, 3, 0, 0, 0];
+    let sample = |size: usize| {
+        let length = |length| [&[0; 3][..size - 1], &[length]].concat();
+        [&length(1)[..], &[0x65], &length(5), &[0, 0, 0x61, 0, 1], &length(3), &[0, 0, 3]].concat()
+    };
+    for (size, room) in [(1, 12), (2, 15), (4, 21)] {
+        for less in 0..=3 {
+            assert_eq!(from_stream(size, &stream[..stream.len() - less], 64), Ok(sample(size as usize)));
+        }
+        assert_eq!(from_stream(size, &stream, room), Ok(sample(size as usize)));
+        assert_eq!(from_stream(size, &stream, room - 1), Err(refused(29, 0)));
+        for zeros in 0..9 {
+            assert_eq!(from_stream(size, &[0; 9][..zeros], 0), Ok(Vec::new()));
+        }
+    }
+    for size in [0, 3, 5, 8, 257, u32::MAX] {
+        assert_eq!(from_stream(size, &stream, 64), Err(refused(11, 0)));
+        assert_eq!(from_stream(size, &[0x65], 0), Err(refused(11, 0)));
+    }
+}
+
+/// Request [3]: 33 and 34 with their places, the first of them, and then 29.
+#[test]
+fn byte_stream_in_refused() {
+    let cases: [(&[u8], u64); 14] = [
+        (&[0x65], 0),
+        (&[0, 1, 0x65], 1),
+        (&[0, 0, 0, 2, 0, 0, 1, 0x65], 3),
+        (&[0, 0, 1], 2),
+        (&[0, 0, 0, 1, 0, 0], 3),
+        (&[0, 0, 1, 0, 0, 1, 0x65], 2),
+        (&[0, 0, 1, 0x65, 0, 0, 0, 1], 7),
+        (&[0, 0, 1, 0, 0, 0, 5], 6),
+        (&[0, 0, 1, 0x65, 0, 0, 0, 0, 2], 8),
+        (&[0, 0, 1, 0x65, 0, 0, 2, 0], 6),
+        (&[0, 0, 1, 0, 0, 2], 5),
+        (&[0, 0, 1, 0x65, 0, 0, 2, 0, 0, 1], 6),
+        (&[0, 0, 1, 0x65, 0, 0, 0, 5, 0, 0, 2], 7),
+        (&[0, 0, 1, 0x65, 0, 0, 1, 0, 0, 1, 0x65, 0, 0, 2], 6),
+    ];
+    for (stream, place) in cases {
+        for room in [0, 64] {
+            assert_eq!(from_stream(1, stream, room), Err(refused(33, place)), "{stream:?}");
+        }
+    }
+    for (size, most) in [(1, 255), (2, 65535)] {
+        let stream = |unit: &[u8], after: &[u8]| [&[0, 0, 1, 0x61, 0, 0, 1], unit, after].concat();
+        let (fits, long) = (vec![0x65; most], vec![0x65; most + 1]);
+        let length = |unit: &[u8]| from_stream(size, unit, 1 << 17).map(|sample| sample.len());
+        assert_eq!(length(&stream(&fits, &[0; 5])), Ok(2 * size as usize + 1 + most));
+        assert_eq!(length(&stream(&long, &[])), Err(refused(34, 7)));
+        assert_eq!(length(&stream(&long, &[0, 0, 2])), Err(refused(34, 7)));
+        assert_eq!(length(&stream(&long, &[0, 0, 1])), Err(refused(34, 7)));
+        assert_eq!(length(&stream(&fits, &[0, 0, 2])), Err(refused(34, 7)));
+        assert_eq!(length(&[&[0, 0, 1, 0x61, 0, 0, 2], &stream(&long, &[])[..]].concat()), Err(refused(33, 6)));
+        assert_eq!(from_stream(size, &stream(&long, &[]), 0), Err(refused(34, 7)));
+    }
+}
+
+/// Request [3]: what [2] wrote comes back as the same units.
+#[test]
+fn byte_stream_there_and_back() {
+    let units: [&[u8]; 3] = [&[0x00, 0x00, 0x03, 0x00, 0x65], &[0x61], &[0x00, 0x01]];
+    let stream = second_stream(&units, 64).unwrap();
+    let sample: Vec<u8> = units.iter().flat_map(|unit| [&[unit.len() as u8], *unit].concat()).collect();
+    assert_eq!(from_stream(1, &stream, 64), Ok(sample));
 }
 
 #[test]

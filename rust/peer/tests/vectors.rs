@@ -47,6 +47,10 @@ impl Calls for Peer {
         calls::stream_sample(bundle, sample, out).into()
     }
 
+    fn from_stream(length_size: u32, stream: &[u8], out: &mut [u8]) -> Answer {
+        calls::sample_from_stream(length_size, stream, out).into()
+    }
+
     fn unit(bundle: &[u8], sample: u64, unit: u64) -> Answer {
         calls::one_unit(bundle, sample, unit).into()
     }

@@ -1,6 +1,6 @@
 //! Verified reading of inspection video: decoder configuration records, samples with extractors and aggregators, and
-//! the audit of a whole recording (ISO/IEC 14496-15:2010, 5.2.4.1 and Annexes A and B), and byte streams for decoders
-//! (ISO/IEC 14496-10, Annex B).
+//! the audit of a whole recording (ISO/IEC 14496-15:2010, 5.2.4.1 and Annexes A and B), and byte streams written for
+//! decoders and read into samples (ISO/IEC 14496-10, Annex B).
 //!
 //! The work is done by a static library whose functions are proved; this crate wraps its C interface. It adds no
 //! rules and keeps nothing. Every function takes any bytes whatever. It needs neither the standard library nor a heap:
@@ -8,7 +8,7 @@
 //! without the standard library must have `memcpy` and `memset`, which it calls.
 //!
 //! ```
-//! use puddockle::{audit, counts, resolve, stream, units, Outcome, SampleNumber, LINE, SPAN};
+//! use puddockle::{audit, counts, from_stream, resolve, stream, units, Outcome, SampleNumber, LINE, SPAN};
 //!
 //! // Two tracks, AVC and SVC; sample 1 has one NAL unit, and sample 2 has an extractor that copies it.
 //! let bundle = [
@@ -40,6 +40,11 @@
 //! // And as a byte stream for a decoder, each unit after a start code: as many bytes.
 //! assert_eq!(stream(&bundle, SampleNumber(2), &mut out), Ok(room));
 //! assert_eq!(out, [0, 0, 0, 1, 0x65, 0x88]);
+//!
+//! // Such a stream read into a sample, here with lengths of 1 byte: the unit as it stands in sample 1.
+//! let mut sample = [0; 3];
+//! assert_eq!(from_stream(1, &out, &mut sample), Ok(3));
+//! assert_eq!(sample, bundle[56..59]);
 //!
 //! // A refusal has a number, a place and a text.
 //! let no = resolve(&bundle, SampleNumber(3), &mut out).unwrap_err();
@@ -94,6 +99,7 @@
 
 mod audit;
 mod bundle;
+mod from_stream;
 mod names;
 mod number;
 pub mod raw;
@@ -107,6 +113,7 @@ pub use bundle::{
     check_bundle, counts, reference, sample, track, Counts, Reference, ReferenceNumber, Sample, SampleNumber, Track,
     TrackNumber, BUNDLE_MOST, REFERENCES_MOST, SAMPLES_MOST, TRACKS_MOST,
 };
+pub use from_stream::from_stream;
 pub use names::{named, names, NamesEntry, NamingList, NAMES_ENTRY};
 pub use record::{read_record, write_record, Record, Sets, SetsIter, Trailer};
 pub use refusal::Refusal;

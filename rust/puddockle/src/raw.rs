@@ -114,6 +114,17 @@ extern "C" {
         count: *mut u64,
     ) -> u32;
 
+    /// A byte stream read into a sample.
+    pub fn puddockle_from_stream(
+        length_size: u32,
+        stream: *const u8,
+        stream_len: usize,
+        out: *mut u8,
+        out_len: usize,
+        place: *mut u64,
+        count: *mut u64,
+    ) -> u32;
+
     /// Where the units that a sample delivers lie in the bundle: two numbers a unit.
     pub fn puddockle_units(
         bundle: *const u8,

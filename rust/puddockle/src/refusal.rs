@@ -3,8 +3,9 @@
 use core::error::Error;
 use core::fmt;
 
-/// A no: its number (1 to 32) and its place. The place is an offset in the bundle for 1 to 13, in the sample for 14
-/// to 28, in the resolved output for 32, else 0; for a record alone or a sample alone, 4 and 8 to 13 are at 0.
+/// A no: its number (1 to 34) and its place. The place is an offset in the bundle for 1 to 13, in the sample for 14
+/// to 28, in the resolved output for 32, in the byte stream for 33 and 34, else 0; for a record, a sample or a byte
+/// stream alone, 4 and 8 to 13 are at 0.
 #[derive(Clone, Copy, Debug, PartialEq, Eq)]
 pub struct Refusal {
     /// Which rule was broken first: see [`meaning`](Refusal::meaning).
@@ -57,6 +58,8 @@ impl Refusal {
             30 => "nothing of that number, or no extractor at that place",
             31 => "fields fit no record",
             32 => "a unit cannot stand in a byte stream",
+            33 => "not a byte stream",
+            34 => "unit too long for the length size",
             _ => "unknown refusal",
         }
     }

@@ -51,16 +51,16 @@ fn version() {
     assert!(HEADER.contains(&format!("#define PUDDOCKLE_VERSION \"{VERSION}\"\n")));
 }
 
-/// The refusals are 1 to 32, each once, and each has a meaning of its own here.
+/// The refusals are 1 to 34, each once, and each has a meaning of its own here.
 #[test]
 fn refusals() {
     let numbers: BTreeSet<u64> =
         constants().iter().filter(|(name, _)| name.starts_with("PUDDOCKLE_REFUSED_")).map(|(_, &n)| n).collect();
-    assert_eq!(numbers, (1..=32).collect());
+    assert_eq!(numbers, (1..=34).collect());
     let meaning = |number| Refusal { number, place: 0 }.meaning();
-    let meanings: BTreeSet<&str> = (1..=32).map(meaning).collect();
-    assert_eq!(meanings.len(), 32);
-    assert!(!meanings.contains(meaning(33)) && meaning(0) == meaning(33));
+    let meanings: BTreeSet<&str> = (1..=34).map(meaning).collect();
+    assert_eq!(meanings.len(), 34);
+    assert!(!meanings.contains(meaning(35)) && meaning(0) == meaning(35));
 }
 
 /// A parameter: its name, its type as Rust has it.
@@ -111,6 +111,6 @@ fn rust_parameter(words: &str) -> Parameter {
 fn declarations() {
     let header = functions(HEADER, "\nuint32_t ", c_parameter, ";");
     let raw = functions(RAW, "pub fn ", rust_parameter, " -> u32;");
-    assert_eq!(header.len(), 15);
+    assert_eq!(header.len(), 16);
     assert_eq!(header, raw);
 }

@@ -78,8 +78,8 @@ fn sample_text(bundle: &[u8], number: SampleNumber) -> String {
     format!("{units}\t0\t{count}\t{}", &digest::sha256(&out[..count])[..32])
 }
 
-/// A sample's byte stream is its units, each after a start code; or it is refused as the sample is, or with 32 for a unit
-/// that cannot stand there.
+/// A sample's byte stream is its units, each after a start code, and is read as them; or it is refused as the sample is,
+/// or with 32 for a unit that cannot stand there.
 #[test]
 fn streams() {
     let directory = common::directory("PUDDOCKLE_RECORDINGS", "recordings");
@@ -95,7 +95,10 @@ fn streams() {
                 "{path:?} {number:?}"
             );
             match streamed {
-                Ok(_) => written += 1,
+                Ok(count) => {
+                    comes_back(&out[..count], &resolved[..count]);
+                    written += 1;
+                }
                 Err(no) if no.number == 32 => not_streamable += 1,
                 Err(_) => refused += 1,
             }
@@ -103,6 +106,34 @@ fn streams() {
     }
     println!("{written} streams written, {not_streamable} refused with 32, {refused} refused as the sample is");
     assert!(written > 0 && refused > 0);
+}
+
+/// A byte stream that was written is read as what its sample resolves to, and as the same units with shorter lengths,
+/// unless one is too long for them.
+fn comes_back(stream: &[u8], resolved: &[u8]) {
+    let mut sample = vec![0; stream.len()];
+    assert_eq!(from_stream(4, stream, &mut sample), Ok(resolved.len()));
+    assert!(sample == resolved);
+    for size in [1, 2] {
+        let expected = shorter_lengths(size, resolved);
+        let read = from_stream(size as u32, stream, &mut sample);
+        assert!(read.map(|count| &sample[..count]) == expected.as_deref().map_err(|&no| no));
+    }
+}
+
+/// Resolved output with lengths of `size` bytes, or 34.
+fn shorter_lengths(size: usize, resolved: &[u8]) -> Result<Vec<u8>, Refusal> {
+    let (mut at, mut out) = (0, Vec::new());
+    while let Some((length, rest)) = resolved[at..].split_first_chunk::<4>() {
+        let (unused, kept) = length.split_at(4 - size);
+        let unit = &rest[..u32::from_be_bytes(*length) as usize];
+        if unused.iter().any(|&byte| byte != 0) {
+            return Err(Refusal { number: 34, place: at as u64 + 4 });
+        }
+        out.extend([kept, unit].concat());
+        at += 4 + unit.len();
+    }
+    Ok(out)
 }
 
 /// Resolved output with start codes in place of the lengths, or 32.

@@ -87,6 +87,17 @@ impl Calls for Library {
         answer
     }
 
+    fn from_stream(length_size: u32, stream: &[u8], out: &mut [u8]) -> Answer {
+        let mut answer = Answer { place: UNSET, count: UNSET, ..Answer::default() };
+        let (place, count) = (&mut answer.place, &mut answer.count);
+        // SAFETY: as said above.
+        answer.number = unsafe {
+            let (bytes, size) = (stream.as_ptr(), stream.len());
+            puddockle_from_stream(length_size, bytes, size, out.as_mut_ptr(), out.len(), place, count)
+        };
+        answer
+    }
+
     fn unit(bundle: &[u8], sample: u64, unit: u64) -> Answer {
         let mut answer = Answer { place: UNSET, start: UNSET, length: UNSET, ..Answer::default() };
         let (place, start, length) = (&mut answer.place, &mut answer.start, &mut answer.length);

@@ -75,6 +75,28 @@ pub fn root() -> PathBuf {
     Path::new(env!("CARGO_MANIFEST_DIR")).join("../..").canonicalize().unwrap()
 }
 
+/// The bundles of the example and test recordings.
+pub fn recordings() -> Vec<PathBuf> {
+    let folders = ["examples", "tests/recordings", "tests/recordings/damaged"];
+    let files = folders.iter().flat_map(|folder| fs::read_dir(root().join(folder)).unwrap());
+    let files = files.map(|entry| entry.unwrap().path());
+    let mut files: Vec<PathBuf> = files.filter(|path| path.extension().is_some_and(|end| end == "bin")).collect();
+    files.sort();
+    assert!(files.len() > 50, "{}", files.len());
+    files
+}
+
+/// The units of what `puddockle units -o -` writes, each after its length in 4 bytes.
+pub fn units_of(mut resolved: &[u8]) -> Vec<Vec<u8>> {
+    let mut units = Vec::new();
+    while let Some((length, rest)) = resolved.split_first_chunk::<4>() {
+        let (unit, rest) = rest.split_at(u32::from_be_bytes(*length) as usize);
+        units.push(unit.to_vec());
+        resolved = rest;
+    }
+    units
+}
+
 /// A new folder, removed at the end.
 pub struct Folder(pub PathBuf);
 

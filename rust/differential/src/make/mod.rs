@@ -4,6 +4,7 @@ pub mod bundle;
 pub mod fields;
 pub mod record;
 pub mod sample;
+pub mod stream;
 
 /// The kinds, as numbers.
 pub const AVC: u8 = 0;

@@ -34,6 +34,7 @@ pub trait Calls: Sized {
     fn check_bundle(bundle: &[u8]) -> Answer;
     fn resolve(bundle: &[u8], sample: u64, out: &mut [u8]) -> Answer;
     fn stream(bundle: &[u8], sample: u64, out: &mut [u8]) -> Answer;
+    fn from_stream(length_size: u32, stream: &[u8], out: &mut [u8]) -> Answer;
     fn unit(bundle: &[u8], sample: u64, unit: u64) -> Answer;
     fn names(bundle: &[u8], sample: u64, out: &mut [u8]) -> Answer;
     fn audit(bundle: &[u8], lines: &mut [u8]) -> Answer;
@@ -115,6 +116,11 @@ fn answer<C: Calls>(words: &[&str]) -> String {
         ["stream", bytes, sample, room] => {
             let mut out = vec![CANARY; number(room)];
             let answer = C::stream(&hex(bytes), number(sample), &mut out);
+            written(&answer, &out, "")
+        }
+        ["from_stream", size, bytes, room] => {
+            let mut out = vec![CANARY; number(room)];
+            let answer = C::from_stream(small(size), &hex(bytes), &mut out);
             written(&answer, &out, "")
         }
         ["unit", bytes, sample, unit] => {

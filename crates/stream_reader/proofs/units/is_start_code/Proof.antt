@@ -1,14 +1,14 @@
--- Each return is a case of the test. Assumes nothing.
+-- The tests are those of the definition, in its order. Assumes nothing.
 use borrow.Author.Needs.{needs}
-use borrow.Author.Tests.{eq-eqb, ne-eqb}
-use Rattle.byte_streams.proofs.is_forbidden.Statement.{statement}
-use Rattle.byte_streams.proofs.is_forbidden.Tie as tie
+use Rattle.words.proofs.Tests.{tests}
+use Rattle.stream_reader.proofs.units.is_start_code.Statement.{statement}
+use Rattle.stream_reader.proofs.units.is_start_code.Tie as tie
 
 shared-slice-read-if1 : tie.Need-shared-slice-read-if1
 shared-slice-read-if1 c = search needs
 
 returns : tie.Need-returns
-returns c = rw (ne-eqb _ _ (c .if1 .taken))
+returns c = search tests
 
 add-if2 : tie.Need-add-if2
 add-if2 c = search needs
@@ -17,7 +17,7 @@ shared-slice-read-if2 : tie.Need-shared-slice-read-if2
 shared-slice-read-if2 c = search needs
 
 returns-2 : tie.Need-returns-2
-returns-2 c = rw (eq-eqb _ _ (c .before .before .if1 .left), ne-eqb _ _ (c .if2 .taken))
+returns-2 c = search tests
 
 add-result : tie.Need-add-result
 add-result c = search needs
@@ -26,10 +26,10 @@ shared-slice-read-result : tie.Need-shared-slice-read-result
 shared-slice-read-result c = search needs
 
 returns-3 : tie.Need-returns-3
-returns-3 c = rw (eq-eqb _ _ (c .before .before .before .if1 .left), eq-eqb _ _ (c .before .if2 .left))
+returns-3 c = search tests
 
-pub is-forbidden-spec : {M : Type 1} → statement M
-is-forbidden-spec =
+pub is-start-code-spec : {M : Type 1} → statement M
+is-start-code-spec =
     tie.close
     (tie.spec
     shared-slice-read-if1

@@ -1,0 +1,2 @@
+-- The steps of reading a byte stream by place.
+pub mod Steps
