@@ -146,7 +146,7 @@ void try_from_stream(struct input *in) {
     switch (shape % 3) {
     case 0:
         stream = in->bytes;
-        length = in->left;
+        length = in->left < STREAM_IN_MOST ? in->left : STREAM_IN_MOST;
         break;
     case 1:
         length = few_values(in, built);

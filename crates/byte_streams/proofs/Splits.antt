@@ -1,7 +1,7 @@
 -- A stream split at its start codes, and the zeros at the end of a part: so the units of a stream are found. Assumes nothing.
 --
 --   code-from               what `beginsCode` says
---   cut-code, cut-on        a byte before what is split already
+--   cons-code, cons-on        a byte before what is split already
 --   coded, joined           a part after its start code; parts joined again
 --   split-join              what is split, joined again, is the stream
 --   CodeFree, split-append  a part in which no start code begins is split off whole
@@ -30,7 +30,7 @@ use Rattle.words.specs.Bytes.{byteAt}
 use Rattle.words.proofs.Tests.{by-bool, true-false, and-both}
 use Rattle.byte_streams.specs.Grammar.{zeros}
 use Rattle.byte_streams.specs.Writing.{endsInZero}
-use Rattle.byte_streams.specs.Reading.{beginsCode, Parts, cut, split, closed, strip}
+use Rattle.byte_streams.specs.Reading.{beginsCode, Parts, splitCons, split, stripCons, strip}
 use Rattle.byte_streams.specs.Faults.{NoStartCode, UnitEnds}
 use Rattle.byte_streams.proofs.Units.{ends-tail}
 
@@ -41,37 +41,37 @@ abbrev pub joined : Parts → List ℕ
 joined r = r .before ++ each coded (r .after)
 
 -- what `beginsCode` says
-pub code-from : (x : ℕ) (v : List ℕ) → beginsCode x v ≡ true → (x ≡ 0) × (byteAt v 0 ≡ 0) × (byteAt v 1 ≡ 1)
+code-from : (x : ℕ) (v : List ℕ) → beginsCode x v ≡ true → (x ≡ 0) × (byteAt v 0 ≡ 0) × (byteAt v 1 ≡ 1)
 unfolding beginsCode
 code-from x v e =
     let a = and-both _ _ e in
     let b = and-both _ _ (a .1) in
     (eqb-true x 0 (a .0), eqb-true (byteAt v 0) 0 (b .0), eqb-true (byteAt v 1) 1 (b .1))
 
-pub cut-code : (x : ℕ) (r : Parts) → beginsCode x (r .before) ≡ true → cut x r ≡ record { before = []; after = drop 2 (r .before) ∷ r .after }
-unfolding cut
-cut-code x r e = rw e
+cons-code : (x : ℕ) (r : Parts) → beginsCode x (r .before) ≡ true → splitCons x r ≡ record { before = []; after = drop 2 (r .before) ∷ r .after }
+unfolding splitCons
+cons-code x r e = rw e
 
-pub cut-on : (x : ℕ) (r : Parts) → beginsCode x (r .before) ≡ false → cut x r ≡ record { before = x ∷ r .before; after = r .after }
-unfolding cut
-cut-on x r e = rw e
+cons-on : (x : ℕ) (r : Parts) → beginsCode x (r .before) ≡ false → splitCons x r ≡ record { before = x ∷ r .before; after = r .after }
+unfolding splitCons
+cons-on x r e = rw e
 
-pub begins : (v : List ℕ) → byteAt v 0 ≡ 0 → byteAt v 1 ≡ 1 → v ≡ 0 ∷ 1 ∷ drop 2 v
+begins : (v : List ℕ) → byteAt v 0 ≡ 0 → byteAt v 1 ≡ 1 → v ≡ 0 ∷ 1 ∷ drop 2 v
 begins [] e f = absurd (omega arith)
 begins (x ∷ []) e f = absurd (omega arith)
 begins (x ∷ y ∷ v) e f = ap₂ (λ (a b : ℕ). a ∷ b ∷ v) e f
 
-cut-join : (x : ℕ) (r : Parts) → joined (cut x r) ≡ x ∷ joined r
-cut-join x r = by-bool (beginsCode x (r .before))
+cons-join : (x : ℕ) (r : Parts) → joined (splitCons x r) ≡ x ∷ joined r
+cons-join x r = by-bool (beginsCode x (r .before))
     (λ t.
     let c = code-from x (r .before) t in
-    rw (cut-code x r t) (unfold each in sym (ap₂ (λ (y : ℕ) (l : List ℕ). y ∷ (l ++ each coded (r .after))) (c .0) (begins (r .before) (c .1) (c .2)))))
-    (λ t. rw (cut-on x r t))
+    rw (cons-code x r t) (unfold each in sym (ap₂ (λ (y : ℕ) (l : List ℕ). y ∷ (l ++ each coded (r .after))) (c .0) (begins (r .before) (c .1) (c .2)))))
+    (λ t. rw (cons-on x r t))
 
 pub split-join : (s : List ℕ) → joined (split s) ≡ s
 unfolding split
 split-join [] = unfold each in refl
-split-join (x ∷ s) = cut-join x (split s) ∙ ap (λ l. x ∷ l) (split-join s)
+split-join (x ∷ s) = cons-join x (split s) ∙ ap (λ l. x ∷ l) (split-join s)
 
 -- no start code begins in v
 unfoldable pub CodeFree : List ℕ → Type 0
@@ -81,19 +81,19 @@ CodeFree (x ∷ v) = (beginsCode x v ≡ false) × CodeFree v
 pub split-append : (v c : List ℕ) → CodeFree v → split c .before ≡ [] → split (v ++ c) ≡ record { before = v; after = split c .after }
 unfolding CodeFree split
 split-append [] c h e = rw (← e)
-split-append (x ∷ v) c h e = ap (cut x) (split-append v c (h .1) e) ∙ cut-on x (record { before = v; after = split c .after }) (h .0)
+split-append (x ∷ v) c h e = ap (splitCons x) (split-append v c (h .1) e) ∙ cons-on x (record { before = v; after = split c .after }) (h .0)
 
 pub split-two : (s y : List ℕ) → split y .before ≡ [] → split (s ++ y) ≡ record { before = split s .before; after = split s .after ++ split y .after }
 unfolding split
 split-two [] y e = rw (← e)
 split-two (x ∷ s) y e =
     let below = split-two s y e in
-    ap (cut x) below ∙ by-bool (beginsCode x (split s .before))
-    (λ t. rw (cut-code x (split s) t) (cut-code x (record { before = split s .before; after = split s .after ++ split y .after }) t))
-    (λ t. rw (cut-on x (split s) t) (cut-on x (record { before = split s .before; after = split s .after ++ split y .after }) t))
+    ap (splitCons x) below ∙ by-bool (beginsCode x (split s .before))
+    (λ t. rw (cons-code x (split s) t) (cons-code x (record { before = split s .before; after = split s .after ++ split y .after }) t))
+    (λ t. rw (cons-on x (split s) t) (cons-on x (record { before = split s .before; after = split s .after ++ split y .after }) t))
 
 pub split-code : (s : List ℕ) → split (0 ∷ 0 ∷ 1 ∷ s) ≡ record { before = []; after = split s .before ∷ split s .after }
-unfolding split cut beginsCode
+unfolding split splitCons beginsCode
 split-code s = refl
 
 zeros-at : (n i : ℕ) → byteAt (zeros n) i ≡ 0
@@ -143,16 +143,16 @@ pub record Free (r : Parts) : Type 0 where
   pub before : CodeFree (r .before)
   pub after : AllFree (r .after)
 
-cut-free : (x : ℕ) (r : Parts) → Free r → Free (cut x r)
+cons-free : (x : ℕ) (r : Parts) → Free r → Free (splitCons x r)
 unfolding CodeFree AllFree
-cut-free x r h = by-bool (beginsCode x (r .before))
-    (λ t. rw (cut-code x r t) (record { before = tt; after = (free-drop (r .before) (h .before), h .after) }))
-    (λ t. rw (cut-on x r t) (record { before = (t, h .before); after = h .after }))
+cons-free x r h = by-bool (beginsCode x (r .before))
+    (λ t. rw (cons-code x r t) (record { before = tt; after = (free-drop (r .before) (h .before), h .after) }))
+    (λ t. rw (cons-on x r t) (record { before = (t, h .before); after = h .after }))
 
 pub split-free : (s : List ℕ) → Free (split s)
 unfolding split
 split-free [] = record { before = unfold CodeFree in tt; after = unfold AllFree in tt }
-split-free (x ∷ s) = cut-free x (split s) (split-free s)
+split-free (x ∷ s) = cons-free x (split s) (split-free s)
 
 pub free-none : (v : List ℕ) → CodeFree v → NoStartCode v
 free-none v f a b e = go a b (subst CodeFree e f)
@@ -162,41 +162,41 @@ free-none v f a b e = go a b (subst CodeFree e f)
     go (x ∷ a) b h = go a b (unfold CodeFree in h .1)
 
 -- the zeros at the end
-closed-ends : (x : ℕ) (v : List ℕ) → endsInZero v ≡ false → endsInZero (closed x v) ≡ false
+cons-ends : (x : ℕ) (v : List ℕ) → endsInZero v ≡ false → endsInZero (stripCons x v) ≡ false
 unfolding endsInZero
-closed-ends zero [] h = refl
-closed-ends (suc x) [] h = refl
-closed-ends x (y ∷ v) h = h
+cons-ends zero [] h = refl
+cons-ends (suc x) [] h = refl
+cons-ends x (y ∷ v) h = h
 
 pub strip-ends : (v : List ℕ) → endsInZero (strip v) ≡ false
 unfolding strip
 strip-ends [] = unfold endsInZero in refl
-strip-ends (x ∷ v) = closed-ends x (strip v) (strip-ends v)
+strip-ends (x ∷ v) = cons-ends x (strip v) (strip-ends v)
 
-closed-zeros : (x n : ℕ) (v : List ℕ) → (m : ℕ) × (x ∷ (v ++ zeros n) ≡ closed x v ++ zeros m)
-closed-zeros zero n [] = (suc n, refl)
-closed-zeros (suc x) n [] = (n, refl)
-closed-zeros x n (y ∷ v) = (n, refl)
+cons-zeros : (x n : ℕ) (v : List ℕ) → (m : ℕ) × (x ∷ (v ++ zeros n) ≡ stripCons x v ++ zeros m)
+cons-zeros zero n [] = (suc n, refl)
+cons-zeros (suc x) n [] = (n, refl)
+cons-zeros x n (y ∷ v) = (n, refl)
 
 pub strip-part : (v : List ℕ) → (n : ℕ) × (v ≡ strip v ++ zeros n)
 unfolding strip
 strip-part [] = (0, refl)
 strip-part (x ∷ v) =
     let b = strip-part v in
-    let c = closed-zeros x (b .0) (strip v) in
+    let c = cons-zeros x (b .0) (strip v) in
     (c .0, ap (λ l. x ∷ l) (b .1) ∙ c .1)
 
 none-left : (n : ℕ) → strip (zeros n) ≡ []
 unfolding strip
 none-left zero = refl
-none-left (suc n) = ap (closed 0) (none-left n)
+none-left (suc n) = ap (stripCons 0) (none-left n)
 
 pub strip-zeros : (u : List ℕ) (n : ℕ) → endsInZero u ≡ false → strip (u ++ zeros n) ≡ u
 unfolding strip
 strip-zeros [] n h = none-left n
 strip-zeros (zero ∷ []) n h = true-false (endsInZero (0 ∷ [])) (unfold endsInZero in refl) h
-strip-zeros (suc x ∷ []) n h = ap (closed (suc x)) (none-left n)
-strip-zeros (x ∷ y ∷ u) n h = ap (closed x) (strip-zeros (y ∷ u) n (sym (ends-tail x y u) ∙ h))
+strip-zeros (suc x ∷ []) n h = ap (stripCons (suc x)) (none-left n)
+strip-zeros (x ∷ y ∷ u) n h = ap (stripCons x) (strip-zeros (y ∷ u) n (sym (ends-tail x y u) ∙ h))
 
 -- no start code stands in the unit of a part
 pub free-unit : (v : List ℕ) → CodeFree v → NoStartCode (strip v)
@@ -220,10 +220,10 @@ begins-byte y (z ∷ z' ∷ w) x t = refl
 
 pub split-byte : (w : List ℕ) (x : ℕ) (b : List ℕ) → CodeFree (w ++ (suc x ∷ [])) → split (w ++ (suc x ∷ b)) ≡ record { before = w ++ (suc x ∷ split b .before); after = split b .after }
 unfolding split CodeFree
-split-byte [] x b f = cut-on (suc x) (split b) (unfold beginsCode in rw (ne-eqb (suc x) 0 (λ z. omega arith)))
+split-byte [] x b f = cons-on (suc x) (split b) (unfold beginsCode in rw (ne-eqb (suc x) 0 (λ z. omega arith)))
 split-byte (y ∷ w) x b f =
     let below = split-byte w x b (f .1) in
-    ap (cut y) below ∙ cut-on y (record { before = w ++ (suc x ∷ split b .before); after = split b .after }) (begins-byte y w x (split b .before) ∙ f .0)
+    ap (splitCons y) below ∙ cons-on y (record { before = w ++ (suc x ∷ split b .before); after = split b .after }) (begins-byte y w x (split b .before) ∙ f .0)
 
 pub free-byte : (w : List ℕ) (x : ℕ) → CodeFree w → CodeFree (w ++ (suc (suc x) ∷ []))
 unfolding CodeFree
@@ -237,19 +237,19 @@ free-byte (y ∷ w) x f = (begins y w f, free-byte w x (f .1))
 
 pub strip-byte : (w : List ℕ) (x : ℕ) (t : List ℕ) → strip (w ++ (suc x ∷ t)) ≡ w ++ (suc x ∷ strip t)
 unfolding strip
-strip-byte [] x t = closed-byte x (strip t)
+strip-byte [] x t = cons-byte x (strip t)
   where
-    closed-byte : (x : ℕ) (v : List ℕ) → closed (suc x) v ≡ suc x ∷ v
-    closed-byte x [] = refl
-    closed-byte x (y ∷ v) = refl
-strip-byte (y ∷ w) x t = ap (closed y) (strip-byte w x t) ∙ closed-on y w
+    cons-byte : (x : ℕ) (v : List ℕ) → stripCons (suc x) v ≡ suc x ∷ v
+    cons-byte x [] = refl
+    cons-byte x (y ∷ v) = refl
+strip-byte (y ∷ w) x t = ap (stripCons y) (strip-byte w x t) ∙ cons-kept y w
   where
-    closed-on : (y : ℕ) (w : List ℕ) → closed y (w ++ (suc x ∷ strip t)) ≡ y ∷ (w ++ (suc x ∷ strip t))
-    closed-on y [] = refl
-    closed-on y (z ∷ w) = refl
+    cons-kept : (y : ℕ) (w : List ℕ) → stripCons y (w ++ (suc x ∷ strip t)) ≡ y ∷ (w ++ (suc x ∷ strip t))
+    cons-kept y [] = refl
+    cons-kept y (z ∷ w) = refl
 
 -- what follows a unit and its zeros
-pub ends-clear : {c : List ℕ} → UnitEnds c → split c .before ≡ []
+ends-clear : {c : List ℕ} → UnitEnds c → split c .before ≡ []
 ends-clear UnitEnds.end = unfold split in refl
 ends-clear (UnitEnds.startCode t) = ap (λ (r : Parts). r .before) (split-code t)
 

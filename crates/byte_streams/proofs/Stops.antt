@@ -18,7 +18,7 @@ use mathlib.Core.Logic.{inl, inr}
 use mathlib.Core.List.{List, [], _∷_, _++_, append-assoc, append-nil}
 use native.Mathlib.Omega.{arith}
 use borrow.Author.Tests.{eqb-true, eq-eqb, ne-eqb}
-use lib.ListN.{length, take, drop, length-append, length-take}
+use lib.ListN.{length, take, drop, length-append, length-replicate, length-take}
 use Rattle.words.specs.Tests.{_≡?_}
 use Rattle.words.specs.RefusalNumbers.{badByteStream}
 use Rattle.words.specs.Refusals.{refused, ok}
@@ -30,7 +30,7 @@ use Rattle.byte_streams.specs.Reading.{beginsCode, Parts, split, strip, 
 use Rattle.byte_streams.specs.Faults.{NoStartCode, UnitEnds}
 use Rattle.byte_streams.specs.Places.{clearLength, leadingZeros}
 use Rattle.byte_streams.proofs.Units.{three-from, ends-tail, ends-to, forbidden-from, forbidden-to, streamable-from}
-use Rattle.byte_streams.proofs.Splits.{CodeFree, split-code, code-free, split-byte, free-byte, strip-byte, unit-part}
+use Rattle.byte_streams.proofs.Splits.{CodeFree, split-code, none-in, code-free, split-byte, free-byte, strip-byte, unit-part}
 use Rattle.byte_streams.proofs.Inside.{BadAfter, more-zeros, inside-good, inside-front, inside-run}
 
 -- at the start of a list
@@ -237,10 +237,15 @@ pub code-split :
 code-split u k t f =
     unit-part u k (0 ∷ 0 ∷ 1 ∷ t) (UnitEnds.startCode t) f ∙ ap (λ (r : Parts). record { before = u ++ zeros k; after = r .after }) (split-code t)
 
--- and where 33 is
+-- and where 33 is; the unit goes on with that byte
+byte-unit : (x : ℕ) (t : List ℕ) → strip (split (suc (suc x) ∷ t) .before) ≡ suc (suc x) ∷ strip (split t .before)
+byte-unit x t =
+    ap (λ (r : Parts). strip (r .before)) (split-byte [] (suc x) t (free-byte [] x (code-free [] 0 none-in))) ∙ strip-byte [] (suc x) (split t .before)
+
 pub bad-unit :
     (v : List ℕ) (k x : ℕ) (t : List ℕ) → v ≡ take (clearLength v) v ++ (zeros k ++ (suc (suc x) ∷ t)) → BadAfter k (suc (suc x)) → (p : ℕ) →
-    (insideVerdict 0 p (strip (split v .before)) ≡ refused badByteStream (p + clearLength v + k)) × (length (strip (split v .before)) ≡ 0 → ⊥)
+    (insideVerdict 0 p (strip (split v .before)) ≡ refused badByteStream (p + clearLength v + k))
+    × (length (strip (split v .before)) ≡ clearLength v + k + length (strip (split (suc (suc x) ∷ t) .before)))
 bad-unit v k x t e h p =
     let u = take (clearLength v) v in
     let c = clear-facts v in
@@ -253,10 +258,12 @@ bad-unit v k x t e h p =
     let size : length u ≡ clearLength v = taken v in
     let place : p + length u + k ≡ p + clearLength v + k = omega arith in
     let l = ap length unit ∙ length-append u (zeros k ++ rest) in
-    let m = length-append (zeros k) rest in (
+    let m = length-append (zeros k) rest in
+    let n : length (zeros k) ≡ k = length-replicate k 0 in
+    let on = ap length (byte-unit x t) in (
       ap (insideVerdict 0 p) unit ∙ inside-front p u (zeros k ++ rest) (c .ends) (inside-clear u p c)
           ∙ inside-run (p + length u) k (suc x) (strip (split t .before)) h ∙ ap (refused badByteStream) place,
-      λ z. omega arith,
+      omega arith,
     )
   where
     taken : (v : List ℕ) → length (take (clearLength v) v) ≡ clearLength v

@@ -1,21 +1,16 @@
 -- What the code looks for, by place.
 --
---   startCodeAt s p     whether 00 00 01 stands at p
 --   clearLength v       how many bytes of v stand before the first 00 00 00, 00 00 01 or 00 00 02, as if zeros followed v
---   unitStop s p        so where a unit that starts at p stops
+--   unitStop s p        so where the search for the end of a unit that starts at p stops: at its end, or sooner at zeros that are followed
+--                       by a byte that may not follow them
 --   leadingZeros v      how many zeros v begins with
 --   zerosEnd s p        so where the zeros end that start at p
 use Prim.Native.Nat.{ℕ, zero, suc, _+_}
-use mathlib.Core.Bool.{Bool}
 use mathlib.Core.List.{List, [], _∷_}
 use lib.ListN.{drop}
 use Rattle.words.specs.Tests.{pick}
 use Rattle.words.specs.Bytes.{byteAt}
 use Rattle.byte_streams.specs.Writing.{isForbidden}
-use Rattle.byte_streams.specs.Reading.{isStartCode}
-
-abbrev pub startCodeAt : List ℕ → ℕ → Bool
-startCodeAt s p = isStartCode (byteAt s p) (byteAt s (p + 1)) (byteAt s (p + 2))
 
 -- `byteAt` is 0 past the end
 unfoldable pub clearLength : List ℕ → ℕ

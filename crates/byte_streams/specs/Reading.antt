@@ -2,8 +2,8 @@
 --
 --   isStartCode x y z     whether three bytes are 00 00 01
 --   beginsCode x v        whether x before v begins a start code
---   Parts, split s        what stands before the first start code, and after each one up to the next or the end; by `cut`
---   strip v               v without the zeros at its end: a part's unit; by `closed`
+--   Parts, split s        what stands before the first start code, and after each one up to the next or the end; by `splitCons`
+--   strip v               v without the zeros at its end: a part's unit; by `stripCons`
 --   leadVerdict p v       33 at the first byte above 00 of v, which starts at p
 --   isBadAfter z x        whether x may not follow z zeros in a unit: 02 after two, a byte above 01 after three or more
 --   insideVerdict z p u   33 at the first such byte of u, which starts at p after z zeros
@@ -35,24 +35,24 @@ pub record Parts : Type 0 where
   pub after : List (List ℕ)
 
 -- the byte x before what is split already
-unfoldable pub cut : ℕ → Parts → Parts
-cut x r = pick (beginsCode x (r .before))
+unfoldable pub splitCons : ℕ → Parts → Parts
+splitCons x r = pick (beginsCode x (r .before))
     (record { before = []; after = drop 2 (r .before) ∷ r .after })
     (record { before = x ∷ r .before; after = r .after })
 
 unfoldable pub split : List ℕ → Parts
 split [] = record { before = []; after = [] }
-split (x ∷ s) = cut x (split s)
+split (x ∷ s) = splitCons x (split s)
 
 -- the byte x before what is stripped already
-abbrev pub closed : ℕ → List ℕ → List ℕ
-closed zero [] = []
-closed (suc x) [] = suc x ∷ []
-closed x (y ∷ v) = x ∷ y ∷ v
+abbrev pub stripCons : ℕ → List ℕ → List ℕ
+stripCons zero [] = []
+stripCons (suc x) [] = suc x ∷ []
+stripCons x (y ∷ v) = x ∷ y ∷ v
 
 unfoldable pub strip : List ℕ → List ℕ
 strip [] = []
-strip (x ∷ v) = closed x (strip v)
+strip (x ∷ v) = stripCons x (strip v)
 
 unfoldable pub leadVerdict : ℕ → List ℕ → Verdict
 leadVerdict p [] = ok tt

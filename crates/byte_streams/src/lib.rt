@@ -3,7 +3,8 @@ ghost use mathlib.Core.Path.{_≡_};
 ghost use Rattle.byte_streams.specs.Writing.{isStreamable};
 ghost use Rattle.byte_streams.specs.Places.{unitStop, zerosEnd};
 
-// Where a unit stops that starts at a place: where 00 00 00, 00 00 01 or 00 00 02 next stands, or the zeros at the end start.
+// Where the search for the end of a unit stops that starts at a place: where 00 00 00, 00 00 01 or 00 00 02 next stands, or the zeros at
+// the end start. That is its end, but where a byte follows the zeros that may not: such a unit goes on.
 pub fn unit_stop(s: &[u8], from: usize) -> usize
     ensures { λ r. ⌜ r ≡ unitStop (now (s .entry)) from ⌝ }
 {

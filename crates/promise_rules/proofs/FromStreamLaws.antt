@@ -7,7 +7,7 @@ use mathlib.Core.Logic.{_⊎_, inl, inr, _↔_}
 use native.Mathlib.Omega.{arith}
 use native.Mathlib.Nat.{div-add-mod', mod-lt}
 use borrow.Author.Tests.{ltb-true, ltb-false}
-use lib.ListN.{length, length-append}
+use lib.ListN.{length, length-append, replicate}
 use Rattle.words.specs.Tests.{_<?_}
 use Rattle.words.specs.Refusals.{refused, ok, _andThen_}
 use Rattle.words.specs.Lists.{_∈_, each}
@@ -23,6 +23,7 @@ use Rattle.numbers.specs.declared.LengthSize.{LengthSize}
 use Rattle.numbers.specs.declared.LengthSize.the-variants.{One, Two, Four}
 use Rattle.byte_streams.specs.Grammar.{zeros, StartCoded, ByteStream}
 use Rattle.byte_streams.specs.Writing.{streamOf, toStream}
+use Rattle.byte_streams.specs.Reading.{beginsCode, splitCons, split, strip, leadVerdict, insideVerdict, unitVerdict, partsVerdict, unitsOf}
 use Rattle.byte_streams.specs.Reading.{unitsIn, sampleWith, sampleMade, fromStream}
 use Rattle.byte_streams.specs.Faults.{StreamFault, FirstFault}
 use Rattle.byte_streams.proofs.Units.{no-length}
@@ -286,3 +287,20 @@ room-enough n s us w = by-known n (w .size) (λ z q. go n us (let l = most z in 
         let d = div-add-mod' (length (zeros k ++ t)) 4 in
         let m = mod-lt (length (zeros k ++ t)) {m = 4} (omega arith) in
         (omega arith, λ i. let j = same i in omega arith)
+
+-- by computation
+pub in-bytes :
+    (fromStream 1 (0 ∷ 0 ∷ 0 ∷ 1 ∷ 0x67 ∷ 0 ∷ 0 ∷ 1 ∷ 0x65 ∷ 0x88 ∷ 0 ∷ 0 ∷ []) 5 ≡ ok (1 ∷ 0x67 ∷ 2 ∷ 0x65 ∷ 0x88 ∷ []))
+    × (fromStream 1 (0 ∷ 0 ∷ 1 ∷ 0 ∷ 0 ∷ 5 ∷ 0 ∷ 0 ∷ 3 ∷ 0 ∷ 1 ∷ []) 9 ≡ ok (8 ∷ 0 ∷ 0 ∷ 5 ∷ 0 ∷ 0 ∷ 3 ∷ 0 ∷ 1 ∷ []))
+    × (fromStream 2 (0 ∷ 0 ∷ 1 ∷ 0x65 ∷ []) 9 ≡ ok (0 ∷ 1 ∷ 0x65 ∷ []))
+    × (fromStream 1 (0 ∷ 1 ∷ 0x65 ∷ []) 9 ≡ refused 33 1)
+    × (fromStream 1 (0 ∷ 0 ∷ 1 ∷ 0x65 ∷ 0 ∷ 0 ∷ 2 ∷ []) 9 ≡ refused 33 6)
+    × (fromStream 1 (0 ∷ 0 ∷ 1 ∷ 0 ∷ 0 ∷ 0 ∷ 5 ∷ []) 9 ≡ refused 33 6)
+    × (fromStream 1 (0 ∷ 0 ∷ 0 ∷ 1 ∷ 0 ∷ 0 ∷ 1 ∷ 0x65 ∷ []) 9 ≡ refused 33 3)
+    × (fromStream 1 (0 ∷ 0 ∷ 1 ∷ 0 ∷ 0 ∷ 2 ∷ replicate 253 0x88) 299 ≡ refused 34 3)
+    × (fromStream 1 (0 ∷ 0 ∷ 1 ∷ 0 ∷ 0 ∷ 2 ∷ replicate 252 0x88) 299 ≡ refused 33 5)
+    × (fromStream 3 (0x65 ∷ []) 0 ≡ refused 11 0)
+    × (fromStream 1 (0x65 ∷ []) 0 ≡ refused 33 0)
+    × (fromStream 1 (0 ∷ 0 ∷ 1 ∷ 0x65 ∷ []) 1 ≡ refused 29 0)
+unfolding fromStream sampleWith unitsIn unitsOf partsVerdict unitVerdict insideVerdict leadVerdict strip split splitCons beginsCode each bytes
+in-bytes = (refl, refl, refl, refl, refl, refl, refl, refl, refl, refl, refl, refl)

@@ -13,7 +13,7 @@ use Prim.Native.Nat.{ℕ, _+_, _/_, _^_, _≤_, _<_}
 use mathlib.Core.Path.{_≡_}
 use mathlib.Core.List.{List, [], _∷_, map}
 use mathlib.Core.Logic.{_⊎_, _↔_}
-use lib.ListN.{length}
+use lib.ListN.{length, replicate}
 use Rattle.words.specs.Lists.{_∈_, each}
 use Rattle.words.specs.Bytes.{Bytes}
 use Rattle.words.specs.Refusals.{refused, ok}
@@ -91,3 +91,20 @@ pub written-again :
     (t : List ℕ) × (toStream us ≡ ok t) × (t ≡ each (λ u. 0 ∷ 0 ∷ 0 ∷ 1 ∷ u) us) × ReadAs n t us
     × ((room : ℕ) → fromStream n t room ≡ fromStream n s room)
 written-again = laws.written-again
+
+-- In bytes: start codes of three and of four bytes, zeros after a unit; 00 00 03 in a unit, and zeros that it begins with; a
+-- length of two bytes; each 33; 34, which comes before a 33 inside the unit, and a unit one byte shorter; 11 before all, 29 last
+pub in-bytes :
+    (fromStream 1 (0 ∷ 0 ∷ 0 ∷ 1 ∷ 0x67 ∷ 0 ∷ 0 ∷ 1 ∷ 0x65 ∷ 0x88 ∷ 0 ∷ 0 ∷ []) 5 ≡ ok (1 ∷ 0x67 ∷ 2 ∷ 0x65 ∷ 0x88 ∷ []))
+    × (fromStream 1 (0 ∷ 0 ∷ 1 ∷ 0 ∷ 0 ∷ 5 ∷ 0 ∷ 0 ∷ 3 ∷ 0 ∷ 1 ∷ []) 9 ≡ ok (8 ∷ 0 ∷ 0 ∷ 5 ∷ 0 ∷ 0 ∷ 3 ∷ 0 ∷ 1 ∷ []))
+    × (fromStream 2 (0 ∷ 0 ∷ 1 ∷ 0x65 ∷ []) 9 ≡ ok (0 ∷ 1 ∷ 0x65 ∷ []))
+    × (fromStream 1 (0 ∷ 1 ∷ 0x65 ∷ []) 9 ≡ refused 33 1)
+    × (fromStream 1 (0 ∷ 0 ∷ 1 ∷ 0x65 ∷ 0 ∷ 0 ∷ 2 ∷ []) 9 ≡ refused 33 6)
+    × (fromStream 1 (0 ∷ 0 ∷ 1 ∷ 0 ∷ 0 ∷ 0 ∷ 5 ∷ []) 9 ≡ refused 33 6)
+    × (fromStream 1 (0 ∷ 0 ∷ 0 ∷ 1 ∷ 0 ∷ 0 ∷ 1 ∷ 0x65 ∷ []) 9 ≡ refused 33 3)
+    × (fromStream 1 (0 ∷ 0 ∷ 1 ∷ 0 ∷ 0 ∷ 2 ∷ replicate 253 0x88) 299 ≡ refused 34 3)
+    × (fromStream 1 (0 ∷ 0 ∷ 1 ∷ 0 ∷ 0 ∷ 2 ∷ replicate 252 0x88) 299 ≡ refused 33 5)
+    × (fromStream 3 (0x65 ∷ []) 0 ≡ refused 11 0)
+    × (fromStream 1 (0x65 ∷ []) 0 ≡ refused 33 0)
+    × (fromStream 1 (0 ∷ 0 ∷ 1 ∷ 0x65 ∷ []) 1 ≡ refused 29 0)
+in-bytes = laws.in-bytes

@@ -1,49 +1,95 @@
--- The unit of a part of a stream s, by the last byte of the part. Assumes nothing.
+-- How long the unit is that starts at a place of a stream s, from stop to stop. Assumes nothing.
 --
---   unit-none                no byte is left
---   unit-zero, unit-byte     the last byte is 00; it is above 00
-use Prim.Native.Nat.{ℕ, suc, _+_, _-_, _≤_, _<_}
+--   unit-most       it is not longer than what is left of the stream
+--   Ending          the unit that goes on at a place, with its stop and the end of the zeros there, ends where the one looked for does
+--   ending-start    at the start
+--   ending-past     where a byte follows that may not, the unit ends there or after
+--   ending-on       it goes on there
+--   ending-done     where nothing or a start code follows, it ends at the stop
+use Prim.Native.Nat.{ℕ, _+_, _-_, _≤_, _<_}
 use mathlib.Core.Path.{_≡_, refl, ap, sym, _∙_}
-use mathlib.Core.List.{List, [], _∷_, _++_}
+use mathlib.Core.Logic.{⊎-elim}
+use mathlib.Core.List.{List}
 use native.Mathlib.Omega.{arith}
-use lib.ListN.{length, drop, length-drop}
-use lib.Seq.{getD-drop, take-suc}
-use Rattle.words.specs.Bytes.{byteAt, part}
-use Rattle.words.proofs.Tests.{by-number}
-use Rattle.words.proofs.Positions.{part-length}
-use Rattle.byte_streams.specs.Reading.{closed, strip}
-use Rattle.byte_streams.proofs.Splits.{strip-byte}
-use Rattle.stream_reader.specs.Steps.{partUnit}
+use lib.ListN.{length, drop, length-append, length-drop}
+use Rattle.words.specs.Lists.{each}
+use Rattle.words.specs.Bytes.{byteAt}
+use Rattle.byte_streams.specs.Grammar.{zeros}
+use Rattle.byte_streams.specs.Reading.{split, strip}
+use Rattle.byte_streams.specs.Places.{unitStop, zerosEnd}
+use Rattle.byte_streams.proofs.Splits.{coded, split-join, strip-part}
+use Rattle.byte_streams.proofs.Places.{stop-one, stop-inside}
+use Rattle.stream_reader.specs.Steps.{unitFrom, nextFrom}
+use Rattle.stream_reader.proofs.Found.{found, next-inside, next-by}
 
-part-end : (s : List ℕ) (i e : ℕ) → e ≤ i → part s i (e - i) ≡ []
-part-end s i e h = let z : e - i ≡ 0 = omega arith in rw z
+-- what is split off, and what is left of it without zeros
+strip-most : (v : List ℕ) → length (strip v) ≤ length v
+strip-most v = let w = strip-part v in let e = ap length (w .1) in let l = length-append (strip v) (zeros (w .0)) in omega arith
 
--- the last byte of a part, which starts at a
-strip-zero : (v : List ℕ) → strip (v ++ (0 ∷ [])) ≡ strip v
-unfolding strip
-strip-zero [] = refl
-strip-zero (x ∷ v) = ap (closed x) (strip-zero v)
+split-most : (v : List ℕ) → length (split v .before) ≤ length v
+split-most v = let e = ap length (split-join v) in let l = length-append (split v .before) (each coded (split v .after)) in omega arith
 
-module _ (s : List ℕ) (a e : ℕ) where
-  pub unit-none : e ≤ a → length (partUnit s a e) ≡ 0
-  unfolding partUnit strip
-  unit-none h = rw (part-end s a e h)
+pub unit-most : (s : List ℕ) (a : ℕ) → length (unitFrom s a) ≤ length s - a
+unfolding unitFrom
+unit-most s a =
+    let strips = strip-most (split (drop a s) .before) in
+    let splits = split-most (drop a s) in
+    let l = length-drop a s in
+    omega arith
 
-  module _ (h : a < e) (l : e ≤ length s) where
-    part-last : part s a (e - a) ≡ part s a (e - 1 - a) ++ (byteAt s (e - 1) ∷ [])
-    part-last =
-        let z : e - a ≡ suc (e - 1 - a) = omega arith in
-        let y : a + (e - 1 - a) ≡ e - 1 = omega arith in
-        let k = length-drop a s in
-        ap (part s a) z ∙ take-suc (drop a s) (e - 1 - a) 0 (omega arith)
-        ∙ ap (λ (x : ℕ). part s a (e - 1 - a) ++ (x ∷ [])) (getD-drop a s (e - 1 - a) 0 ∙ ap (byteAt s) y)
+pub record Ending (s : List ℕ) (start stop next : ℕ) : Type 0 where
+  pub from : ℕ
+  pub inside : from ≤ length s
+  pub stops : stop ≡ unitStop s from
+  pub nexts : next ≡ nextFrom s from
+  pub order : (start ≤ stop) × (stop ≤ next)
+  pub unit : from + length (unitFrom s from) ≡ start + length (unitFrom s start)
 
-    pub unit-zero : byteAt s (e - 1) ≡ 0 → partUnit s a (e - 1) ≡ partUnit s a e
-    unfolding partUnit
-    unit-zero b = sym (ap strip part-last ∙ rw b (strip-zero (part s a (e - 1 - a))))
+pub ending-start : (s : List ℕ) (start stop next : ℕ) → start ≤ length s → stop ≡ unitStop s start → next ≡ zerosEnd s stop → Ending s start stop next
+ending-start s start stop next h e f =
+    let n = next-by s start stop e f in
+    let k = next-inside s start h in
+    record { from = start; inside = h; stops = e; nexts = n; order = (omega arith, omega arith); unit = refl }
 
-    pub unit-byte : (byteAt s (e - 1) ≡ 0 → ⊥) → length (partUnit s a e) ≡ e - a
-    unfolding partUnit strip
-    unit-byte b = by-number (byteAt s (e - 1)) (λ z. absurd (b z)) (λ x z.
-        let w : part s a (e - a) ≡ part s a (e - 1 - a) ++ (suc x ∷ []) = part-last ∙ ap (λ (y : ℕ). part s a (e - 1 - a) ++ (y ∷ [])) z in
-        ap length (ap strip w ∙ strip-byte (part s a (e - 1 - a)) x [] ∙ sym w) ∙ part-length s a (e - a) (omega arith))
+module _ (s : List ℕ) (start stop next : ℕ) (w : Ending s start stop next) where
+  pub ending-past : next < length s → (byteAt s next ≡ 1 → ⊥) → next ≤ start + length (unitFrom s start)
+  ending-past i b = ⊎-elim
+      (λ g. let n = w .nexts in absurd (b (ap (byteAt s) n ∙ g .byte (omega arith))))
+      (λ g. let n = w .nexts in let on = g .on in let unit = w .unit in omega arith)
+      (found s (w .from) (w .inside))
+
+  pub ending-on :
+      next < length s → (byteAt s next ≡ 1 → ⊥) → (stop' next' : ℕ) → stop' ≡ unitStop s next → next' ≡ zerosEnd s stop' →
+      (next < next') × Ending s start stop' next'
+  ending-on i b stop' next' e f = ⊎-elim
+      (λ g. let n = w .nexts in absurd (b (ap (byteAt s) n ∙ g .byte (omega arith))))
+      (λ g.
+      let n = w .nexts in
+      let m = next-by s next stop' e f in
+      let j = ap (byteAt s) n in
+      let above = g .byte in
+      let one = stop-one s next i (λ z. omega arith) in
+      let past = stop-inside s (next + 1) (omega arith) .0 in
+      let k = next-inside s next (omega arith) in
+      let order = w .order in
+      let on = g .on in
+      let unit = w .unit in
+      let same = ap (λ (q : ℕ). length (unitFrom s q)) n in
+      (omega arith, record { from = next; inside = omega arith; stops = e; nexts = m; order = (omega arith, omega arith); unit = omega arith }))
+      (found s (w .from) (w .inside))
+
+  pub ending-done : (next < length s → byteAt s next ≡ 1) → stop ≡ start + length (unitFrom s start)
+  ending-done b = ⊎-elim
+      (λ g.
+      let size = g .size in
+      let e = w .stops in
+      let k = stop-inside s (w .from) (w .inside) .0 in
+      let unit = w .unit in
+      omega arith)
+      (λ g.
+      let n = w .nexts in
+      let i = g .inside in
+      let above = g .byte in
+      let one = ap (byteAt s) (sym n) ∙ b (omega arith) in
+      absurd (omega arith))
+      (found s (w .from) (w .inside))

@@ -4,7 +4,7 @@
 --   next-by                  so the code finds where they end
 --   parts-here, parts-none   the parts after a start code; after none
 --   Good                     nothing or a start code follows: the unit is what stands up to its stop
---   Bad                      a byte follows that may not: 33 there
+--   Bad                      a byte follows that may not: 33 there, and the unit goes on with it
 --   found                    one of the two
 use Prim.Native.Nat.{ℕ, suc, _+_, _-_, _≤_, _<_}
 use mathlib.Core.Path.{_≡_, refl, ap, sym, _∙_}
@@ -46,8 +46,9 @@ pub record Good (s : List ℕ) (a : ℕ) : Type 0 where
 
 pub record Bad (s : List ℕ) (a : ℕ) : Type 0 where
   pub inside : nextFrom s a < length s
-  pub byte : byteAt s (nextFrom s a) ≡ 1 → ⊥
+  pub byte : 1 < byteAt s (nextFrom s a)
   pub verdict : insideVerdict 0 a (unitFrom s a) ≡ refused badByteStream (nextFrom s a)
+  pub on : a + length (unitFrom s a) ≡ nextFrom s a + length (unitFrom s (nextFrom s a))
 
 module _ (s : List ℕ) (a : ℕ) where
   pub next-inside : a ≤ length s → (a ≤ unitStop s a) × (unitStop s a ≤ nextFrom s a) × (nextFrom s a ≤ length s)
@@ -141,11 +142,16 @@ module _ (s : List ℕ) (a : ℕ) where
         let b = u-length in
         let z : a + length w ≡ nextFrom s a = omega arith in
         let f : v ≡ w ++ (suc (suc x) ∷ t) = sym e ∙ sym (append-assoc u (zeros k) (suc (suc x) ∷ t)) in
-        let g = at-cons s (nextFrom s a) (suc (suc x)) t (rw z at (at-append s a w (suc (suc x) ∷ t) h f .next)) in
+        let d : drop (nextFrom s a) s ≡ suc (suc x) ∷ t = rw z at (at-append s a w (suc (suc x) ∷ t) h f .next) in
+        let g = at-cons s (nextFrom s a) (suc (suc x)) t d in
+        let r = bad-unit v k x t (sym e) bad a in
+        let q = ap (λ l. length (strip (split l .before))) d in
+        let i = r .1 in
         record {
           inside = g .there;
-          byte = λ i. let j = g .byte in omega arith;
-          verdict = bad-unit v k x t (sym e) bad a .0 ∙ ap (refused badByteStream) (sym n);
+          byte = let j = g .byte in omega arith;
+          verdict = r .0 ∙ ap (refused badByteStream) (sym n);
+          on = omega arith;
         }
 
     by-stop : {w : List ℕ} {k : ℕ} → Stop u w k → w ≡ v → nextFrom s a ≡ a + clearLength v + k → Good s a ⊎ Bad s a

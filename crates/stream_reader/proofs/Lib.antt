@@ -4,8 +4,7 @@
 --   Judged     what is said of a unit
 --   Walks      a step from unit to unit
 --   Front      what stands before the first start code
---   Codes      the next start code, by place
---   Ends       the unit of a part, by its last byte
+--   Ends       how long a unit is that has a byte that may not stand in it
 --   Totals     how much a sample takes
 --   Measures   the loop that measures
 --   Writes     the loop that writes
@@ -14,7 +13,6 @@ pub mod Found
 pub mod Judged
 pub mod Walks
 pub mod Front
-pub mod Codes
 pub mod Ends
 pub mod Totals
 pub mod Measures

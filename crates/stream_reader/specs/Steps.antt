@@ -1,32 +1,24 @@
 -- The steps of reading a byte stream s.
 --
---   nextCode s p           where the next start code stands from p on; the end if there is none
---   partUnit s a e         the unit of the part from a up to e
 --   unitFrom s a           the unit that starts at a
---   nextFrom s a           where the start code after it ends, at its 01; the end of s if there is none
+--   nextFrom s a           where the start code after it ends, at its 01; the end of s if there is none; if a byte may not stand in the
+--                          unit, that byte
 --   partsAfter s p         the parts after the start code whose 01 stands at p; none if p is the end
 --   judgement L s a        33 or 34 of that unit, or its size, and where the next start code ends
 --   judgedOf               what the answer of `judge` says: the same
 --   capped room m          m as a total that there is room for, or too long
 --   addTo room t w n       a total with w and n bytes more
-use Prim.Native.Nat.{ℕ, _+_, _-_}
+use Prim.Native.Nat.{ℕ, _+_}
 use mathlib.Core.List.{List, [], _∷_}
 use lib.ListN.{length, drop}
 use Rattle.words.specs.Tests.{_<?_, pick}
 use Rattle.words.specs.Refusals.{Answer, refused, ok, _andThen_}
-use Rattle.words.specs.Bytes.{part}
 use Rattle.byte_streams.specs.Reading.{split, strip, unitVerdict}
 use Rattle.byte_streams.specs.Places.{unitStop, zerosEnd}
 use Rattle.stream_reader.specs.declared.Total.{Total}
 use Rattle.stream_reader.specs.declared.Total.the-variants.{Size, TooLong}
 use Rattle.stream_reader.specs.declared.units.Judged as judged
 use Rattle.stream_reader.specs.declared.units.Judged.the-variants as judges
-
-unfoldable pub nextCode : List ℕ → ℕ → ℕ
-nextCode s p = p + length (split (drop p s) .before)
-
-unfoldable pub partUnit : List ℕ → ℕ → ℕ → List ℕ
-partUnit s a e = strip (part s a (e - a))
 
 unfoldable pub unitFrom : List ℕ → ℕ → List ℕ
 unitFrom s a = strip (split (drop a s) .before)

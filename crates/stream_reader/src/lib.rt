@@ -110,7 +110,8 @@ fn put_length(out: &mut [u8], at: usize, l: LengthSize, n: usize)
 fn write_units(out: &mut [u8], s: &[u8], l: LengthSize, first: usize, size: usize)
     requires { ⌜ (first ≡ zerosEnd (now s) 0) × (unitsIn (inBytes l) (now s) ≡ ok (map strip (partsAfter (now s) first)))
         × (length (sampleWith (inBytes l) (map strip (partsAfter (now s) first))) ≡ size) × (size ≤ length (now out)) ⌝ }
-    ensures { λ _. ⌜ now (out .exit) ≡ overwrite (now (out .entry)) (sampleWith (inBytes l) (map strip (partsAfter (now (s .entry)) first))) ⌝ }
+    ensures { λ _. ⌜ now (out .exit)
+        ≡ overwrite (now (out .entry)) (sampleWith (inBytes l) (map strip (partsAfter (now (s .entry)) first))) ⌝ }
 {
     let w = l.bytes();
     let mut at: usize = 0;

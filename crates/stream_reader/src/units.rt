@@ -1,13 +1,13 @@
 // The units of a byte stream, found and judged one by one.
 ghost use mathlib.Core.Path.{_≡_};
-ghost use Prim.Native.Nat.{_+_, _-_, _≤_, _<_, _^_};
+ghost use Prim.Native.Nat.{_+_, _≤_, _<_, _^_};
 ghost use lib.ListN.{length};
+ghost use Rattle.words.specs.Tests.{_≤?_};
 ghost use Rattle.words.specs.RefusalNumbers.{badByteStream};
 ghost use Rattle.words.specs.Refusals.{refused};
 ghost use Rattle.numbers.specs.Sizes.{inBytes};
 ghost use Rattle.byte_streams.specs.Reading.{insideVerdict};
-ghost use Rattle.byte_streams.specs.Places.{startCodeAt};
-ghost use Rattle.stream_reader.specs.Steps.{nextCode, partUnit, unitFrom, judgement, judgedOf};
+ghost use Rattle.stream_reader.specs.Steps.{unitFrom, judgement, judgedOf};
 use numbers::ByteOffset;
 use numbers::LengthSize;
 use numbers::Refusal;
@@ -29,54 +29,28 @@ fn refuse(number: u8, place: usize) -> Judged
     })
 }
 
-// Whether 00 00 01 stands at a place.
-fn is_start_code(s: &[u8], p: usize) -> bool
-    requires { ⌜ p + 3 ≤ length (now s) ⌝ }
-    ensures { λ r. ⌜ r ≡ startCodeAt (now (s .entry)) p ⌝ }
+// Whether the unit that starts at a place has so many bytes or more: it goes on over bytes that may not stand in it, up to a start code or
+// the end. No byte after the first that decides is looked at.
+fn has_length(s: &[u8], start: usize, least: usize) -> bool
+    requires { ⌜ start ≤ length (now s) ⌝ }
+    ensures { λ r. ⌜ r ≡ (least ≤? length (unitFrom (now (s .entry)) start)) ⌝ }
 {
-    if s[p] != 0 {
+    if s.len() - start < least {
         return false;
     }
-    if s[p + 1] != 0 {
-        return false;
-    }
-    s[p + 2] == 1
-}
-
-// Where the next start code stands from a place on; the end if there is none.
-fn next_start_code(s: &[u8], from: usize) -> usize
-    requires { ⌜ from ≤ length (now s) ⌝ }
-    ensures { λ r. ⌜ (r ≡ nextCode (now (s .entry)) from) × (from ≤ r) × (r ≤ length (now (s .entry))) ⌝ }
-{
-    let n = s.len();
-    let mut q = from;
-    while 2 < n - q {
-        // a byte above 01 stands in no start code: one is looked for after it
-        if 1 < s[q + 2] {
-            q += 3;
-        } else {
-            if is_start_code(s, q) {
-                return q;
-            }
-            q += 1;
+    let mut stop = byte_streams::unit_stop(s, start);
+    let mut next = byte_streams::zeros_end(s, stop);
+    while next < s.len() {
+        if s[next] == 1 {
+            return least <= stop - start;
         }
-    }
-    n
-}
-
-// Where the unit ends that starts at start: before the zeros up to end.
-fn unit_end(s: &[u8], start: usize, end: usize) -> usize
-    requires { ⌜ (start ≤ end) × (end ≤ length (now s)) ⌝ }
-    ensures { λ r. ⌜ (r ≡ start + length (partUnit (now (s .entry)) start end)) × (start ≤ r) × (r ≤ end) ⌝ }
-{
-    let mut stop = end;
-    while start < stop {
-        if s[stop - 1] != 0 {
-            return stop;
+        if least <= next - start {
+            return true;
         }
-        stop -= 1;
+        stop = byte_streams::unit_stop(s, next);
+        next = byte_streams::zeros_end(s, stop);
     }
-    stop
+    least <= stop - start
 }
 
 // One more than the greatest length that L bytes can hold.
@@ -90,14 +64,12 @@ fn length_limit(l: LengthSize) -> usize
     }
 }
 
-// A unit with a byte that may not stand in it, the first at a place: 34, or 33 there. Only here the end of such a unit is looked for.
+// A unit with a byte that may not stand in it, the first at a place: 34, or 33 there.
 fn judge_bad(s: &[u8], l: LengthSize, start: usize, place: usize) -> Judged
     requires { ⌜ (start ≤ length (now s)) × (insideVerdict 0 start (unitFrom (now s) start) ≡ refused badByteStream place) ⌝ }
     ensures { λ r. ⌜ judgedOf r ≡ judgement (inBytes l) (now (s .entry)) start ⌝ }
 {
-    let end = next_start_code(s, start);
-    let stop = unit_end(s, start, end);
-    if length_limit(l) <= stop - start {
+    if has_length(s, start, length_limit(l)) {
         return refuse(refusals::UNIT_EXCEEDS_LENGTH_SIZE, start);
     }
     refuse(refusals::BAD_BYTE_STREAM, place)

@@ -21,12 +21,14 @@ struct Kind {
 }
 
 /// Large units are the longest that fit length size 2.
-const KINDS: [Kind; 7] = [
+const KINDS: [Kind; 9] = [
     Kind { name: "units of 65,535 bytes", make: |size| units(size, 65535), length_sizes: &[4, 2] },
     Kind { name: "units of 16 bytes", make: |size| units(size, 16), length_sizes: &[4, 2] },
     Kind { name: "units of 1 byte", make: |size| [0, 0, 1, 0x65].repeat(size / 4), length_sizes: &[4, 2] },
     Kind { name: "one unit", make: |size| units(size, size - START_CODE.len()), length_sizes: &[4] },
-    Kind { name: "one unit, then zeros", make: one_unit_then_zeros, length_sizes: &[4] },
+    Kind { name: "one unit of 00 01", make: |size| after(&[0, 0, 1, 0x65], &[0, 1], size), length_sizes: &[4] },
+    Kind { name: "one unit, then zeros", make: |size| after(&[0, 0, 1, 0x65], &[0], size), length_sizes: &[4] },
+    Kind { name: "one unit of 00 00 02", make: |size| after(&[0, 0, 1], &[0, 0, 2], size), length_sizes: &[4, 2] },
     Kind { name: "zeros only", make: |size| vec![0; size], length_sizes: &[4] },
     Kind { name: "start codes only", make: |size| [0, 0, 1].repeat(size / 3), length_sizes: &[4] },
 ];
@@ -92,9 +94,10 @@ fn measure(length_size: u32, stream: &[u8], rounds: usize) -> (Times, Answer) {
     (best, answer)
 }
 
-fn one_unit_then_zeros(size: usize) -> Vec<u8> {
-    let mut stream = vec![0, 0, 1, 0x65];
-    stream.resize(size, 0);
+/// A stream of exactly `size` bytes: these in front, and then those again and again.
+fn after(front: &[u8], again: &[u8], size: usize) -> Vec<u8> {
+    let mut stream = [front, &again.repeat(size / again.len())].concat();
+    stream.truncate(size);
     stream
 }
 

@@ -47,18 +47,23 @@ fn run(arguments: &Arguments, out: &mut Output) -> Result<Status, Stop> {
     };
     let length_size = number(&CALL, "L", word)?;
     let to_file = WholeFile::asked(&CALL, arguments, file)?;
+    // One that is cut to the largest number is no good one either.
+    let size = u32::try_from(length_size).unwrap_or(u32::MAX);
+    // The library judges the length size before all, so before a file is read that may be long: a stream without bytes has
+    // no other fault.
+    if let Err(no) = from_stream(size, &[], &mut []) {
+        say(format!("{}: length size {} {}", input::title(file), given(length_size), refusal(&no)));
+        return Ok(Status::Refused);
+    }
     let stream = input::read(file, STREAM_MOST + 1)?;
     if stream.len() > STREAM_MOST {
         return Err(Stop::failed(format!("{}: longer than {STREAM_MOST} bytes", input::title(file))));
     }
     let mut room = room(file, stream.len())?;
-    // The library judges the length size; one that is cut to the largest number is no good one either.
-    let sample = match from_stream(u32::try_from(length_size).unwrap_or(u32::MAX), &stream, &mut room) {
+    let sample = match from_stream(size, &stream, &mut room) {
         Ok(count) => &room[..count],
         Err(no) => {
-            let what =
-                if no.number == 11 { format!("length size {}", given(length_size)) } else { "byte stream".into() };
-            say(format!("{}: {what} {}{}", input::title(file), refusal(&no), detail(&stream, &no)));
+            say(format!("{}: byte stream {}{}", input::title(file), refusal(&no), detail(&stream, &no)));
             return Ok(Status::Refused);
         }
     };

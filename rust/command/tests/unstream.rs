@@ -35,7 +35,8 @@ fn streams_of_recordings_come_back() {
             }
             let resolved = run(["units", file, &number, "-o", "-"]).out;
             let units = units_of(&resolved);
-            assert_eq!(unstream(&stream.out, "4").out, resolved, "{file} {number}");
+            let ran = unstream(&stream.out, "4");
+            assert_eq!((ran.status, ran.out), (Some(0), resolved), "{file} {number}");
             for length_size in [1, 2] {
                 let ran = unstream(&stream.out, &length_size.to_string());
                 let long = units.iter().position(|unit| unit.len() >> (8 * length_size) > 0);
@@ -190,8 +191,14 @@ fn length_sizes() {
             let ran = run_on(stream, ["unstream", "--length-size", given, "-"]);
             assert_eq!((ran.status, ran.text()), (Some(1), ""), "{given}");
             let line = format!("length size {told} refused 11 at 0 - length size is not 1, 2 or 4");
-            assert_eq!(ran.said.lines().last().unwrap(), format!("puddockle: standard input: {line}"));
+            assert_eq!(ran.said, format!("puddockle: standard input: {line}\n"));
         }
+    }
+    // So nothing is read then.
+    for file in ["/dev/zero", "tests/no such file"] {
+        let ran = run(["unstream", file, "--length-size", "3"]);
+        assert_eq!((ran.status, ran.text()), (Some(1), ""));
+        assert!(ran.said.contains(": length size 3 refused 11 at 0 - "), "{}", ran.said);
     }
     for given in ["1", "01", "2", "0004"] {
         let ran = run_on(&[0, 0, 1, 0x65], ["unstream", &format!("--length-size={given}"), "-"]);

@@ -40,7 +40,7 @@ good c =
     let n = next (c .before) in
     ⊎-elim
     (λ g. g)
-    (λ b. ⊎-elim (λ w. absurd (b .byte (ap (byteAt (a .s .now)) (sym n) ∙ w .2 .left))) (λ e. let i = b .inside in let j = e .left in absurd (omega arith)) (c .if1 .came))
+    (λ b. ⊎-elim (λ w. let one = ap (byteAt (a .s .now)) (sym n) ∙ w .2 .left in let above = b .byte in absurd (omega arith)) (λ e. let i = b .inside in let j = e .left in absurd (omega arith)) (c .if1 .came))
     (found (a .s .now) (a .start) (c .before .before .before .before .pre .1))
 
 -- its size
