@@ -20,7 +20,7 @@ pub fn short() -> Vec<Vec<u8>> {
     [&[][..], &[0, 0, 1], &[0, 0, 1, 0x65]].iter().flat_map(|front| all(front, &[0, 1, 2, 3, 0x80], 6)).collect()
 }
 
-/// Units of this many bytes, with zeros or others before them, in them and after them.
+/// Units of this many bytes, with zeros or others before them, at their start, at their end and after them.
 fn around(length: usize) -> Vec<Vec<u8>> {
     let mut streams = Vec::new();
     for front in [
@@ -32,9 +32,11 @@ fn around(length: usize) -> Vec<Vec<u8>> {
     ] {
         for inside in [&[][..], &[0, 0], &[0, 0, 2], &[0, 0, 0, 5]] {
             let rest = vec![0x88; length - inside.len()];
-            let unit = [inside, &rest].concat();
-            for after in [&[][..], &[0], &[0, 0, 0], &[0, 0, 1, 0x65], &[0, 0, 0, 0, 1], &[0, 0, 1, 0x65, 0, 0, 2]] {
-                streams.push([front, &unit, after].concat());
+            for unit in [[inside, &rest].concat(), [&rest, inside].concat()] {
+                for after in [&[][..], &[0], &[0, 0, 0], &[0, 0, 1, 0x65], &[0, 0, 0, 0, 1], &[0, 0, 1, 0x65, 0, 0, 2]]
+                {
+                    streams.push([front, &unit, after].concat());
+                }
             }
         }
     }
