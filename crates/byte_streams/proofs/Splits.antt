@@ -1,9 +1,10 @@
 -- A stream split at its start codes, and the zeros at the end of a part: so the units of a stream are found. Assumes nothing.
 --
 --   code-from               what `beginsCode` says
---   cons-code, cons-on        a byte before what is split already
+--   cons-code, cons-on      a byte before what is split already
 --   coded, joined           a part after its start code; parts joined again
 --   split-join              what is split, joined again, is the stream
+--   split-most, strip-most  so what stands before the first start code is not longer; what is left of a part is not
 --   CodeFree, split-append  a part in which no start code begins is split off whole
 --   split-two               before a start code, a stream is split by itself
 --   split-code              a start code starts a part
@@ -17,13 +18,13 @@
 --   ends-clear, unit-part   what follows a unit and its zeros; a unit and its zeros are a part
 --   free-unit               no start code stands in the unit of a part
 --   strip-zeros             a unit that does not end in 00 is what is left of it and zeros after it
-use Prim.Native.Nat.{ℕ, zero, suc}
+use Prim.Native.Nat.{ℕ, zero, suc, _≤_}
 use mathlib.Core.Path.{_≡_, refl, ap, ap₂, sym, _∙_, subst}
 use mathlib.Core.Bool.{Bool, true, false, _&&_}
 use mathlib.Core.List.{List, [], _∷_, _++_, append-assoc}
 use native.Mathlib.Omega.{arith}
 use borrow.Author.Tests.{eqb-true, ne-eqb}
-use lib.ListN.{drop}
+use lib.ListN.{length, drop, length-append}
 use Rattle.words.specs.Tests.{_≡?_}
 use Rattle.words.specs.Lists.{each}
 use Rattle.words.specs.Bytes.{byteAt}
@@ -72,6 +73,9 @@ pub split-join : (s : List ℕ) → joined (split s) ≡ s
 unfolding split
 split-join [] = unfold each in refl
 split-join (x ∷ s) = cons-join x (split s) ∙ ap (λ l. x ∷ l) (split-join s)
+
+pub split-most : (s : List ℕ) → length (split s .before) ≤ length s
+split-most s = let e = ap length (split-join s) in let l = length-append (split s .before) (each coded (split s .after)) in omega arith
 
 -- no start code begins in v
 unfoldable pub CodeFree : List ℕ → Type 0
@@ -185,6 +189,9 @@ strip-part (x ∷ v) =
     let b = strip-part v in
     let c = cons-zeros x (b .0) (strip v) in
     (c .0, ap (λ l. x ∷ l) (b .1) ∙ c .1)
+
+pub strip-most : (v : List ℕ) → length (strip v) ≤ length v
+strip-most v = let w = strip-part v in let e = ap length (w .1) in let l = length-append (strip v) (zeros (w .0)) in omega arith
 
 none-left : (n : ℕ) → strip (zeros n) ≡ []
 unfolding strip

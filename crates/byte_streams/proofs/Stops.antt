@@ -3,12 +3,13 @@
 --   stop-none, -here, -on-list a unit stops at the end, or where what is forbidden stands
 --   lead-none, -zero, -byte    zeros end there, or at a byte above 00
 --   clear-most, lead-most      neither is more than the length
+--   clear-length               so many bytes stand before a stop
 --   clear-facts, stop-clear    the bytes before a stop hold nothing that is forbidden, and do not end in 00
 --   stop-good                  so 33 is not inside them
---   clear-all                  a unit that can stand in a byte stream does not stop before its end
+--   streamable-stop            a unit can stand in a byte stream exactly if it does not stop before its end
 --   Stop, stop-by              after them: zeros to the end; zeros and a start code; zeros and a byte that may not follow
 --   end-split, code-split      how that is split, and
---   bad-unit                   where 33 is then
+--   bad-unit                   where 33 is then, and how long the unit is, which goes on with that byte
 --   Front, front-by            so at the front of a stream
 --   byte-lead                  and where 33 is there
 use Prim.Native.Nat.{ℕ, zero, suc, _+_, _≤_}
@@ -68,6 +69,9 @@ clear-most (x ∷ v) =
     by-bool (begins x v)
     (λ t. let e = stop-here x v t in omega arith)
     (λ t. let e = stop-on-list x v t in omega arith)
+
+pub clear-length : (v : List ℕ) → length (take (clearLength v) v) ≡ clearLength v
+clear-length v = let a = clear-most v in let b = length-take (clearLength v) v in omega arith
 
 pub lead-most : (v : List ℕ) → leadingZeros v ≤ length v
 unfolding leadingZeros
@@ -255,7 +259,7 @@ bad-unit v k x t e h p =
     ap split (e ∙ sym (append-assoc u (zeros k) (suc (suc x) ∷ t))) ∙ split-byte w (suc x) t (free-byte w x (code-free u k (clear-none u c))) in
     let unit : strip (split v .before) ≡ u ++ (zeros k ++ rest) =
     ap (λ (r : Parts). strip (r .before)) whole ∙ strip-byte w (suc x) (split t .before) ∙ append-assoc u (zeros k) rest in
-    let size : length u ≡ clearLength v = taken v in
+    let size = clear-length v in
     let place : p + length u + k ≡ p + clearLength v + k = omega arith in
     let l = ap length unit ∙ length-append u (zeros k ++ rest) in
     let m = length-append (zeros k) rest in
@@ -265,9 +269,6 @@ bad-unit v k x t e h p =
           ∙ inside-run (p + length u) k (suc x) (strip (split t .before)) h ∙ ap (refused badByteStream) place,
       omega arith,
     )
-  where
-    taken : (v : List ℕ) → length (take (clearLength v) v) ≡ clearLength v
-    taken v = let a = clear-most v in let b = length-take (clearLength v) v in omega arith
 
 -- the front of a stream
 pub data Front : List ℕ → ℕ → Type 0 where

@@ -1,6 +1,7 @@
 -- The units of a byte stream s, and the sample made of them (02, [3]). L is the length size of the sample.
 --
---   isStartCode x y z     whether three bytes are 00 00 01
+--   startCodeSize         how many bytes a start code has; a zero before it, as [2] writes one, belongs to no unit
+--   isStartCode x y z     whether three bytes are one: 00 00 01
 --   beginsCode x v        whether x before v begins a start code
 --   Parts, split s        what stands before the first start code, and after each one up to the next or the end; by `splitCons`
 --   strip v               v without the zeros at its end: a part's unit; by `stripCons`
@@ -23,6 +24,9 @@ use Rattle.words.specs.Lists.{each}
 use Rattle.words.specs.Bytes.{byteAt, bytes}
 use Rattle.words.specs.Buffers.{within}
 use Rattle.numbers.specs.Sizes.{inBytes, lengthSizeOf, onLengthSize}
+
+abbrev pub startCodeSize : ℕ
+startCodeSize = 3
 
 abbrev pub isStartCode : ℕ → ℕ → ℕ → Bool
 isStartCode x y z = (x ≡? 0) && ((y ≡? 0) && (z ≡? 1))
@@ -74,13 +78,12 @@ unitVerdict L p u =
     (unitExceedsLengthSize if 256 ^ L ≤? length u) atPlace p andThen
     insideVerdict 0 p u
 
--- 3 for the start code after a part
 unfoldable pub partsVerdict : ℕ → ℕ → List (List ℕ) → Verdict
 partsVerdict L p [] = ok tt
-partsVerdict L p (v ∷ vs) = let rest = partsVerdict L (p + length v + 3) vs in unitVerdict L p (strip v) andThen rest
+partsVerdict L p (v ∷ vs) = let rest = partsVerdict L (p + length v + startCodeSize) vs in unitVerdict L p (strip v) andThen rest
 
 unfoldable pub unitsOf : ℕ → Parts → Answer (List (List ℕ))
-unitsOf L r = leadVerdict 0 (r .before) andThen partsVerdict L (length (r .before) + 3) (r .after) andThen ok (map strip (r .after))
+unitsOf L r = leadVerdict 0 (r .before) andThen partsVerdict L (length (r .before) + startCodeSize) (r .after) andThen ok (map strip (r .after))
 
 unfoldable pub unitsIn : ℕ → List ℕ → Answer (List (List ℕ))
 unitsIn L s = unitsOf L (split s)

@@ -7,27 +7,17 @@
 --   ending-on       it goes on there
 --   ending-done     where nothing or a start code follows, it ends at the stop
 use Prim.Native.Nat.{ℕ, _+_, _-_, _≤_, _<_}
-use mathlib.Core.Path.{_≡_, refl, ap, sym, _∙_}
-use mathlib.Core.Logic.{⊎-elim}
+use mathlib.Core.Path.{_≡_, refl, ap}
 use mathlib.Core.List.{List}
 use native.Mathlib.Omega.{arith}
-use lib.ListN.{length, drop, length-append, length-drop}
-use Rattle.words.specs.Lists.{each}
+use lib.ListN.{length, drop, length-drop}
 use Rattle.words.specs.Bytes.{byteAt}
-use Rattle.byte_streams.specs.Grammar.{zeros}
-use Rattle.byte_streams.specs.Reading.{split, strip}
+use Rattle.byte_streams.specs.Reading.{split}
 use Rattle.byte_streams.specs.Places.{unitStop, zerosEnd}
-use Rattle.byte_streams.proofs.Splits.{coded, split-join, strip-part}
+use Rattle.byte_streams.proofs.Splits.{split-most, strip-most}
 use Rattle.byte_streams.proofs.Places.{stop-one, stop-inside}
 use Rattle.stream_reader.specs.Steps.{unitFrom, nextFrom}
-use Rattle.stream_reader.proofs.Found.{found, next-inside, next-by}
-
--- what is split off, and what is left of it without zeros
-strip-most : (v : List ℕ) → length (strip v) ≤ length v
-strip-most v = let w = strip-part v in let e = ap length (w .1) in let l = length-append (strip v) (zeros (w .0)) in omega arith
-
-split-most : (v : List ℕ) → length (split v .before) ≤ length v
-split-most v = let e = ap length (split-join v) in let l = length-append (split v .before) (each coded (split v .after)) in omega arith
+use Rattle.stream_reader.proofs.Found.{Bad, found-good, found-bad, next-inside, next-by}
 
 pub unit-most : (s : List ℕ) (a : ℕ) → length (unitFrom s a) ≤ length s - a
 unfolding unitFrom
@@ -52,44 +42,32 @@ ending-start s start stop next h e f =
     record { from = start; inside = h; stops = e; nexts = n; order = (omega arith, omega arith); unit = refl }
 
 module _ (s : List ℕ) (start stop next : ℕ) (w : Ending s start stop next) where
-  pub ending-past : next < length s → (byteAt s next ≡ 1 → ⊥) → next ≤ start + length (unitFrom s start)
-  ending-past i b = ⊎-elim
-      (λ g. let n = w .nexts in absurd (b (ap (byteAt s) n ∙ g .byte (omega arith))))
-      (λ g. let n = w .nexts in let on = g .on in let unit = w .unit in omega arith)
-      (found s (w .from) (w .inside))
+  module _ (i : next < length s) (b : byteAt s next ≡ 1 → ⊥) where
+    bad : Bad s (w .from)
+    bad = found-bad s (w .from) (w .inside) next (w .nexts) i b
 
-  pub ending-on :
-      next < length s → (byteAt s next ≡ 1 → ⊥) → (stop' next' : ℕ) → stop' ≡ unitStop s next → next' ≡ zerosEnd s stop' →
-      (next < next') × Ending s start stop' next'
-  ending-on i b stop' next' e f = ⊎-elim
-      (λ g. let n = w .nexts in absurd (b (ap (byteAt s) n ∙ g .byte (omega arith))))
-      (λ g.
-      let n = w .nexts in
-      let m = next-by s next stop' e f in
-      let j = ap (byteAt s) n in
-      let above = g .byte in
-      let one = stop-one s next i (λ z. omega arith) in
-      let past = stop-inside s (next + 1) (omega arith) .0 in
-      let k = next-inside s next (omega arith) in
-      let order = w .order in
-      let on = g .on in
-      let unit = w .unit in
-      let same = ap (λ (q : ℕ). length (unitFrom s q)) n in
-      (omega arith, record { from = next; inside = omega arith; stops = e; nexts = m; order = (omega arith, omega arith); unit = omega arith }))
-      (found s (w .from) (w .inside))
+    pub ending-past : next ≤ start + length (unitFrom s start)
+    ending-past = let n = w .nexts in let on = bad .on in let unit = w .unit in omega arith
+
+    pub ending-on : (stop' next' : ℕ) → stop' ≡ unitStop s next → next' ≡ zerosEnd s stop' → (next < next') × Ending s start stop' next'
+    ending-on stop' next' e f =
+        let n = w .nexts in
+        let m = next-by s next stop' e f in
+        let j = ap (byteAt s) n in
+        let above = bad .byte in
+        let one = stop-one s next i (λ z. omega arith) in
+        let past = stop-inside s (next + 1) (omega arith) .0 in
+        let k = next-inside s next (omega arith) in
+        let order = w .order in
+        let on = bad .on in
+        let unit = w .unit in
+        let same = ap (λ (q : ℕ). length (unitFrom s q)) n in
+        (omega arith, record { from = next; inside = omega arith; stops = e; nexts = m; order = (omega arith, omega arith); unit = omega arith })
 
   pub ending-done : (next < length s → byteAt s next ≡ 1) → stop ≡ start + length (unitFrom s start)
-  ending-done b = ⊎-elim
-      (λ g.
-      let size = g .size in
+  ending-done b =
+      let size = found-good s (w .from) (w .inside) next (w .nexts) b .size in
       let e = w .stops in
       let k = stop-inside s (w .from) (w .inside) .0 in
       let unit = w .unit in
-      omega arith)
-      (λ g.
-      let n = w .nexts in
-      let i = g .inside in
-      let above = g .byte in
-      let one = ap (byteAt s) (sym n) ∙ b (omega arith) in
-      absurd (omega arith))
-      (found s (w .from) (w .inside))
+      omega arith

@@ -6,13 +6,14 @@
 --   Good                     nothing or a start code follows: the unit is what stands up to its stop
 --   Bad                      a byte follows that may not: 33 there, and the unit goes on with it
 --   found                    one of the two
+--   found-good, found-bad    which of them, by the byte where the zeros end
 use Prim.Native.Nat.{ℕ, suc, _+_, _-_, _≤_, _<_}
 use mathlib.Core.Path.{_≡_, refl, ap, sym, _∙_}
-use mathlib.Core.Logic.{_⊎_, inl, inr}
+use mathlib.Core.Logic.{_⊎_, inl, inr, ⊎-elim}
 use mathlib.Core.List.{List, [], _∷_, _++_, append-assoc}
 use native.Mathlib.Omega.{arith}
 use borrow.Author.Tests.{lt-ltb, le-ltb}
-use lib.ListN.{length, take, drop, length-append, length-replicate, length-take, length-drop}
+use lib.ListN.{length, take, drop, length-append, length-replicate, length-drop}
 use lib.Seq.{drop-drop}
 use Rattle.words.specs.RefusalNumbers.{badByteStream}
 use Rattle.words.specs.Refusals.{refused, ok}
@@ -24,7 +25,7 @@ use Rattle.byte_streams.specs.Places.{clearLength, unitStop, leadingZeros, zero
 use Rattle.byte_streams.proofs.Splits.{strip-zeros}
 use Rattle.byte_streams.proofs.Inside.{BadAfter}
 use Rattle.byte_streams.proofs.Places.{stop-inside, zeros-inside}
-use Rattle.byte_streams.proofs.Stops.{clear-most, stop-clear, stop-good, Stop, stop-by, end-split, code-split, bad-unit}
+use Rattle.byte_streams.proofs.Stops.{clear-length, stop-clear, stop-good, Stop, stop-by, end-split, code-split, bad-unit}
 use Rattle.stream_reader.specs.Steps.{unitFrom, nextFrom, partsAfter}
 
 module _ (s : List ℕ) (p : ℕ) where
@@ -77,9 +78,6 @@ module _ (s : List ℕ) (a : ℕ) where
   unfolding unitStop
   stop-is = omega arith
 
-  u-length : length u ≡ clearLength v
-  u-length = let k = clear-most v in let l = length-take (clearLength v) v in omega arith
-
   -- a unit and its zeros
   unit-is : (k : ℕ) → split v .before ≡ u ++ zeros k → unitFrom s a ≡ u
   unfolding unitFrom
@@ -93,7 +91,7 @@ module _ (s : List ℕ) (a : ℕ) where
         let z = unit-is k e in
         let l = ap length e ∙ length-append u (zeros k) in
         let m : length (zeros k) ≡ k = length-replicate k 0 in
-        let n = u-length in
+        let n = clear-length v in
         record {
           byte = byte;
           unit = z ∙ ap (λ (i : ℕ). take i v) (sym stop-is);
@@ -109,7 +107,7 @@ module _ (s : List ℕ) (a : ℕ) where
         let l = ap length e in
         let m = length-append u (zeros k) in
         let c : length (zeros k) ≡ k = length-replicate k 0 in
-        let b = u-length in
+        let b = clear-length v in
         let d = length-drop a s in
         let z : nextFrom s a ≡ length s = omega arith in
         good k (ap (λ (x : Parts). x .before) r) (λ i. absurd (omega arith))
@@ -122,7 +120,7 @@ module _ (s : List ℕ) (a : ℕ) where
         let l = length-append u (zeros k ++ (0 ∷ 0 ∷ [])) in
         let m = length-append (zeros k) (0 ∷ 0 ∷ []) in
         let c : length (zeros k) ≡ k = length-replicate k 0 in
-        let b = u-length in
+        let b = clear-length v in
         let two : length {A = ℕ} (0 ∷ 0 ∷ []) ≡ 2 = refl in
         let z : a + length w ≡ nextFrom s a = omega arith in
         let f : v ≡ w ++ (1 ∷ t) = sym e ∙ sym (append-assoc u (zeros k ++ (0 ∷ 0 ∷ [])) (1 ∷ t) ∙ ap (λ x. u ++ x) (append-assoc (zeros k) (0 ∷ 0 ∷ []) (1 ∷ t))) in
@@ -139,7 +137,7 @@ module _ (s : List ℕ) (a : ℕ) where
         let w = u ++ zeros k in
         let l = length-append u (zeros k) in
         let c : length (zeros k) ≡ k = length-replicate k 0 in
-        let b = u-length in
+        let b = clear-length v in
         let z : a + length w ≡ nextFrom s a = omega arith in
         let f : v ≡ w ++ (suc (suc x) ∷ t) = sym e ∙ sym (append-assoc u (zeros k) (suc (suc x) ∷ t)) in
         let d : drop (nextFrom s a) s ≡ suc (suc x) ∷ t = rw z at (at-append s a w (suc (suc x) ∷ t) h f .next) in
@@ -161,3 +159,13 @@ module _ (s : List ℕ) (a : ℕ) where
 
     pub found : Good s a ⊎ Bad s a
     found = by-stop (stop-by v) refl next-is
+
+    module _ (next : ℕ) (e : next ≡ nextFrom s a) where
+      pub found-good : (next < length s → byteAt s next ≡ 1) → Good s a
+      found-good b = ⊎-elim
+          (λ g. g)
+          (λ g. let i = g .inside in let above = g .byte in let one = ap (byteAt s) (sym e) ∙ b (omega arith) in absurd (omega arith))
+          found
+
+      pub found-bad : next < length s → (byteAt s next ≡ 1 → ⊥) → Bad s a
+      found-bad i b = ⊎-elim (λ g. absurd (b (ap (byteAt s) e ∙ g .byte (omega arith)))) (λ g. g) found

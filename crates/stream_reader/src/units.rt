@@ -1,6 +1,6 @@
 // The units of a byte stream, found and judged one by one.
 ghost use mathlib.Core.Path.{_≡_};
-ghost use Prim.Native.Nat.{_+_, _≤_, _<_, _^_};
+ghost use Prim.Native.Nat.{_≤_, _<_, _^_};
 ghost use lib.ListN.{length};
 ghost use Rattle.words.specs.Tests.{_≤?_};
 ghost use Rattle.words.specs.RefusalNumbers.{badByteStream};
@@ -30,7 +30,7 @@ fn refuse(number: u8, place: usize) -> Judged
 }
 
 // Whether the unit that starts at a place has so many bytes or more: it goes on over bytes that may not stand in it, up to a start code or
-// the end. No byte after the first that decides is looked at.
+// the end. The search ends at the stop where that is known.
 fn has_length(s: &[u8], start: usize, least: usize) -> bool
     requires { ⌜ start ≤ length (now s) ⌝ }
     ensures { λ r. ⌜ r ≡ (least ≤? length (unitFrom (now (s .entry)) start)) ⌝ }

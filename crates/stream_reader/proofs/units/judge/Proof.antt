@@ -7,11 +7,10 @@ use mathlib.Core.Logic.{⊎-elim}
 use lib.ListN.{length}
 use Rattle.words.specs.Refusals.{Answer, refused, ok, Verdict, _andThen_}
 use Rattle.words.specs.RefusalNumbers.{badByteStream}
-use Rattle.words.specs.Bytes.{byteAt}
 use Rattle.numbers.specs.Sizes.{inBytes}
 use Rattle.stream_reader.specs.Steps.{unitFrom, nextFrom}
 use Rattle.stream_reader.proofs.Judged.{judged-empty, judged-long, judged-inside}
-use Rattle.stream_reader.proofs.Found.{Good, Bad, found, next-inside, next-by}
+use Rattle.stream_reader.proofs.Found.{Good, Bad, found-good, found-bad, next-inside, next-by}
 use Rattle.stream_reader.proofs.units.judge.Statement.{statement}
 use Rattle.stream_reader.proofs.units.judge.Tie as tie
 
@@ -26,22 +25,17 @@ next c =
 bad : (c : tie.Then2) → let a = c .before .before .before .before .before .before .args in Bad (a .s .now) (a .start)
 bad c =
     let a = c .before .before .before .before .before .before .args in
-    let n = next (c .before .before .before) in
-    let i = c .before .before .if1 .taken in
-    ⊎-elim
-    (λ g. absurd (c .if2 .taken (ap (byteAt (a .s .now)) n ∙ g .byte (omega arith))))
-    (λ b. b)
-    (found (a .s .now) (a .start) (c .before .before .before .before .before .before .pre .1))
+    let h = c .before .before .before .before .before .before .pre .1 in
+    let z = c .before .before .before .zeros-end .result in
+    found-bad (a .s .now) (a .start) h z (next (c .before .before .before)) (c .before .before .if1 .taken) (c .if2 .taken)
 
 -- nothing or a start code does
 good : (c : tie.Joined1) → let a = c .before .before .before .before .args in Good (a .s .now) (a .start)
 good c =
     let a = c .before .before .before .before .args in
-    let n = next (c .before) in
-    ⊎-elim
-    (λ g. g)
-    (λ b. ⊎-elim (λ w. let one = ap (byteAt (a .s .now)) (sym n) ∙ w .2 .left in let above = b .byte in absurd (omega arith)) (λ e. let i = b .inside in let j = e .left in absurd (omega arith)) (c .if1 .came))
-    (found (a .s .now) (a .start) (c .before .before .before .before .pre .1))
+    let h = c .before .before .before .before .pre .1 in
+    found-good (a .s .now) (a .start) h (c .before .zeros-end .result) (next (c .before))
+    (λ i. ⊎-elim (λ w. w .2 .left) (λ e. let j = e .left in absurd (omega arith)) (c .if1 .came))
 
 -- its size
 size :
