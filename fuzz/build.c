@@ -1,7 +1,5 @@
 #include "build.h"
 
-#include <string.h>
-
 /* Bytes being written. Past the room nothing is written, and `full` is set. */
 struct output {
     uint8_t *bytes;
@@ -29,12 +27,31 @@ static void put_header(struct output *out, unsigned type) {
     put(out, 0x800003, 3);
 }
 
+/* A sample has fewer units than this, an aggregator includes fewer. */
+#define UNITS 16
+#define INCLUDED 4
+
+/* Where the units of a sample start, included ones too, and its end. */
+struct borders {
+    size_t at[UNITS * INCLUDED];
+    unsigned count;
+};
+
+static void add_border(struct borders *borders, size_t at) {
+    if (borders->count < sizeof borders->at / sizeof *borders->at)
+        borders->at[borders->count++] = at;
+}
+
+static size_t take_border(struct input *in, const struct borders *borders) {
+    return borders->at[take_below(in, borders->count)];
+}
+
 /* An extractor: index and offset small, data_offset one of `borders`, data_length 0 or up to another. */
-static void put_extractor(struct input *in, int L, struct output *out, const size_t *borders, unsigned count) {
+static void put_extractor(struct input *in, int L, struct output *out, const struct borders *borders) {
     uint8_t shape = take(in);
     put(out, (shape & 0x80) ? take(in) : 1 + (shape & 1), 1);
     put(out, (shape & 0x40) ? take(in) : 0, 1);
-    size_t from = borders[take_below(in, count)], to = borders[take_below(in, count)];
+    size_t from = take_border(in, borders), to = take_border(in, borders);
     put(out, (shape & 0x20) ? take_number(in, L) : from, L);
     put(out, (shape & 0x10) ? take_number(in, L) : to > from ? to - from : 0, L);
 }
@@ -53,20 +70,28 @@ static void put_plain(struct input *in, struct output *out, uint8_t header) {
     }
 }
 
+/* A sample being written: `borders` are those of another sample, `own` its own, `start` where it starts. */
+struct sample {
+    const struct borders *borders;
+    struct borders own;
+    size_t start;
+};
+
 /* A unit after its length. `depth` is 1 inside an aggregator. */
-static void put_unit(struct input *in, int L, struct output *out, int depth, const size_t *borders, unsigned count) {
+static void put_unit(struct input *in, int L, struct output *out, int depth, struct sample *sample) {
     uint8_t choice = take(in);
     size_t length_at = out->at;
+    add_border(&sample->own, length_at - sample->start);
     put(out, 0, L);
     size_t start = out->at;
     if (choice < 0x50) {
         put_header(out, 31);
-        put_extractor(in, L, out, borders, count);
+        put_extractor(in, L, out, sample->borders);
     } else if (choice < 0x80 && (depth == 0 || choice == 0x50)) {
         put_header(out, 30);
         put(out, (choice & 1) ? take(in) : 0, L);
-        for (unsigned i = take_below(in, 4); i > 0 && depth == 0; i--)
-            put_unit(in, L, out, 1, borders, count);
+        for (unsigned i = take_below(in, INCLUDED); i > 0 && depth == 0; i--)
+            put_unit(in, L, out, 1, sample);
     } else {
         put_plain(in, out, choice & 0x7F);
     }
@@ -76,29 +101,21 @@ static void put_unit(struct input *in, int L, struct output *out, int depth, con
         patch(out, length_at, length, L);
 }
 
-#define BORDERS 16
-
 /* A sample; `borders` are those of another sample, and become its own. */
-static void put_sample(struct input *in, int L, struct output *out, size_t *borders, unsigned *count) {
-    size_t own[BORDERS];
-    unsigned units = take_below(in, BORDERS);
-    size_t start = out->at;
-    own[0] = 0;
-    for (unsigned i = 0; i < units; i++) {
-        put_unit(in, L, out, 0, borders, *count);
-        own[i + 1 < BORDERS ? i + 1 : i] = out->at - start;
-    }
-    if (units > 0) {
-        memcpy(borders, own, sizeof own);
-        *count = units + 1 < BORDERS ? units + 1 : BORDERS;
-    }
+static void put_sample(struct input *in, int L, struct output *out, struct borders *borders) {
+    struct sample sample = {borders, {{0}, 0}, out->at};
+    unsigned units = take_below(in, UNITS);
+    for (unsigned i = 0; i < units; i++)
+        put_unit(in, L, out, 0, &sample);
+    add_border(&sample.own, out->at - sample.start);
+    if (units > 0)
+        *borders = sample.own;
 }
 
 size_t build_sample(struct input *in, int length_size, uint8_t *bytes, size_t room) {
     struct output out = {bytes, 0, room, 0};
-    size_t borders[BORDERS] = {0};
-    unsigned count = 1;
-    put_sample(in, length_size, &out, borders, &count);
+    struct borders borders = {{0}, 1};
+    put_sample(in, length_size, &out, &borders);
     return out.at;
 }
 
@@ -143,14 +160,15 @@ size_t build_bundle(struct input *in, uint8_t *bytes, size_t room) {
     /* Sample bytes are built aside, since their lengths come first. */
     static uint8_t side[65536];
     struct output samples = {side, 0, sizeof side, 0};
-    size_t borders[BORDERS] = {0}, count_at = out.at;
-    unsigned count = 1, entries = 0;
+    struct borders borders = {{0}, 1};
+    size_t count_at = out.at;
+    unsigned entries = 0;
     put(&out, 0, 2);
     for (unsigned t = 0; t < tracks; t++) {
         uint64_t time = take_below(in, 4);
         for (unsigned s = take_below(in, SAMPLES); s > 0; s--) {
             size_t start = samples.at;
-            put_sample(in, L, &samples, borders, &count);
+            put_sample(in, L, &samples, &borders);
             put(&out, 1 + t, 1);
             put(&out, time, 8);
             put(&out, samples.at - start, 4);

@@ -1000,6 +1000,81 @@ static void named_by_extractors(void)
     name(bundle, length, 2, 0, 0, 0, 1, __LINE__);
 }
 
+/* An aggregator of two units that covers a third; an aggregator of a unit and an extractor. */
+static const uint8_t COVERING[] = { 0x0C, 0x7E, 0x80, 0x00, 0x03, 0x02, 0x02, 0x67, 0x88, 0x03, 0x06, 0x9A, 0x0F, 0x01, 0x09 };
+static const uint8_t EXTRACTING[] = {
+    0x11, 0x7E, 0x80, 0x00, 0x03, 0x00, 0x02, 0x67, 0x88, 0x08, 0x7F, 0x80, 0x00, 0x03, 0x01, 0x00, 0x00, 0x00,
+};
+
+/* Sample 2 is a unit and an extractor with this data_offset and data_length, on sample 1. Either it is refused with this number, or `copied` of the units
+ * at these places of the bundle come after its own unit. */
+static void copies(const uint8_t *first, size_t first_len, uint8_t offset, uint8_t length, uint32_t number, const uint64_t *spans, size_t copied, int line)
+{
+    const uint8_t second[] = { 0x01, 0x06, 0x08, 0x7F, 0x80, 0x00, 0x03, 0x01, 0x00, offset, length };
+    uint8_t bundle[128], out[64], expected[64] = { 0, 0, 0, 1, 0x06 };
+    uint64_t found[8], own[8] = { 57 + first_len, 1 }, place = UNSET, count = UNSET, passed, empty, refused;
+    size_t bundle_len = with_samples(bundle, first, first_len, second, sizeof second), size = number ? 0 : 5, units = number ? 0 : 1 + copied;
+    for (size_t i = 0; i < copied; i++) {
+        memcpy(own + PUDDOCKLE_SPAN * (i + 1), spans + PUDDOCKLE_SPAN * i, PUDDOCKLE_SPAN * sizeof *own);
+        memcpy(expected + size + 4, bundle + spans[PUDDOCKLE_SPAN * i], spans[PUDDOCKLE_SPAN * i + 1]);
+        expected[size + 3] = (uint8_t)spans[PUDDOCKLE_SPAN * i + 1];
+        size += 4 + spans[PUDDOCKLE_SPAN * i + 1];
+    }
+    memset(out, FILL, sizeof out);
+    same("number", puddockle_resolve(bundle, bundle_len, 2, out, sizeof out, &place, &count), number, line);
+    same("place", place, number ? 2 : 0, line);
+    same("count", count, size, line);
+    same("bytes", memcmp(out, expected, size), 0, line);
+    same("untouched", untouched(out + size, sizeof out - size), 1, line);
+    memset(found, FILL, sizeof found);
+    place = count = UNSET;
+    same("number", puddockle_units(bundle, bundle_len, 2, found, 8, &place, &count), number, line);
+    same("place", place, number ? 2 : 0, line);
+    same("count", count, PUDDOCKLE_SPAN * units, line);
+    same("spans", memcmp(found, own, PUDDOCKLE_SPAN * units * sizeof *own), 0, line);
+    same("untouched", untouched(found + PUDDOCKLE_SPAN * units, (8 - PUDDOCKLE_SPAN * units) * sizeof *found), 1, line);
+    same("audit", puddockle_audit(bundle, bundle_len, out, sizeof out, &place, &count, &passed, &empty, &refused), 0, line);
+    same("refusal", out[PUDDOCKLE_LINE], number, line);
+    same("place", out[PUDDOCKLE_LINE + 4], number ? 2 : 0, line);
+    same("units", out[2 * PUDDOCKLE_LINE - 1], units, line);
+    /* which sample is named does not hang on the start */
+    place = count = UNSET;
+    same("named", puddockle_named(bundle, bundle_len, 2, 2, &place, &count), 0, line);
+    same("named", count, 1, line);
+}
+
+/* Request [4]: starts at included units. */
+static void included_starts(void)
+{
+    static const uint64_t spans[] = { 63, 2, 66, 3, 70, 1 };
+    const uint64_t *second = spans + PUDDOCKLE_SPAN;
+    /* one unit; several, up to the aggregator's end; what it covers comes with a top-level start alone */
+    copies(COVERING, sizeof COVERING, 6, 0, 0, spans, 1, __LINE__);
+    copies(COVERING, sizeof COVERING, 9, 0, 0, second, 1, __LINE__);
+    copies(COVERING, sizeof COVERING, 6, 3, 0, spans, 1, __LINE__);
+    copies(COVERING, sizeof COVERING, 6, 7, 0, spans, 2, __LINE__);
+    copies(COVERING, sizeof COVERING, 9, 4, 0, second, 1, __LINE__);
+    copies(COVERING, sizeof COVERING, 0, 0, 0, spans, 3, __LINE__);
+    /* past the aggregator's end, beside a border; from a top-level start into the aggregator */
+    copies(COVERING, sizeof COVERING, 6, 9, 27, NULL, 0, __LINE__);
+    copies(COVERING, sizeof COVERING, 9, 6, 27, NULL, 0, __LINE__);
+    copies(COVERING, sizeof COVERING, 6, 4, 27, NULL, 0, __LINE__);
+    copies(COVERING, sizeof COVERING, 0, 9, 27, NULL, 0, __LINE__);
+    /* in the aggregator's head, in an included unit, at the sample's end */
+    static const uint8_t no_start[] = { 1, 4, 5, 7, 8, 10, 12, 14, 15, 255 };
+    for (size_t i = 0; i < sizeof no_start; i++) {
+        copies(COVERING, sizeof COVERING, no_start[i], 0, 26, NULL, 0, __LINE__);
+        copies(COVERING, sizeof COVERING, no_start[i], 1, 26, NULL, 0, __LINE__);
+    }
+    /* an extractor where it is copied; 27 before 28 */
+    copies(EXTRACTING, sizeof EXTRACTING, 6, 0, 0, spans, 1, __LINE__);
+    copies(EXTRACTING, sizeof EXTRACTING, 9, 0, 28, NULL, 0, __LINE__);
+    copies(EXTRACTING, sizeof EXTRACTING, 9, 9, 28, NULL, 0, __LINE__);
+    copies(EXTRACTING, sizeof EXTRACTING, 6, 12, 28, NULL, 0, __LINE__);
+    copies(EXTRACTING, sizeof EXTRACTING, 9, 8, 27, NULL, 0, __LINE__);
+    copies(EXTRACTING, sizeof EXTRACTING, 18, 0, 26, NULL, 0, __LINE__);
+}
+
 int main(void)
 {
     read_records();
@@ -1017,6 +1092,7 @@ int main(void)
     longest_units(2, 65535);
     streams_read_back();
     named_by_extractors();
+    included_starts();
     printf("%u checks, %u failed\n", checks, failures);
     return failures != 0;
 }

@@ -1,7 +1,7 @@
-"""The rules of docs/FORMAT.md in Python, for the answers of the vectors that make_contents makes and of stream.txt and from_stream.txt.
+"""The rules of docs/FORMAT.md in Python, for the answers of the vectors that make_contents makes and of stream.txt, from_stream.txt and included.txt.
 
-Written from FORMAT.md alone (`stream` and `from_stream` from requests [2] and [3] of document 02), plainly and not for speed. A refusal is the exception No,
-with a number and a place.
+Written from FORMAT.md alone (`stream`, `from_stream` and `rows` from requests [2] to [4] of document 02), plainly and not for speed. A refusal is the
+exception No, with a number and a place.
 """
 import re
 
@@ -220,6 +220,12 @@ def flat(size, data, units):
     return [inner for unit in units for inner in (included(size, data, unit) if unit[2] == 30 else [unit])]
 
 
+def rows(size, data):
+    """Units beside one another: the top-level ones of a well-formed sample, and those that each of its aggregators includes."""
+    units = parts(size, data, 0, len(data))
+    return [units] + [included(size, data, unit) for unit in units if unit[2] == 30]
+
+
 def extractors(bundle, number):
     """The extractors of a well-formed sample, by place."""
     _, size, data = bundle.sample(number)
@@ -256,16 +262,16 @@ def copied(bundle, number, unit):
     except No:
         raise No(25, place)
     offset, length = big(data, place + size + 6, size), big(data, place + size + 6 + size, size)
-    units = parts(size, linked, 0, len(linked))
-    first = [u for u in units if u[0] == offset]
-    if not first:
+    found = [row for row in rows(size, linked) if offset in [u[0] for u in row]]
+    if not found:
         raise No(26, place)
+    units = [u for u in found[0] if offset <= u[0]]
     end = offset + length
     if length == 0:
-        end = covered(size, linked, first[0]) if first[0][2] == 30 else first[0][1]
+        end = covered(size, linked, units[0]) if units[0][2] == 30 else units[0][1]
     if end not in [u[1] for u in units]:
         raise No(27, place)
-    found = flat(size, linked, [u for u in units if offset <= u[0] < end])
+    found = flat(size, linked, [u for u in units if u[0] < end])
     if any(u[2] == 31 for u in found):
         raise No(28, place)
     start = bundle.samples[source - 1][2]

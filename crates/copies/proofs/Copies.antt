@@ -1,43 +1,51 @@
 -- Where a copy starts and ends. Assumes nothing.
 --
---   starts-border, starts-top, starts-past    data_offset by borders
---   end-length, end-unit, end-aggregator, end-after, end-zero    where a copy ends
---   border-none                   a copy without 26 and 27 starts at a top-level unit and ends on a border
---   copy-top, copy-whole, copy-cut, copy-most    a copy without 26 and 27: its first unit, and what lies between its borders
---   copied-flat                   its units are those of one walk over it, aggregators dropped
-use Prim.Native.Nat.{ℕ, _+_, _≤_, _<_}
-use mathlib.Core.Path.{_≡_, ap}
+--   starts-unit, unit-starts, starts-not    data_offset is a unit of the sample, or none
+--   end-length, end-unit, end-aggregator, end-after    where a copy ends
+--   ends-top, ends-included     on which borders, by its start
+--   Run, run-top, run-included, run    the units that a copy starts and ends among
+--   run-none, run-some          whether a unit starts at data_offset
+--   ends-border                 where a copy may end is a border of units
+--   end-zero                    what data_length 0 takes ends on a border
+--   border-none                 a copy without 26 and 27 starts at a unit and ends on a border of those that it stands among
+--   copy-unit, copy-whole, copy-cut, copy-most    its first unit, and what lies between its borders
+--   copied-flat                 its units are those of one walk over it, aggregators dropped
+use Prim.Native.Nat.{ℕ, suc, _+_, _≤_, _<_}
+use mathlib.Core.Path.{_≡_, refl, ap, sym, _∙_}
 use mathlib.Core.List.{List·Memᴰ}
-use mathlib.Core.Bool.{true, false}
+use mathlib.Core.Logic.{inl, inr}
+use mathlib.Core.Bool.{Bool, true, false, not, _||_, _&&_}
 use native.Mathlib.Omega.{arith}
 use borrow.Author.Tests.{eq-eqb, ne-eqb, eqb-true, eqb-false, not-false}
-use Rattle.words.specs.Tests.{_≡?_}
+use Rattle.words.specs.Tests.{_≤?_, _<?_, _≡?_}
 use Rattle.words.specs.Refusals.{ok}
-use Rattle.words.proofs.Tests.{by-bool}
+use Rattle.words.specs.Lists.{has}
+use Rattle.words.proofs.Tests.{by-bool, true-false}
 use Rattle.words.proofs.Refusals.{if-none, orElse-none}
-use Rattle.words.proofs.Lists.{some-none, has-from}
-use Rattle.units.specs.Units.{Sample, end, next, isAggregator, topUnits, border}
-use Rattle.units.specs.Aggregators.{coverEnd}
+use Rattle.words.proofs.Lists.{some-none, some-mem, has-from}
+use Rattle.words.proofs.Kept.{keep-keep}
+use Rattle.units.specs.Units.{Sample, end, next, isAggregator, places, topUnits, border}
+use Rattle.units.specs.Aggregators.{includedStart, included, coverEnd, units}
 use Rattle.units.specs.Rules.{Whole}
-use Rattle.units.proofs.Units.{next-after}
-use Rattle.units.proofs.Walks.{in-top}
+use Rattle.units.proofs.Units.{next-after, whole-end}
+use Rattle.units.proofs.Walks.{in-top, in-places, units-top, units-included, units-from}
 use Rattle.samples.specs.Check.{check}
-use Rattle.samples.proofs.Laws.{rules, covered-border}
-use Rattle.copies.specs.Copies.{withoutAggregators, copyStarts, copyEnd, copyEnds, copied, startFault, borderFault}
-use Rattle.copies.specs.Flat.{flatPlaces, BetweenBorders}
-use Rattle.copies.proofs.Borders.{border-most, top-border, border-next}
-use Rattle.copies.proofs.Flat.{flat-between}
+use Rattle.samples.proofs.Laws.{rules, included-inside, covered-border, unit-whole, unit-inside}
+use Rattle.copies.specs.Copies.{withoutAggregators, includedBorder, copyStarts, copyEnd, copyEnds, copied, startFault, borderFault}
+use Rattle.copies.specs.Flat.{flatPlaces, UnitBorder, BetweenBorders}
+use Rattle.copies.specs.Runs.{RunEnd}
+use Rattle.copies.proofs.Flat.{border-most, flat-between}
+use Rattle.copies.proofs.Runs.{places-next, top-apart, includes-one}
 
 module _ (z : Sample) (o : ℕ) where
-  pub starts-border : o < end z → copyStarts z o ≡ border z o
-  unfolding border
-  starts-border h = rw (ne-eqb o (end z) (omega arith))
+  pub starts-unit : copyStarts z o ≡ true → List·Memᴰ o (units z)
+  starts-unit h = has-from o (units z) h
 
-  pub starts-top : copyStarts z o ≡ true → List·Memᴰ o (topUnits z)
-  starts-top h = has-from o (topUnits z) h
+  pub unit-starts : List·Memᴰ o (units z) → copyStarts z o ≡ true
+  unit-starts m = some-mem (λ q. o ≡? q) (units z) m (eq-eqb o o refl)
 
-  pub starts-past : end z ≤ o → copyStarts z o ≡ false
-  starts-past h = some-none (λ m. o ≡? m) (topUnits z) (λ q m. let i = in-top z q m in ne-eqb o q (omega arith))
+  pub starts-not : (List·Memᴰ o (units z) → ⊥) → copyStarts z o ≡ false
+  starts-not h = by-bool (copyStarts z o) (λ t. absurd (h (starts-unit t))) (λ t. t)
 
 module _ (z : Sample) (o n : ℕ) where
   pub end-length : (n ≡ 0 → ⊥) → copyEnd z o n ≡ o + n
@@ -59,12 +67,85 @@ module _ (z : Sample) (o n : ℕ) where
       (λ g. let i = end-unit e g in omega arith))
       (λ t. let e = eqb-false n 0 t in let i = end-length e in omega arith)
 
-  -- what data_length 0 takes ends on a border
-  pub end-zero : check z ≡ ok tt → List·Memᴰ o (topUnits z) → n ≡ 0 → border z (copyEnd z o n) ≡ true
-  end-zero k m e = by-bool (isAggregator z o)
-      (λ t. rw (end-aggregator e t) (covered-border z k o m t))
-      (λ t. rw (end-unit e t) (border-next z (rules z k .tops) o (top-border z o m) (in-top z o m)))
+  pub ends-top : List·Memᴰ o (topUnits z) → copyEnds z o n ≡ border z (copyEnd z o n)
+  unfolding copyEnds
+  ends-top m = rw (some-mem (λ q. o ≡? q) (topUnits z) m (eq-eqb o o refl))
 
+  pub ends-included : (p : ℕ) → List·Memᴰ p (topUnits z) → isAggregator z p ≡ true → List·Memᴰ o (included z p) → copyEnds z o n ≡ includedBorder z p (copyEnd z o n)
+  unfolding copyEnds
+  ends-included p m t k =
+      rw (some-none (λ q. o ≡? q) (topUnits z) (λ q j. ne-eqb o q (λ e. top-apart z p o m k (rw e j))))
+      (includes-one z (λ r. includedBorder z r (copyEnd z o n)) p o m t k)
+
+-- The units from a up to e, among which one starts at o.
+pub record Run (z : Sample) (a e o : ℕ) : Type 0 where
+  pub here : List·Memᴰ o (places z a e)
+  pub member : (q : ℕ) → List·Memᴰ q (places z a e) → List·Memᴰ q (units z) × (next z q ≤ e)
+  pub stop : UnitBorder z e
+  pub ends : (n : ℕ) → copyEnds z o n ≡ ((copyEnd z o n ≡? e) || has (copyEnd z o n) (places z a e))
+
+module _ (z : Sample) (k : check z ≡ ok tt) (o : ℕ) where
+  pub run-top : List·Memᴰ o (topUnits z) → Run z 0 (end z) o
+  unfolding topUnits border
+  run-top m = record {
+    here = m;
+    member = λ q j. (units-top z q j, whole-end z (end z) q (rules z k .tops q j) .1);
+    stop = inr refl;
+    ends = λ n. ends-top z o n m;
+  }
+
+  pub run-included : (p : ℕ) → List·Memᴰ p (topUnits z) → isAggregator z p ≡ true → List·Memᴰ o (included z p) → Run z (includedStart z p) (next z p) o
+  run-included p m t j = record {
+    here = j;
+    member = λ q i. (units-included z p q m t i, included-inside z k p m t q i .1);
+    stop = after (next z p) (unfold topUnits in places-next z 0 (end z) p m (whole-end z (end z) p (rules z k .tops p m) .1));
+    ends = λ n. ends-included z o n p m t j;
+  }
+    where
+      after : (q : ℕ) → ((q ≡? end z) || has q (places z 0 (end z))) ≡ true → UnitBorder z q
+      after q h = by-bool (q ≡? end z)
+          (λ u. inr (eqb-true q (end z) u))
+          (λ u. inl (units-top z q (unfold topUnits in has-from q (places z 0 (end z)) (rw u at h))))
+
+  pub run : (e : ℕ) → RunEnd z o e → copyStarts z o ≡ true → (a : ℕ) × Run z a e o
+  run e (RunEnd.none h) s = true-false _ s h
+  run e (RunEnd.top m) s = (0, run-top m)
+  run e (RunEnd.inside p m t j) s = (includedStart z p, run-included p m t j)
+
+  pub run-none : (e : ℕ) → RunEnd z o e → e ≡ 0 → copyStarts z o ≡ false
+  run-none e (RunEnd.none h) i = h
+  run-none e (RunEnd.top m) i = let l = in-top z o m in absurd (omega arith)
+  run-none e (RunEnd.inside p m t j) i = let l = next-after z p in absurd (omega arith)
+
+  pub run-some : (e : ℕ) → RunEnd z o e → (e ≡ 0 → ⊥) → copyStarts z o ≡ true
+  run-some e (RunEnd.none h) i = absurd (i refl)
+  run-some e (RunEnd.top m) i = unit-starts z o (units-top z o m)
+  run-some e (RunEnd.inside p m t j) i = unit-starts z o (units-included z p o m t j)
+
+  -- a unit stands in a run
+  some-run : {G : Type 0} → copyStarts z o ≡ true → ((a e : ℕ) → Run z a e o → G) → G
+  some-run s g = units-from z o (starts-unit z o s) (λ m. g 0 (end z) (run-top m)) (λ p m t j. g (includedStart z p) (next z p) (run-included p m t j))
+
+  run-border : (a e n : ℕ) → Run z a e o → copyEnds z o n ≡ true → UnitBorder z (copyEnd z o n)
+  run-border a e n w h = by-bool (copyEnd z o n ≡? e)
+      (λ t. rw (eqb-true (copyEnd z o n) e t) (w .stop))
+      (λ t. inl (w .member _ (has-from _ (places z a e) (rw t at (sym (w .ends n) ∙ h))) .0))
+
+  pub ends-border : (n : ℕ) → copyStarts z o ≡ true → copyEnds z o n ≡ true → UnitBorder z (copyEnd z o n)
+  ends-border n s h = some-run s (λ a e w. run-border a e n w h)
+
+  -- what data_length 0 takes ends on a border
+  pub end-zero : (n : ℕ) → copyStarts z o ≡ true → n ≡ 0 → copyEnds z o n ≡ true
+  end-zero n s i = units-from z o (starts-unit z o s)
+      (λ m. by-bool (isAggregator z o)
+      (λ t. ends-top z o n m ∙ rw (end-aggregator z o n i t) (covered-border z k o m t))
+      (λ t. next-border 0 (end z) (run-top m) t))
+      (λ p m t j. next-border (includedStart z p) (next z p) (run-included p m t j) (included-inside z k p m t o j .2))
+    where
+      next-border : (a e : ℕ) → Run z a e o → isAggregator z o ≡ false → copyEnds z o n ≡ true
+      next-border a e w t = w .ends n ∙ rw (end-unit z o n i t) (places-next z a e o (w .here) (w .member o (w .here) .1))
+
+module _ (z : Sample) (o n : ℕ) where
   pub border-none : borderFault z o n ≡ 0 → (copyStarts z o ≡ true) × (copyEnds z o n ≡ true)
   unfolding borderFault
   border-none h =
@@ -73,18 +154,25 @@ module _ (z : Sample) (o n : ℕ) where
 
   -- a copy without 26 and 27
   module _ (b : borderFault z o n ≡ 0) where
-    pub copy-top : List·Memᴰ o (topUnits z)
-    copy-top = starts-top z o (border-none b .0)
+    pub copy-unit : List·Memᴰ o (units z)
+    copy-unit = starts-unit z o (border-none b .0)
 
     pub copy-cut : check z ≡ ok tt → BetweenBorders z o (copyEnd z o n)
-    copy-cut k = record { formed = k; start = top-border z o copy-top; stop = border-none b .1; order = (let a = end-after in omega arith) }
+    copy-cut k = record {
+      formed = k;
+      start = inl copy-unit;
+      stop = ends-border z k o n (border-none b .0) (border-none b .1);
+      order = (let a = end-after z o n in omega arith);
+    }
 
     pub copy-whole : check z ≡ ok tt → Whole z (end z) o
-    copy-whole k = rules z k .tops o copy-top
+    copy-whole k = unit-whole z k o copy-unit
 
     pub copy-most : check z ≡ ok tt → copyEnd z o n ≤ end z
-    copy-most k = border-most z (copyEnd z o n) (copy-cut k .stop)
+    copy-most k = border-most z k (copyEnd z o n) (copy-cut k .stop)
 
     pub copied-flat : check z ≡ ok tt → copied z o n ≡ withoutAggregators z (flatPlaces z o (copyEnd z o n))
     unfolding copied
-    copied-flat k = ap (withoutAggregators z) (flat-between z o (copyEnd z o n) (copy-cut k))
+    copied-flat k =
+        keep-keep (λ q. (o ≤? q) && (q <? copyEnd z o n)) (λ q. not (isAggregator z q)) (units z)
+        ∙ ap (withoutAggregators z) (flat-between z o (copyEnd z o n) (copy-cut k))

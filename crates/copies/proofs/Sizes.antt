@@ -70,7 +70,7 @@ module _ (z : Sample) where
 
   module _ (o n : ℕ) (c : CopyRules z o n) where
     pub copied-apart : Rising (Before z) (copied z o n)
-    copied-apart = rw (copied-exact z o n c) (rising-keep (Before z) _ (withoutAggregators z (units z)) (units-apart (c .formed)))
+    copied-apart = rw (copied-exact z o n) (rising-keep (Before z) _ (withoutAggregators z (units z)) (units-apart (c .formed)))
 
     pub copied-size : sum (map (λ q. L z + size z q) (copied z o n)) ≤ end z
     copied-size =

@@ -4,15 +4,17 @@
 --   flatStep x p           the place after p in that walk
 --   flatPlaces x a e       the places of units from a up to e, included ones too
 --   unitsBetween x a e     the same without aggregators
---   BetweenBorders x a e   the sample is well formed, and a and e are top-level borders of it
+--   UnitBorder x q         q is the start of a unit, top-level or included, or the end of the sample
+--   BetweenBorders x a e   the sample is well formed, and a and e are such borders of it
 use Prim.Native.Nat.{ℕ, zero, suc, _-_, _≤_}
 use mathlib.Core.Path.{_≡_}
 use mathlib.Core.List.{List, [], _∷_}
-use mathlib.Core.Bool.{true}
+use mathlib.Core.Logic.{_⊎_}
 use Rattle.words.specs.Tests.{_≤?_, pick, _when_else_}
 use Rattle.words.specs.Refusals.{ok}
-use Rattle.units.specs.Units.{Sample, next, isAggregator, border}
-use Rattle.units.specs.Aggregators.{includedStart}
+use Rattle.words.specs.Lists.{_∈_}
+use Rattle.units.specs.Units.{Sample, end, next, isAggregator}
+use Rattle.units.specs.Aggregators.{includedStart, units}
 use Rattle.samples.specs.Check.{check}
 use Rattle.copies.specs.Copies.{withoutAggregators}
 
@@ -31,8 +33,11 @@ module _ (x : Sample) where
   abbrev pub unitsBetween : ℕ → ℕ → List ℕ
   unitsBetween a e = withoutAggregators x (flatPlaces a e)
 
+  abbrev pub UnitBorder : ℕ → Type 0
+  UnitBorder q = (q ∈ units x) ⊎ (q ≡ end x)
+
   pub record BetweenBorders (a e : ℕ) : Type 0 where
     pub formed : check x ≡ ok tt
-    pub start : border x a ≡ true
-    pub stop : border x e ≡ true
+    pub start : UnitBorder a
+    pub stop : UnitBorder e
     pub order : a ≤ e

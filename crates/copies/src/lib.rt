@@ -7,11 +7,12 @@ ghost use Prim.Native.Nat.{_≤_};
 ghost use lib.ListN.{length};
 ghost use Rattle.words.specs.Refusals.{ok};
 ghost use Rattle.words.specs.Lists.{nth};
-ghost use Rattle.units.specs.Units.{sample, next, border};
+ghost use Rattle.units.specs.Units.{sample, next};
 ghost use Rattle.samples.specs.Check.{check};
 ghost use Rattle.copies.specs.Copies.{copyStarts, copyEnd, copyEnds, borderFault, chainFault, copyFault};
 ghost use Rattle.copies.specs.Extracted.{copiedUnit, extracted};
 ghost use Rattle.copies.specs.Flat.{unitsBetween, BetweenBorders};
+ghost use Rattle.copies.specs.Runs.{InSample, Around, RunEnd};
 ghost use Rattle.copies.specs.Written.{copiedPlace};
 use numbers::ByteOffset;
 use numbers::LengthSize;
@@ -33,41 +34,65 @@ fn next_at(k: Track, z: &[u8], at: usize) -> usize
     at + l.bytes() + l.number(z, at)
 }
 
-// Whether a top-level border stands at a place, by a walk from a border that does not lie after it.
-fn is_border(k: Track, z: &[u8], from: usize, to: usize) -> bool
-    requires { ⌜ (check (sample k (now z)) ≡ ok tt) × (border (sample k (now z)) from ≡ true) × (from ≤ to) × (to ≤ length (now z)) ⌝ }
-    ensures { λ r. ⌜ r ≡ border (sample k (now (z .entry))) to ⌝ }
+// Where the unit starts that a place lies in, by a walk over units from one that does not lie after it.
+fn unit_around(k: Track, z: &[u8], from: usize, place: usize) -> usize
+    requires { ⌜ InSample (sample k (now z)) from place ⌝ }
+    ensures { λ r. ⌜ Around (sample k (now (z .entry))) from place r ⌝ }
 {
     let mut q = from;
-    while q < to {
-        q = next_at(k, z, q);
+    let mut next = next_at(k, z, from);
+    while next <= place {
+        q = next;
+        next = next_at(k, z, q);
     }
-    q == to
+    q
 }
 
-// Whether data_offset is the start of a top-level unit.
-fn copy_starts(k: Track, z: &[u8], from: usize) -> bool
+// Where the units end among which one starts at data_offset: the sample's end for a top-level unit, its aggregator's end for an included
+// one; 0 where no unit starts there.
+fn run_end(k: Track, z: &[u8], from: usize) -> usize
     requires { ⌜ check (sample k (now z)) ≡ ok tt ⌝ }
-    ensures { λ r. ⌜ r ≡ copyStarts (sample k (now (z .entry))) from ⌝ }
+    ensures { λ r. ⌜ RunEnd (sample k (now (z .entry))) from r ⌝ }
 {
     if z.len() <= from {
-        return false;
+        return 0;
     }
-    is_border(k, z, 0, from)
+    let top = unit_around(k, z, 0, from);
+    if top == from {
+        return z.len();
+    }
+    if units::type_at(k, z, ByteOffset(top)) != units::AGGREGATOR {
+        return 0;
+    }
+    let l = k.length_size;
+    let n = l.bytes();
+    let included = top + n + LengthSize::HEADER + n;
+    if from < included {
+        return 0;
+    }
+    if unit_around(k, z, included, from) != from {
+        return 0;
+    }
+    next_at(k, z, top)
 }
 
-// Whether a copy ends on a top-level border. What data_length 0 takes does so in any well-formed sample.
-fn copy_ends(k: Track, z: &[u8], from: usize, length: usize) -> bool
-    requires { ⌜ (check (sample k (now z)) ≡ ok tt) × (copyStarts (sample k (now z)) from ≡ true) ⌝ }
+// Whether a copy ends on a border of the units that it starts among, which end at `end`. What data_length 0 takes does so in any well-formed
+// sample.
+fn copy_ends(k: Track, z: &[u8], from: usize, length: usize, end: usize) -> bool
+    requires { ⌜ (check (sample k (now z)) ≡ ok tt) × (copyStarts (sample k (now z)) from ≡ true) × RunEnd (sample k (now z)) from end ⌝ }
     ensures { λ r. ⌜ r ≡ copyEnds (sample k (now (z .entry))) from length ⌝ }
 {
     if length == 0 {
         return true;
     }
-    if z.len() - from < length {
+    if end - from < length {
         return false;
     }
-    is_border(k, z, from, from + length)
+    let to = from + length;
+    if to == end {
+        return true;
+    }
+    unit_around(k, z, from, to) == to
 }
 
 // 26, then 27.
@@ -75,10 +100,11 @@ pub(crate) fn border_fault(k: Track, z: &[u8], from: usize, length: usize) -> u8
     requires { ⌜ check (sample k (now z)) ≡ ok tt ⌝ }
     ensures { λ r. ⌜ r ≡ borderFault (sample k (now (z .entry))) from length ⌝ }
 {
-    if !copy_starts(k, z, from) {
+    let end = run_end(k, z, from);
+    if end == 0 {
         return refusals::BAD_DATA_OFFSET;
     }
-    if !copy_ends(k, z, from, length) {
+    if !copy_ends(k, z, from, length, end) {
         return refusals::BAD_DATA_LENGTH;
     }
     0
@@ -140,7 +166,8 @@ fn formed_fault(k: Track, z: &[u8], from: usize, length: usize) -> u8
 }
 
 // The refusal number of a copy by data_offset and data_length, 25 to 28; 0 for none.
-// The sample is checked once; then one walk goes over its top-level units up to the end of the copy, and one over the units copied.
+// The sample is checked once. Then one walk goes over its top-level units up to data_offset, there into an aggregator, and on to the end of
+// the copy; and one over the units copied.
 fn copy_fault(k: Track, z: &[u8], offset: ByteOffset, length: usize) -> u8
     ensures { λ r. ⌜ r ≡ copyFault (sample k (now (z .entry))) (offset .0) length ⌝ }
 {

@@ -29,7 +29,8 @@ fn range_formed(k: Track, z: &[u8], from: usize, length: usize) -> CopyRange
 }
 
 // A copy of a sample by data_offset and data_length: 25 to 27, or where it ends.
-// The sample is checked once, and one walk goes over its top-level units up to the end of the copy.
+// The sample is checked once, and one walk goes over its top-level units up to data_offset, there into an aggregator, and on to the end of
+// the copy.
 pub fn range_of(k: Track, z: &[u8], offset: ByteOffset, length: usize) -> CopyRange
     ensures { λ r. ⌜ r ≡ rangeOf (sample k (now (z .entry))) (offset .0) length ⌝ }
 {

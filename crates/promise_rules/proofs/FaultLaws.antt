@@ -11,10 +11,10 @@ use lib.ListN.{length}
 use Rattle.words.specs.Tests.{_≤?_, _<?_, _≡?_}
 use Rattle.words.specs.Refusals.{refused, ok}
 use Rattle.words.specs.Lists.{_∈_, keep, some}
-use Rattle.words.proofs.Tests.{by-bool, by-number, true-false}
+use Rattle.words.proofs.Tests.{by-bool, by-number, true-false, and-both}
 use Rattle.words.proofs.Refusals.{ok-refused, by-verdict}
-use Rattle.words.proofs.Lists.{keep-mem, keep-from, has-from, some-mem}
-use Rattle.units.specs.Units.{Sample, type, isAggregator, isExtractor, topUnits, border}
+use Rattle.words.proofs.Lists.{keep-mem, keep-from, some-mem}
+use Rattle.units.specs.Units.{Sample, type, isAggregator, isExtractor}
 use Rattle.units.specs.Extractors.{trackRefIndex, sampleOffset, dataOffset, dataLength}
 use Rattle.units.specs.Aggregators.{units}
 use Rattle.samples.specs.Check.{check}
@@ -22,12 +22,14 @@ use Rattle.bundles.specs.Recordings.{Layout, Recording, trackOf, referencesFrom
 use Rattle.links.specs.Links.{linkFault, sampleNamed, nameFault}
 use Rattle.links.specs.Order.{TimesRise}
 use Rattle.links.proofs.Links.{link-good, name-good}
-use Rattle.copies.specs.Copies.{withoutAggregators, copyStarts, copyEnd, copied, borderFault, copyFault}
+use Rattle.copies.specs.Copies.{withoutAggregators, copyStarts, copyEnd, copyEnds, copied, borderFault, copyFault}
+use Rattle.copies.proofs.Copied.{copied-exact}
 use Rattle.resolution_rules.specs.Resolving.{sampleOf, own, named, linked, nameFaultAt, copyFaultAt, extractFault}
-use Rattle.promise_rules.specs.Resolving.{NamedBy}
+use Rattle.promise_rules.specs.Resolving.{NamedBy, CopyAmong}
 use Rattle.promise_rules.specs.Refused.{ExtractorFault}
-use Rattle.promise_rules.proofs.SampleLaws.{formed-rules, rules-formed, border-at, at-border}
-use Rattle.promise_rules.proofs.ResolveLaws.{names-by, by-names, copy-ends, ends-copy, copied-between}
+use Rattle.promise_rules.proofs.SampleLaws.{formed-rules, rules-formed}
+use Rattle.promise_rules.proofs.CopyLaws.{copy-25, copy-26, copy-27, copy-28, copy-0, some-from, starts-of, of-starts, copy-ends, ends-copy, among-of, of-among}
+use Rattle.promise_rules.proofs.ResolveLaws.{names-by, by-names}
 
 -- the numbers of a name
 module _ (y : Layout) (n index offset : ℕ) where
@@ -57,38 +59,6 @@ module _ (y : Layout) (n index offset : ℕ) where
       (λ u. by-number (sampleNamed y n index offset)
       (λ z. g (pos-of-ne-zero (eqb-false _ _ t)) (ltb-false _ _ u) z)
       (λ k z. h (name-good y n index offset (omega arith)))))
-
--- the numbers of a copy
-module _ (z : Sample) (o n : ℕ) where
-  copy-25 : {m p : ℕ} → check z ≡ refused m p → copyFault z o n ≡ 25
-  unfolding copyFault
-  copy-25 v = rw v
-
-  copy-26 : check z ≡ ok tt → copyStarts z o ≡ false → copyFault z o n ≡ 26
-  unfolding copyFault borderFault
-  copy-26 v s = rw (v, s)
-
-  copy-27 : check z ≡ ok tt → copyStarts z o ≡ true → border z (copyEnd z o n) ≡ false → copyFault z o n ≡ 27
-  unfolding copyFault borderFault
-  copy-27 v s e = rw (v, s, e)
-
-  copy-28 : check z ≡ ok tt → copyStarts z o ≡ true → border z (copyEnd z o n) ≡ true → some (isExtractor z) (copied z o n) ≡ true → copyFault z o n ≡ 28
-  unfolding copyFault borderFault
-  copy-28 v s e x = rw (v, s, e, x)
-
-  copy-0 : check z ≡ ok tt → copyStarts z o ≡ true → border z (copyEnd z o n) ≡ true → some (isExtractor z) (copied z o n) ≡ false → copyFault z o n ≡ 0
-  unfolding copyFault borderFault
-  copy-0 v s e x = rw (v, s, e, x)
-
-some-from : (t : ℕ → Bool) (xs : List ℕ) → some t xs ≡ true → (x : ℕ) × (x ∈ xs) × (t x ≡ true)
-unfolding some
-some-from t [] e = true-false false e refl
-some-from t (x ∷ xs) e = by-bool (t x)
-    (λ q. (x, List·Memᴰ·head refl, q))
-    (λ q. let w = some-from t xs (rw q at e) in (w .0, List·Memᴰ·tail (w .1), w .2))
-
-starts : (z : Sample) {o : ℕ} → o ∈ topUnits z → copyStarts z o ≡ true
-starts z {o} m = some-mem (λ j. o ≡? j) (topUnits z) m (eq-eqb o o refl)
 
 module _ (r : Recording) (rise : TimesRise (r .layout)) (n : ℕ) (byte : (p : ℕ) → sampleOffset (sampleOf r n) p < 256) (p : ℕ) where
   abbrev index : ℕ
@@ -129,28 +99,23 @@ module _ (r : Recording) (rise : TimesRise (r .layout)) (n : ℕ) (byte : (p : �
       (λ a c v. is (copy-then f ∙ copy-25 z o l v) (ExtractorFault.form (named r n p) w (λ g. ok-refused (sym v ∙ rules-formed z g))))
       (λ v. let g = formed-rules z v in
       by-bool (copyStarts z o)
-      (λ t. let u = has-from o (topUnits z) t in
-      by-bool (border z (copyEnd z o l))
+      (λ t. by-bool (copyEnds z o l)
       (λ d. by-bool (some (isExtractor z) (copied z o l))
       (λ x.
       let q = some-from (isExtractor z) (copied z o l) x in
-      let i = keep-from (λ j. (o ≤? j) && (j <? copyEnd z o l)) (withoutAggregators z (units z)) (subst (λ js. q .0 ∈ js) (copied-between z o l v u d) (q .1)) in
-      let a = and-true (o ≤? q .0) (q .0 <? copyEnd z o l) (i .1) in
+      let i = keep-from (λ j. (o ≤? j) && (j <? copyEnd z o l)) (withoutAggregators z (units z)) (subst (λ js. q .0 ∈ js) (copied-exact z o l) (q .1)) in
+      let a = and-both (o ≤? q .0) (q .0 <? copyEnd z o l) (i .1) in
       is (copy-then f ∙ copy-28 z o l v t d x)
-      (ExtractorFault.chain (named r n p) (copyEnd z o l) (q .0) w g u (copy-ends z o l) (border-at z (copyEnd z o l) d)
+      (ExtractorFault.chain (named r n p) (copyEnd z o l) (q .0) w g (copy-ends z o l) (among-of z o l t d)
       (keep-from (λ j. not (isAggregator z j)) (units z) (i .0) .0) (leb-true _ _ (a .0)) (ltb-true _ _ (a .1)) (eqb-true _ _ (q .2))))
       (λ x. let y = copy-then f ∙ copy-0 z o l v t d x in absurd (omega arith)))
       (λ d. is (copy-then f ∙ copy-27 z o l v t d)
-      (ExtractorFault.end (named r n p) (copyEnd z o l) w g u (copy-ends z o l) (λ b. true-false (border z (copyEnd z o l)) (at-border z (copyEnd z o l) b) d))))
+      (ExtractorFault.end (named r n p) (copyEnd z o l) w g (starts-of z o t) (copy-ends z o l) (λ b. true-false (copyEnds z o l) (of-among z o l b .1) d))))
       (λ t. is (copy-then f ∙ copy-26 z o l v t)
-      (ExtractorFault.start (named r n p) w g (λ k. true-false (copyStarts z o) (starts z k) t)))))
+      (ExtractorFault.start (named r n p) w g (λ k. true-false (copyStarts z o) (of-starts z o k) t)))))
     where
       is : {k : ℕ} → extractFault r n p ≡ k → ExtractorFault r n p k → ExtractorFault r n p m
       is q w = subst (ExtractorFault r n p) (sym q ∙ e) w
-
-      and-true : (a c : Bool) → (a && c) ≡ true → (a ≡ true) × (c ≡ true)
-      and-true true c h = (refl, h)
-      and-true false c h = true-false false h refl
 
   -- 23 and 24 are those of the name, both ways
   pub name-fault-of : {m : ℕ} → nameFaultAt r n p ≡ suc m → ExtractorFault r n p (suc m) × (suc m < 25)
@@ -177,10 +142,10 @@ module _ (r : Recording) (rise : TimesRise (r .layout)) (n : ℕ) (byte : (p : �
   name-fault-is (ExtractorFault.form k w z) l = absurd (omega arith)
   name-fault-is (ExtractorFault.start k w f z) l = absurd (omega arith)
   name-fault-is (ExtractorFault.end k e w f s c z) l = absurd (omega arith)
-  name-fault-is (ExtractorFault.chain k e q w f s c d u a b t) l = absurd (omega arith)
+  name-fault-is (ExtractorFault.chain k e q w f c d u a b t) l = absurd (omega arith)
 
-  -- back
-  then : {k : ℕ} → NamedBy (r .layout) n index offset k → extractFault r n p ≡ copyFault (sampleOf r k) o l
+  -- the fault of an extractor that names sample k is that of its copy
+  pub then : {k : ℕ} → NamedBy (r .layout) n index offset k → extractFault r n p ≡ copyFault (sampleOf r k) o l
   unfolding named
   then {k} w =
       let i = by-names (r .layout) rise n index offset (byte p) k w in
@@ -197,21 +162,22 @@ module _ (r : Recording) (rise : TimesRise (r .layout)) (n : ℕ) (byte : (p : �
   )
   is-fault (ExtractorFault.start k w f none) =
       let z = sampleOf r k in
-      (then w ∙ copy-26 z o l (rules-formed z f) (by-bool (copyStarts z o) (λ t. absurd (none (has-from o (topUnits z) t))) (λ t. t)), omega arith)
+      (then w ∙ copy-26 z o l (rules-formed z f) (by-bool (copyStarts z o) (λ t. absurd (none (starts-of z o t))) (λ t. t)), omega arith)
   is-fault (ExtractorFault.end k e w f s ends none) =
-      let z = sampleOf r k in (
-        then w ∙ copy-27 z o l (rules-formed z f) (starts z s)
-            (rw (ends-copy z o l e ends) (by-bool (border z e) (λ t. absurd (none (border-at z e t))) (λ t. t))),
+      let z = sampleOf r k in
+      let i : copyEnd z o l ≡ e = ends-copy z o l e ends in
+      let c = of-starts z o s in (
+        then w ∙ copy-27 z o l (rules-formed z f) c
+            (by-bool (copyEnds z o l) (λ t. absurd (none (subst (CopyAmong z o) i (among-of z o l c t)))) (λ t. t)),
         omega arith,
       )
-  is-fault (ExtractorFault.chain k e q w f s ends d u a b t) =
+  is-fault (ExtractorFault.chain k e q w f ends d u a b t) =
       let z = sampleOf r k in
-      let v = rules-formed z f in
       let i : copyEnd z o l ≡ e = ends-copy z o l e ends in
-      let h : border z (copyEnd z o l) ≡ true = rw i (at-border z e d) in
+      let h = of-among z o l (subst (CopyAmong z o) (sym i) d) in
       let g = keep-mem (λ j. (o ≤? j) && (j <? copyEnd z o l)) (withoutAggregators z (units z))
       (keep-mem (λ j. not (isAggregator z j)) (units z) u (rw (ne-eqb (type z q) 30 (λ c. omega arith)))) (rw (i, le-leb o q a, lt-ltb q e b)) in (
-        then w ∙ copy-28 z o l v (starts z s) h
-            (some-mem (isExtractor z) (copied z o l) (subst (λ js. q ∈ js) (sym (copied-between z o l v s h)) g) (eq-eqb _ _ t)),
+        then w ∙ copy-28 z o l (rules-formed z f) (h .0) (h .1)
+            (some-mem (isExtractor z) (copied z o l) (subst (λ js. q ∈ js) (sym (copied-exact z o l)) g) (eq-eqb _ _ t)),
         omega arith,
       )

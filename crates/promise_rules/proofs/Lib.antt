@@ -6,10 +6,12 @@ pub mod SampleLaws
 pub mod SampleFaultLaws
 pub mod BundleLaws
 pub mod BundleFaultLaws
+pub mod CopyLaws
 pub mod ResolveLaws
 pub mod CallLaws
 pub mod AuditLaws
 pub mod FaultLaws
+pub mod IncludedLaws
 pub mod RefusedLaws
 pub mod UnitLaws
 pub mod CheckLaws

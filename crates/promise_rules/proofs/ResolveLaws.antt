@@ -22,16 +22,15 @@ use Rattle.links.specs.Links.{linkFault, linkedTrack, base, sampleNamed, nameFa
 use Rattle.links.specs.Order.{TimesRise, baseSample, before, upTo}
 use Rattle.links.proofs.Links.{link-none, link-good, in-track, track-in, named-there, name-none, name-good}
 use Rattle.links.proofs.Order.{named-steps, named-baseless, base-times, base-last, later-without, before-test, upTo-test}
-use Rattle.copies.specs.Copies.{copyEnd, copied, copyFault, withoutAggregators}
-use Rattle.copies.proofs.Copied.{between-units, copy-rules, rules-copy, start-top, end-border, copied-exact}
+use Rattle.copies.specs.Copies.{copied}
+use Rattle.copies.proofs.Copied.{copy-rules, rules-copy}
 use Rattle.resolution_rules.specs.Resolving.{sampleOf, own, named, linked, judged}
 use Rattle.resolution_rules.specs.Rules.{Extracts}
 use Rattle.resolution_rules.proofs.Good.{good-rules, rules-good}
 use Rattle.resolution_rules.proofs.Exactly.{extractor-mem}
-use Rattle.copies.proofs.Borders.{top-border}
-use Rattle.words.proofs.Kept.{keep-keep}
-use Rattle.promise_rules.proofs.SampleLaws.{formed-rules, rules-formed, border-at, at-border}
-use Rattle.promise_rules.specs.Resolving.{Sampled, BaseOf, On, NamedBy, CopyEnds, CopyOf, Extraction, GoodSample}
+use Rattle.promise_rules.proofs.SampleLaws.{formed-rules, rules-formed}
+use Rattle.promise_rules.proofs.CopyLaws.{copy-of, of-copy}
+use Rattle.promise_rules.specs.Resolving.{Sampled, BaseOf, On, NamedBy, CopyOf, Extraction, GoodSample}
 
 module _ (y : Layout) where
   -- there is one base
@@ -134,56 +133,6 @@ module _ (y : Layout) (rise : TimesRise y) where
         let e = steps-on h m s (subst (λ (j : ℕ). On offset j m) d (w .steps)) in
         let t = s .some in
         (name-good y n index offset (omega arith), e)
-
--- a copy
-module _ (z : Sample) (o n : ℕ) where
-  pub copy-ends : CopyEnds z o n (copyEnd z o n)
-  unfolding copyEnd
-  copy-ends = by-bool (n ≡? 0)
-      (λ t. by-bool (isAggregator z o)
-      (λ a. rw (t, a) (CopyEnds.aggregator (eqb-true _ _ t) (eqb-true _ _ a)))
-      (λ a. rw (t, a) (CopyEnds.unit (eqb-true _ _ t) (eqb-false _ _ a))))
-      (λ t. rw t (CopyEnds.span (pos-of-ne-zero (eqb-false _ _ t))))
-
-  pub ends-copy : (e : ℕ) → CopyEnds z o n e → copyEnd z o n ≡ e
-  unfolding copyEnd
-  ends-copy e (CopyEnds.unit h t) = rw (eq-eqb n 0 h, ne-eqb (type z o) 30 t)
-  ends-copy e (CopyEnds.aggregator h t) = rw (eq-eqb n 0 h, eq-eqb (type z o) 30 t)
-  ends-copy e (CopyEnds.span h) = rw (ne-eqb n 0 (λ q. absurd (omega arith)))
-
-  pub copy-of : copyFault z o n ≡ 0 → CopyOf z o n (copied z o n)
-  copy-of e =
-      let c = copy-rules z o n e in
-      record {
-        formed = formed-rules z (c .formed);
-        start = start-top z o n c;
-        end = copyEnd z o n;
-        ends = copy-ends;
-        border = border-at z (copyEnd z o n) (end-border z o n c);
-        units = copied-exact z o n c;
-        noExtractor = λ q m. eqb-false _ _ (c .noExtractor q m);
-      }
-
-  pub copied-between : check z ≡ ok tt → o ∈ topUnits z → border z (copyEnd z o n) ≡ true → copied z o n ≡ keep (λ q. (o ≤? q) && (q <? copyEnd z o n)) (withoutAggregators z (units z))
-  unfolding copied
-  copied-between f m e =
-      ap (withoutAggregators z) (between-units z f o (copyEnd z o n) (top-border z o m) e)
-      ∙ keep-keep (λ p. not (isAggregator z p)) (λ q. (o ≤? q) && (q <? copyEnd z o n)) (units z)
-
-  pub of-copy : (qs : List ℕ) → CopyOf z o n qs → (copyFault z o n ≡ 0) × (copied z o n ≡ qs)
-  of-copy qs w =
-      let e = ends-copy (w .end) (w .ends) in
-      let f = rules-formed z (w .formed) in
-      let b : border z (copyEnd z o n) ≡ true = rw e (at-border z (w .end) (w .border)) in
-      let c : copied z o n ≡ qs = copied-between f (w .start) b ∙ ap (λ (j : ℕ). keep (λ q. (o ≤? q) && (q <? j)) (withoutAggregators z (units z))) e ∙ sym (w .units) in (
-        rules-copy z o n (record {
-          formed = f;
-          starts = some-mem (λ q. o ≡? q) (topUnits z) (w .start) (eq-eqb o o refl);
-          ends = b;
-          noExtractor = λ q m. ne-eqb _ _ (w .noExtractor q (subst (λ (l : List ℕ). q ∈ l) c m));
-        }),
-        c,
-      )
 
 -- a good sample
 module _ (r : Recording) (rise : TimesRise (r .layout)) (n : ℕ) (byte : (p : ℕ) → sampleOffset (sampleOf r n) p < 256) where

@@ -82,7 +82,7 @@ extractor-number (ExtractorFault.name h l z) = in-table 24 refl
 extractor-number (ExtractorFault.form k w z) = in-table 25 refl
 extractor-number (ExtractorFault.start k w f z) = in-table 26 refl
 extractor-number (ExtractorFault.end k e w f s c z) = in-table 27 refl
-extractor-number (ExtractorFault.chain k e q w f s c d u a l t) = in-table 28 refl
+extractor-number (ExtractorFault.chain k e q w f c d u a l t) = in-table 28 refl
 
 sample-number : {r : Recording} {n m p : ℕ} → SampleRefused r n m p → m ∈ refusalNumbers
 sample-number {r} {n} (SampleRefused.form h l w) = form-number (sampleOf r n) w

@@ -24,7 +24,7 @@ use Rattle.naming_list_rules.specs.Naming.{namer, namingList}
 use Rattle.audit_rules.specs.Auditing.{auditCall}
 use Rattle.audit_rules.proofs.Promises.{empty-is-good}
 use Rattle.promise_rules.specs.Samples.{Formed}
-use Rattle.promise_rules.specs.Resolving.{Sampled, BaseOf, On, NamedBy, GoodSample, NamesIt, LinkedTo}
+use Rattle.promise_rules.specs.Resolving.{Sampled, BaseOf, On, NamedBy, CopyStarts, GoodSample, NamesIt, LinkedTo}
 use Rattle.promise_rules.specs.Refused.{ExtractorFault}
 use Rattle.promise_rules.specs.Audits.{LineIn, SampleSays}
 use Rattle.promise_rules.proofs.SampleLaws.{formed-rules}
@@ -99,8 +99,12 @@ module _ (r : Recording) (m : ℕ) (empty : length (contentOf r m) ≡ 0) where
   unfolding topUnits sampleOf
   empty-units = places-end (sampleOf r m) 0 (length (contentOf r m)) (omega arith)
 
-  nothing-there : (o : ℕ) → o ∈ topUnits (sampleOf r m) → ⊥
-  nothing-there o k = List·Memᴰ·not-nil (subst (λ (us : List ℕ). o ∈ us) empty-units k)
+  no-unit : (o : ℕ) → o ∈ topUnits (sampleOf r m) → ⊥
+  no-unit o k = List·Memᴰ·not-nil (subst (λ (us : List ℕ). o ∈ us) empty-units k)
+
+  nothing-there : (o : ℕ) → CopyStarts (sampleOf r m) o → ⊥
+  nothing-there o (CopyStarts.top k) = no-unit o k
+  nothing-there o (CopyStarts.inside p k t j) = no-unit p k
 
   pub empty-counts :
       (n p : ℕ) (w : NamedBy (r .layout) n (trackRefIndex (sampleOf r n) p) (sampleOffset (sampleOf r n) p) m) →

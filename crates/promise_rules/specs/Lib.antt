@@ -15,6 +15,7 @@ pub mod Numbers
 pub mod Samples
 pub mod Bundles
 pub mod Resolving
+pub mod Copies
 pub mod Units
 pub mod First
 pub mod SampleFaults

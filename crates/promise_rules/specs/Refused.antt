@@ -17,24 +17,25 @@ use lib.ListN.{length}
 use Rattle.words.specs.Refusals.{ok}
 use Rattle.words.specs.Tests.{_≡?_}
 use Rattle.words.specs.Lists.{_∈_, each, keep}
-use Rattle.units.specs.Units.{Sample, type, topUnits}
+use Rattle.units.specs.Units.{Sample, type}
 use Rattle.units.specs.Extractors.{trackRefIndex, sampleOffset, dataOffset, dataLength}
 use Rattle.units.specs.Aggregators.{units}
 use Rattle.bundles.specs.Recordings.{Recording, sampleCount, trackOf}
 use Rattle.bundles.specs.Readers.{firstLayout}
 use Rattle.resolution_rules.specs.Resolving.{sampleOf, Span}
 use Rattle.naming_list_rules.specs.Naming.{namingList}
-use Rattle.promise_rules.specs.Samples.{BorderAt, Formed, Given}
+use Rattle.promise_rules.specs.Samples.{Formed, Given}
 use Rattle.promise_rules.specs.SampleFaults.{FormRefused}
 use Rattle.promise_rules.specs.BundleFaults.{BundleRefused}
-use Rattle.promise_rules.specs.Resolving.{NamedBy, CopyEnds, Extraction, Resolved, afterLength}
+use Rattle.promise_rules.specs.Resolving.{NamedBy, CopyStarts, CopyEnds, CopyAmong, Extraction, Resolved, afterLength}
 
 pub data CheckRefused (kind l : ℕ) (s : List ℕ) : ℕ → ℕ → Type 0 where
   kind : (kind ≡ 0 → ⊥) → (kind ≡ 1 → ⊥) → CheckRefused kind l s 4 0
   size : (kind ≡ 0) ⊎ (kind ≡ 1) → (l ∈ (1 ∷ 2 ∷ 4 ∷ []) → ⊥) → CheckRefused kind l s 11 0
   form : {m p : ℕ} (x : Sample) → Given kind l s x → FormRefused x m p → CheckRefused kind l s m p
 
--- an extractor: its track_ref_index, how many references its track has, what it names, where its copy of sample k starts and ends
+-- an extractor: its track_ref_index, how many references its track has, what it names, where its copy of sample k starts and ends,
+-- and that these are borders of the same units
 module _ (r : Recording) (n p : ℕ) where
   abbrev refIndex : ℕ
   refIndex = trackRefIndex (sampleOf r n) p
@@ -46,10 +47,13 @@ module _ (r : Recording) (n p : ℕ) where
   Names = NamedBy (r .layout) n refIndex (sampleOffset (sampleOf r n) p)
 
   abbrev Starts : ℕ → Type 0
-  Starts k = dataOffset (sampleOf r n) p ∈ topUnits (sampleOf r k)
+  Starts k = CopyStarts (sampleOf r k) (dataOffset (sampleOf r n) p)
 
   abbrev Ends : ℕ → ℕ → Type 0
   Ends k e = CopyEnds (sampleOf r k) (dataOffset (sampleOf r n) p) (dataLength (sampleOf r n) p) e
+
+  abbrev Among : ℕ → ℕ → Type 0
+  Among k e = CopyAmong (sampleOf r k) (dataOffset (sampleOf r n) p) e
 
   -- the first rule that it breaks
   pub data ExtractorFault : ℕ → Type 0 where
@@ -57,11 +61,10 @@ module _ (r : Recording) (n p : ℕ) where
     name : 0 < refIndex → refIndex ≤ refCount → ((k : ℕ) → Names k → ⊥) → ExtractorFault 24
     form : (k : ℕ) → Names k → (Formed (sampleOf r k) → ⊥) → ExtractorFault 25
     start : (k : ℕ) → Names k → Formed (sampleOf r k) → (Starts k → ⊥) → ExtractorFault 26
-    end :
-        (k e : ℕ) → Names k → Formed (sampleOf r k) → Starts k → Ends k e → (BorderAt (sampleOf r k) e → ⊥) → ExtractorFault 27
+    end : (k e : ℕ) → Names k → Formed (sampleOf r k) → Starts k → Ends k e → (Among k e → ⊥) → ExtractorFault 27
     -- an extractor q among the units of the copy
     chain :
-        (k e q : ℕ) → Names k → Formed (sampleOf r k) → Starts k → Ends k e → BorderAt (sampleOf r k) e →
+        (k e q : ℕ) → Names k → Formed (sampleOf r k) → Ends k e → Among k e →
         q ∈ units (sampleOf r k) → dataOffset (sampleOf r n) p ≤ q → q < e → type (sampleOf r k) q ≡ 31 → ExtractorFault 28
 
 -- every extractor before it names a sample and copies units of it, by the rules

@@ -5,7 +5,9 @@
 --   BaseOf y n k c           c is the last sample of track k at or before the time of sample n
 --   On offset c m            m is sample_offset samples on from c, by number; the byte is signed
 --   NamedBy y n index offset m    the extractor's track_ref_index and sample_offset name sample m
+--   CopyStarts z o           a copy of z may start at data_offset o
 --   CopyEnds z o n e         a copy of z from data_offset o, with data_length n, ends at e
+--   CopyAmong z o e          it starts at o and ends at e on borders of the same units: top-level ones, or those of one aggregator
 --   CopyOf z o n qs          none of 25 to 28, and the copy is the units qs
 --   Extraction r n p m qs    none of 23 to 28: the extractor names sample m, and stands for its units qs
 --   GoodSample r n           none of 14 to 28
@@ -22,7 +24,7 @@ use Rattle.words.specs.Lists.{_∈_, keep, nth}
 use Rattle.words.specs.Bytes.{bytes, part}
 use Rattle.units.specs.Units.{Sample, L, size, type, next, topUnits}
 use Rattle.units.specs.Extractors.{trackRefIndex, sampleOffset, dataOffset, dataLength}
-use Rattle.units.specs.Aggregators.{additionalBytes, units}
+use Rattle.units.specs.Aggregators.{included, additionalBytes, units}
 use Rattle.bundles.specs.Recordings.{Layout, Recording, noReference, sampleCount, trackOf, timeOf, contentOf}
 use Rattle.resolution_rules.specs.Resolving.{sampleOf, Span}
 use Rattle.promise_rules.specs.Samples.{BorderAt, Formed}
@@ -55,6 +57,19 @@ pub record NamedBy (y : Layout) (n index offset m : ℕ) : Type 0 where
   pub steps : On offset base m
   pub sample : Sampled y m track
 
+module _ (z : Sample) (o : ℕ) where
+  -- at a top-level unit, or at one that the aggregator at p includes
+  pub data CopyStarts : Type 0 where
+    top : o ∈ topUnits z → CopyStarts
+    inside : (p : ℕ) → p ∈ topUnits z → type z p ≡ 30 → o ∈ included z p → CopyStarts
+
+  -- from a top-level unit it ends on a top-level border; from one that the aggregator at p includes it ends where a unit that p
+  -- includes starts, or where p ends
+  pub data CopyAmong (e : ℕ) : Type 0 where
+    top : o ∈ topUnits z → BorderAt z e → CopyAmong e
+    inside :
+        (p : ℕ) → p ∈ topUnits z → type z p ≡ 30 → o ∈ included z p → (e ∈ included z p) ⊎ (e ≡ next z p) → CopyAmong e
+
 module _ (z : Sample) (o n : ℕ) where
   -- data_length 0: one unit, of an aggregator with what it covers; else so many bytes
   pub data CopyEnds : ℕ → Type 0 where
@@ -63,12 +78,11 @@ module _ (z : Sample) (o n : ℕ) where
     span : 0 < n → CopyEnds (o + n)
 
   pub record CopyOf (qs : List ℕ) : Type 0 where
-    -- 25, 26, 27, 28
+    -- 25; 26 and 27; 28
     pub formed : Formed z
-    pub start : o ∈ topUnits z
     pub end : ℕ
     pub ends : CopyEnds end
-    pub border : BorderAt z end
+    pub among : CopyAmong z o end
     -- the units, included ones too, from data_offset up to the end, but aggregators
     pub units : qs ≡ keep (λ q. (o ≤? q) && (q <? end)) (keep (λ q. not (type z q ≡? 30)) (units z))
     pub noExtractor : (q : ℕ) → q ∈ qs → type z q ≡ 31 → ⊥

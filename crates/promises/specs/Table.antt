@@ -24,7 +24,7 @@ use Rattle.bundles.specs.Samples.{orderFault, entryFault, samplesVerdict, sampl
 use Rattle.bundles.specs.Bundles.{byteCountFault, bytesVerdict, bundleVerdict, layoutOf, recordingOf, meaning}
 use Rattle.bundles.specs.Readers.{firstLayout}
 use Rattle.links.specs.Links.{linkFault, linkedTrack, base, sampleNamed, nameFault}
-use Rattle.copies.specs.Copies.{copyEnd, copied, borderFault, copyFault}
+use Rattle.copies.specs.Copies.{copyEnd, copyEnds, copied, borderFault, copyFault}
 use Rattle.resolution_rules.specs.Resolving.{sampleOf, named, nameFaultAt, copyFaultAt, extractFault, judged}
 use Rattle.resolution_rules.specs.Resolving.{copiedAt, deliveredAt, delivered}
 use Rattle.resolution_rules.specs.Calls.{written, output, numberFault, resolve, resolveCall}
@@ -168,7 +168,7 @@ unfolding table gives passes refuses fails recordVerdict bundle slice extractor 
     references samplesAt orderFault entryFault samplesVerdict sampleEntries lengths byteCountAt byteCountFault bytesVerdict bundleVerdict
     layoutOf recordingOf meaning
     linkFault linkedTrack base sampleNamed nameFault
-    copyEnd copied borderFault copyFault
+    copyEnd copyEnds copied borderFault copyFault
     sampleOf named nameFaultAt copyFaultAt extractFault copiedAt deliveredAt delivered judged written output numberFault resolve
     resolveCall
     lineBytes lineOf lines auditCall

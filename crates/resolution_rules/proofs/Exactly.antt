@@ -38,7 +38,7 @@ use Rattle.resolution_rules.proofs.Good.{own-length}
 module _ (r : Recording) (n : ℕ) where
   pub copied-spans : (p : ℕ) → Extracts r n p → copiedAt r n p ≡ copySpans r n p
   unfolding copiedAt
-  copied-spans p x = ap (spansOf (named r n p) (linked r n p)) (copied-exact (linked r n p) (dataOffset (own r n) p) (dataLength (own r n) p) (x .copy))
+  copied-spans p x = ap (spansOf (named r n p) (linked r n p)) (copied-exact (linked r n p) (dataOffset (own r n) p) (dataLength (own r n) p))
 
   pub extractor-mem : (p : ℕ) → List·Memᴰ p (units (own r n)) → isExtractor (own r n) p ≡ true → List·Memᴰ p (extractors (own r n))
   unfolding extractors

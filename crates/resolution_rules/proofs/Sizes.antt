@@ -67,7 +67,7 @@ module _ (r : Recording) (n : ℕ) where
   copied-count p x =
       let z = linked r n p in
       let c = copied z (dataOffset (own r n) p) (dataLength (own r n) p) in
-      let a = copy.copied-count z (dataOffset (own r n) p) (dataLength (own r n) p) (x .copy) in
+      let a = copy.copied-count z (dataOffset (own r n) p) (dataLength (own r n) p) (x .copy .formed) in
       let l = own-length r (named r n p) in
       rw (length-map c (spanOf (named r n p) z)) (omega arith)
 

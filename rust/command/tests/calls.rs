@@ -94,6 +94,43 @@ no sample hangs on sample 6
     prints(&["audit", file.to_str().unwrap()], 1, text);
 }
 
+/// Extractors that start at units included in an aggregator: what they copy, and the sample named by those refused.
+#[test]
+fn included_starts() {
+    let extractor = |offset: u8, length: u8| vec![8, 0x7F, 0x80, 0, 3, 1, 0, offset, length];
+    let aggregator = [&[17, 0x7E, 0x80, 0, 3, 0, 2, 6, 0x88][..], &[3, 9, 0x10, 0x80], &[4, 12, 1, 2, 3]].concat();
+    let samples = [
+        (1, 0, aggregator),
+        (2, 0, extractor(9, 0)),
+        (2, 1, [extractor(9, 9), vec![2, 0x65, 0x88], extractor(6, 3)].concat()),
+        (2, 2, extractor(9, 10)),
+        (2, 3, extractor(10, 3)),
+    ];
+    let file = bundle(&[(0, AVC), (1, SVC)], &[(2, 1)], &samples);
+    let ran = run_on(&file, ["audit", "-"]);
+    let text = "\
+1 passed 3
+2 passed 1
+3 passed 4
+4 refused 27 at 0 - data_length wrong (track 2, time 2, names sample 1)
+5 refused 26 at 0 - data_offset wrong (track 2, time 3, names sample 1)
+passed 3 empty 0 refused 2
+no sample hangs on sample 4
+no sample hangs on sample 5
+";
+    assert_eq!((ran.text(), ran.status), (text, Some(1)));
+    let ran = run_on(&file, ["units", "-", "3"]);
+    let text = "    unit  type                                        bytes  from sample
+       1   9 access unit delimiter                        3  1
+       2  12 filler data                                  4  1
+       3   5 coded slice of an IDR picture                2  3
+       4   6 supplemental enhancement information         2  1
+";
+    assert_eq!((ran.text(), ran.status), (text, Some(0)));
+    let ran = run_on(&file, ["names", "-", "1"]);
+    assert_eq!(ran.text(), "sample 2 at 0\nsample 3 at 0\nsample 3 at 12\nsample 4 at 0\nsample 5 at 0\n");
+}
+
 /// A sample that hangs on another by two extractors is told once.
 #[test]
 fn dependents_come_once() {

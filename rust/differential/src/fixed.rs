@@ -1,4 +1,5 @@
-//! Fixed cases, the same in every run: document 01's bench bundle and its neighbours, and bundles at the limits.
+//! Fixed cases, the same in every run: document 01's bench bundle and its neighbours, bundles at the limits, and every
+//! start and length of a copy.
 
 use crate::make::fields::MadeFields;
 use crate::make::{patch, put, AVC, SVC};
@@ -147,6 +148,59 @@ pub fn with_zeros() -> Vec<Vec<u8>> {
         for unit in &units {
             let first = [&[unit.len() as u8], &unit[..]].concat();
             bundles.push(with_samples(&first, &[&[0x02, 0x65, 0x88], &extractor(1, 0, 0, 0)[..]].concat()));
+        }
+    }
+    bundles
+}
+
+/// A number in this many bytes.
+fn number(value: usize, size: usize) -> Vec<u8> {
+    let mut bytes = Vec::new();
+    put(&mut bytes, value as u64, size);
+    bytes
+}
+
+/// A unit of these parts after its length.
+fn unit(parts: &[&[u8]], length_size: usize) -> Vec<u8> {
+    let unit = parts.concat();
+    [number(unit.len(), length_size), unit].concat()
+}
+
+/// Aggregators of an AVC track: one includes two units, the second of which holds bytes that look like a unit, and
+/// covers a third; one includes nothing; one includes an extractor between two units; one is another type of unit; the
+/// last includes nothing.
+fn aggregators(length_size: usize) -> Vec<u8> {
+    let unit = |parts: &[&[u8]]| unit(parts, length_size);
+    let additional = |bytes: usize| number(bytes, length_size);
+    let plain = unit(&[&[0x68, 0xEE]]);
+    let extractor = unit(&[&[0x7F, 0x80, 0, 3, 1, 0], &number(0, 2 * length_size)]);
+    let header = [0x7E, 0x80, 0, 3];
+    let nothing = unit(&[&header, &additional(0)]);
+    [
+        unit(&[&header, &additional(length_size + 1), &plain, &unit(&[&[0x06], &plain])]),
+        unit(&[&[0x09]]),
+        nothing.clone(),
+        unit(&[&header, &additional(0), &plain, &extractor, &unit(&[&[0x0C]])]),
+        unit(&[&[0x74, 0x80, 0, 3], &additional(0), &plain]),
+        nothing,
+    ]
+    .concat()
+}
+
+/// B0 with this length size and aggregators in its first sample. The second is an extractor, with every data_offset in
+/// the first or just past it, and every data_length up to there or, in so many bytes, back to its front.
+pub fn with_every_start(length_size: usize) -> Vec<Vec<u8>> {
+    let first = aggregators(length_size);
+    let (most, limit) = (first.len() + 1, 1 << (8 * length_size));
+    let mut bundles = Vec::new();
+    for offset in 0..=most {
+        for length in (0..=most).chain(limit - most..limit) {
+            let (offset, length) = (number(offset, length_size), number(length, length_size));
+            let second = unit(&[&[0x7F, 0x80, 0, 3, 1, 0], &offset, &length], length_size);
+            let mut bundle = with_samples(&first, &second);
+            bundle[8] |= length_size as u8 - 1;
+            bundle[18] |= length_size as u8 - 1;
+            bundles.push(bundle);
         }
     }
     bundles

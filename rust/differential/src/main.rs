@@ -89,6 +89,14 @@ impl Run {
                 self.ask(Call::Stream { bundle, sample, room });
             }
         }
+        for length_size in [1, 2, 4] {
+            for (index, bundle) in fixed::with_every_start(length_size).iter().enumerate() {
+                self.whence = format!("fixed bundle with L = {length_size}, every start {index}");
+                self.ask(Call::Resolve { bundle, sample: 2, room: 64 });
+                self.ask(Call::Units { bundle, sample: 2, room: 12 });
+                self.ask(Call::Audit { bundle, room: 26 });
+            }
+        }
         self.fixed_streams();
         for (index, bundle) in fixed::longest().iter().enumerate() {
             self.whence = format!("longest bundle {index}");

@@ -60,8 +60,8 @@ pub fn audit(bytes: &[u8], lines: &mut [u8]) -> Result<(usize, Tally), Refusal> 
     audit_with(bytes, lines, states)
 }
 
-/// The same answers; where every sample's units start is kept, which takes 4 bytes a unit, so that no named sample
-/// is walked to find data_offset.
+/// The same answers; where every sample's top-level units start is kept, which takes 4 bytes a unit, so that of a named
+/// sample at most one aggregator is walked to find data_offset.
 pub fn audit_with_starts(bytes: &[u8], lines: &mut [u8]) -> Result<(usize, Tally), Refusal> {
     audit_with(bytes, lines, |bundle| states_with(bundle, Forms::all_with_starts(bundle)))
 }

@@ -16,10 +16,8 @@ pub fn copy(
     extractor: &Extractor,
     take: &mut impl FnMut(Unit),
 ) -> Result<(), u8> {
-    if !starts_unit(sample, size, starts, extractor.data_offset) {
-        return Err(DATA_OFFSET);
-    }
-    let span = span(sample, size, extractor)?;
+    let last_border = last_border(sample, size, starts, extractor.data_offset).ok_or(DATA_OFFSET)?;
+    let span = span(sample, size, last_border, extractor)?;
     for unit in units_between(sample, size, span.start, span.end) {
         match unit.unit_type(sample) {
             EXTRACTOR => return Err(EXTRACTOR_IN_COPY),
@@ -37,27 +35,41 @@ pub fn copy(
     Ok(())
 }
 
-/// Whether a top-level unit starts at this offset.
-fn starts_unit(sample: &[u8], size: LengthSize, starts: Option<&[u32]>, offset: usize) -> bool {
-    match starts {
-        Some(starts) => starts.binary_search(&(offset as u32)).is_ok(),
-        None => top_level(sample, size).map(|unit| unit.place).find(|&place| place >= offset) == Some(offset),
+/// The last border that what is copied from this offset may end on: the end of the sample where a top-level unit
+/// starts there, of the aggregator where an included one does.
+fn last_border(sample: &[u8], size: LengthSize, starts: Option<&[u32]>, offset: usize) -> Option<usize> {
+    let unit = top_level_unit_around(sample, size, starts, offset)?;
+    if unit.place == offset {
+        return Some(sample.len());
     }
+    let starts_included = || included(sample, size, unit).any(|inner| inner.place == offset);
+    (unit.unit_type(sample) == AGGREGATOR && starts_included()).then_some(unit.end)
 }
 
-/// The bytes to copy, from the start of a top-level unit to a top-level border.
-fn span(sample: &[u8], size: LengthSize, extractor: &Extractor) -> Result<Range<usize>, u8> {
+/// The top-level unit that holds this offset, its length field counted in.
+fn top_level_unit_around(sample: &[u8], size: LengthSize, starts: Option<&[u32]>, offset: usize) -> Option<Unit> {
+    let Some(starts) = starts else { return top_level(sample, size).find(|unit| offset < unit.end) };
+    let index = match starts.binary_search(&(offset as u32)) {
+        Ok(index) => index,
+        Err(after) => after.checked_sub(1)?,
+    };
+    Some(unit_at(sample, size, starts[index] as usize)).filter(|unit| offset < unit.end)
+}
+
+/// The bytes to copy, from the start of a unit to a border of the units beside it. The last of those borders is given.
+fn span(sample: &[u8], size: LengthSize, last_border: usize, extractor: &Extractor) -> Result<Range<usize>, u8> {
     let start = extractor.data_offset;
     if extractor.data_length == 0 {
         let first = unit_at(sample, size, start);
         let end = match first.unit_type(sample) {
+            // An included unit is none.
             AGGREGATOR => covered_end(sample, size, first),
             _ => first.end,
         };
         return Ok(start..end);
     }
     let end = start + extractor.data_length;
-    let border = units_between(sample, size, start, sample.len()).map(|unit| unit.end).find(|&border| border >= end);
+    let border = units_between(sample, size, start, last_border).map(|unit| unit.end).find(|&border| border >= end);
     if border != Some(end) {
         return Err(DATA_LENGTH);
     }

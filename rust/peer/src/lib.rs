@@ -1,4 +1,4 @@
-//! An independent implementation of document 01 and of document 02's requests [1] to [3], written from the papers.
+//! An independent implementation of document 01 and of document 02's requests [1] to [4], written from the papers.
 //!
 //! The verified library is compared with it, answer by answer and in speed. Nothing here is shared with the
 //! library. Layouts are those of ISO/IEC 14496-15:2010, 5.2.4.1 and Annexes A and B, and of ISO/IEC 14496-10, Annex B;

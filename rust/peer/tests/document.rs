@@ -1,4 +1,4 @@
-//! Document 01's own cases: B0, M1 to M12, and the case with times; document 02's requests [1] to [3].
+//! Document 01's own cases: B0, M1 to M12, and the case with times; document 02's requests [1] to [4].
 
 use peer::calls::{self, Answer};
 use peer::program;
@@ -327,6 +327,65 @@ fn byte_stream_there_and_back() {
     let stream = second_stream(&units, 64).unwrap();
     let sample: Vec<u8> = units.iter().flat_map(|unit| [&[unit.len() as u8], *unit].concat()).collect();
     assert_eq!(from_stream(1, &stream, 64), Ok(sample));
+}
+
+/// Request [4]: an aggregator of two units that covers a third, another aggregator of two units, a last unit.
+const AGGREGATORS: [u8; 29] = [
+    0x0C, 0x7E, 0x80, 0x00, 0x03, 0x02, 0x02, 0x67, 0x88, 0x03, 0x06, 0x9A, 0x0F, 0x01, 0x09, 0x0B, 0x7E, 0x80, 0x00,
+    0x03, 0x00, 0x02, 0x68, 0xEE, 0x02, 0x06, 0x05, 0x01, 0x0C,
+];
+
+/// Where a copy ends that starts at `offset`, or the refusal.
+fn end_of_copy(offset: usize, length: usize) -> Result<usize, u32> {
+    let top_level: &[usize] = &[0, 13, 15, 27, 29];
+    let rows = [top_level, &[6, 9, 13], &[21, 24, 27]];
+    let row = rows.iter().find(|row| row[..row.len() - 1].contains(&offset)).ok_or(26u32)?;
+    let mut after = row.iter().copied().filter(|&border| border > offset);
+    match (offset, length) {
+        // What the first aggregator covers, too.
+        (0, 0) => Ok(15),
+        (_, 0) => Ok(after.next().unwrap()),
+        _ => after.find(|&border| border == offset + length).ok_or(27),
+    }
+}
+
+/// Request [4]: from every data_offset, every data_length.
+#[test]
+fn included_starts() {
+    let units = [(6, 9), (9, 13), (13, 15), (21, 24), (24, 27), (27, 29)];
+    for (offset, length) in (0..=30).flat_map(|offset| (0..=31).map(move |length| (offset, length))) {
+        let expected = match end_of_copy(offset, length) {
+            Err(number) => Err(refused(number, 0)),
+            Ok(end) => Ok(units
+                .iter()
+                .filter(|unit| offset <= unit.0 && unit.1 <= end)
+                .flat_map(|&(place, end)| [&[0, 0, 0], &AGGREGATORS[place..end]].concat())
+                .collect::<Vec<u8>>()),
+        };
+        let given = second(&with_samples(&AGGREGATORS, &extractor(1, 0, offset as u8, length as u8)));
+        assert_eq!(given, expected, "data_offset {offset}, data_length {length}");
+    }
+}
+
+/// Request [4]: an included extractor is 28 where it is copied, after 27; an aggregator's end starts no included unit.
+#[test]
+fn included_starts_refused() {
+    let head = |length, additional| [length, 0x7E, 0x80, 0x00, 0x03, additional];
+    let sample = [&head(0x11, 0)[..], &[0x02, 0x67, 0x88], &extractor(1, 0, 0, 0)].concat();
+    let case = |offset, length| second(&with_samples(&sample, &extractor(1, 0, offset, length)));
+    assert_eq!(case(6, 0), Ok(vec![0, 0, 0, 2, 0x67, 0x88]));
+    assert_eq!(case(6, 3), Ok(vec![0, 0, 0, 2, 0x67, 0x88]));
+    assert_eq!(case(6, 12), Err(refused(28, 0)));
+    assert_eq!(case(6, 11), Err(refused(27, 0)));
+    assert_eq!(case(9, 0), Err(refused(28, 0)));
+    assert_eq!(case(9, 9), Err(refused(28, 0)));
+    assert_eq!(case(9, 8), Err(refused(27, 0)));
+    assert_eq!(case(10, 8), Err(refused(26, 0)));
+    assert_eq!(case(18, 0), Err(refused(26, 0)));
+    // One that includes nothing, before a unit and at the end.
+    let case = |sample: &[u8], offset| second(&with_samples(sample, &extractor(1, 0, offset, 0)));
+    assert_eq!(case(&[&head(5, 0)[..], &[0x01, 0x67]].concat(), 6), Ok(vec![0, 0, 0, 1, 0x67]));
+    assert_eq!(case(&head(5, 0), 6), Err(refused(26, 0)));
 }
 
 #[test]

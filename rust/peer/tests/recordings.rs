@@ -15,6 +15,7 @@ use peer::kind::Kind;
 use peer::program;
 use peer::record::{self, Trailer};
 use peer::resolve::resolve;
+use peer::stream::stream;
 
 #[test]
 fn program_output() {
@@ -45,25 +46,37 @@ fn tables() {
                 format!("{head}\t{}", tail(&bytes, number.0, state))
             })
             .collect();
-        // The last column belongs to a later request.
-        let expected: Vec<String> =
-            common::text(path).lines().map(|line| line.rsplit_once('\t').expect("columns").0.to_string()).collect();
+        let text = common::text(path);
+        let expected: Vec<&str> = text.lines().collect();
         assert_eq!(given, expected, "{}", path.display());
         lines += given.len();
     }
     println!("{} tables, {lines} samples", tables.len());
 }
 
-/// State, units (or refusal), place, resolved length and the front of its digest.
+/// State, units (or refusal), place, resolved length and the fronts of two digests: of the output and of the byte stream.
 fn tail(bytes: &[u8], number: usize, state: State) -> String {
     let (word, units) = match state {
-        State::Refused(no) => return format!("refused\t{}\t{}\t-\t-", no.number, no.place),
+        State::Refused(no) => return format!("refused\t{}\t{}\t-\t-\t-", no.number, no.place),
         State::Empty => ("empty", 0),
         State::Passed { units } => ("passed", units),
     };
     let mut out = vec![0; 1 << 20];
     let count = resolve(bytes, number as u64, &mut out).unwrap();
-    format!("{word}\t{units}\t0\t{count}\t{}", &digest::sha256(&out[..count])[..32])
+    format!("{word}\t{units}\t0\t{count}\t{}\t{}", front(&out[..count]), stream_text(bytes, number as u64))
+}
+
+/// The front of the byte stream's digest, or its refusal.
+fn stream_text(bytes: &[u8], number: u64) -> String {
+    let mut out = vec![0; 1 << 20];
+    match stream(bytes, number, &mut out) {
+        Ok(count) => front(&out[..count]),
+        Err(no) => format!("{}@{}", no.number, no.place),
+    }
+}
+
+fn front(bytes: &[u8]) -> String {
+    digest::sha256(bytes)[..32].to_string()
 }
 
 #[test]

@@ -139,6 +139,35 @@ fn aggregator_cases() {
     assert_eq!(case(9), Ok(RESOLVED.to_vec()));
 }
 
+/// Request [4]: starts at included units of an aggregator that covers a third unit; an included extractor.
+#[test]
+fn included_starts() {
+    let covering = [0x0C, 0x7E, 0x80, 0x00, 0x03, 0x02, 0x02, 0x67, 0x88, 0x03, 0x06, 0x9A, 0x0F, 0x01, 0x09];
+    let case = |offset, length| second(&bundle(&covering, &extractor(1, 0, offset, length)));
+    let (first, both) = (vec![0, 0, 0, 2, 0x67, 0x88], vec![0, 0, 0, 2, 0x67, 0x88, 0, 0, 0, 3, 0x06, 0x9A, 0x0F]);
+    assert_eq!(case(6, 0), Ok(first.clone()));
+    assert_eq!(case(6, 3), Ok(first.clone()));
+    assert_eq!(case(6, 7), Ok(both.clone()));
+    assert_eq!(case(9, 0), Ok(both[6..].to_vec()));
+    assert_eq!(case(0, 0), Ok([&both[..], &[0, 0, 0, 1, 0x09]].concat()));
+    // Past the aggregator's end, beside a border, and from a top-level start to an included border.
+    for (offset, length) in [(6, 9), (9, 6), (6, 4), (0, 9)] {
+        assert_eq!(case(offset, length), refused(27, 0), "{offset} {length}");
+    }
+    for offset in [1, 5, 7, 8, 12, 15] {
+        assert_eq!(case(offset, 0), refused(26, 0), "{offset}");
+    }
+    let copied = bundle(&covering, &extractor(1, 0, 9, 0));
+    let part = unit(&copied, SampleNumber(2), UnitNumber(1)).unwrap();
+    assert_eq!((part, part.as_ptr()), (&[0x06, 0x9A, 0x0F][..], copied[66..].as_ptr()));
+    let extracting = [&[0x11, 0x7E, 0x80, 0x00, 0x03, 0x00, 0x02, 0x67, 0x88][..], &extractor(1, 0, 0, 0)].concat();
+    let case = |offset, length| second(&bundle(&extracting, &extractor(1, 0, offset, length)));
+    assert_eq!(case(6, 3), Ok(first));
+    assert_eq!(case(9, 0), refused(28, 0));
+    assert_eq!(case(6, 12), refused(28, 0));
+    assert_eq!(case(9, 8), refused(27, 0));
+}
+
 #[test]
 fn samples_that_are_not_well_formed() {
     let check = |size, sample: &[u8]| check_sample(Kind::Svc, size, sample);

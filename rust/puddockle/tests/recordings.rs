@@ -43,7 +43,8 @@ fn audit_text(bundle: &[u8]) -> String {
     text + &format!("passed {passed} empty {empty} refused {refused}\n")
 }
 
-/// What each sample resolves to has the length and the digest of X.tsv, and its units one by one are the same bytes.
+/// What each sample resolves to has the length and the digest of X.tsv, and its units one by one are the same bytes; its
+/// byte stream has the digest there.
 #[test]
 fn tables() {
     let tables = common::files(&common::directory("PUDDOCKLE_RECORDINGS", "recordings"), "tsv");
@@ -53,19 +54,19 @@ fn tables() {
         for row in common::text(path).lines() {
             let columns: Vec<&str> = row.split('\t').collect();
             let number = SampleNumber(columns[0].parse().unwrap());
-            assert_eq!(sample_text(&bundle, number), columns[5..9].join("\t"), "{}: {row}", path.display());
+            assert_eq!(sample_text(&bundle, number), columns[5..10].join("\t"), "{}: {row}", path.display());
             samples += 1;
         }
     }
     println!("{} tables, {samples} samples", tables.len());
 }
 
-/// Units (or refusal), place, resolved length and the front of its digest.
+/// Units (or refusal), place, resolved length and the fronts of two digests: of the output and of the byte stream.
 fn sample_text(bundle: &[u8], number: SampleNumber) -> String {
     let mut out = vec![0; 1 << 20];
     let count = match resolve(bundle, number, &mut out) {
         Ok(count) => count,
-        Err(no) => return format!("{}\t{}\t-\t-", no.number, no.place),
+        Err(no) => return format!("{}\t{}\t-\t-\t-", no.number, no.place),
     };
     let mut units = 0;
     let mut joined = Vec::new();
@@ -75,7 +76,20 @@ fn sample_text(bundle: &[u8], number: SampleNumber) -> String {
         units += 1;
     }
     assert!(joined == out[..count], "the units one by one of {number:?}");
-    format!("{units}\t0\t{count}\t{}", &digest::sha256(&out[..count])[..32])
+    format!("{units}\t0\t{count}\t{}\t{}", front(&out[..count]), stream_text(bundle, number))
+}
+
+/// The front of the byte stream's digest, or its refusal.
+fn stream_text(bundle: &[u8], number: SampleNumber) -> String {
+    let mut out = vec![0; 1 << 20];
+    match stream(bundle, number, &mut out) {
+        Ok(count) => front(&out[..count]),
+        Err(no) => format!("{}@{}", no.number, no.place),
+    }
+}
+
+fn front(bytes: &[u8]) -> String {
+    digest::sha256(bytes)[..32].to_string()
 }
 
 /// A sample's byte stream is its units, each after a start code, and is read as them; or it is refused as the sample is,

@@ -139,12 +139,16 @@ fn aim(random: &mut Random, track: &Track, entries: &[Entry], own: usize) -> Aim
     let steps = random.pick(&[0, 0, 0, 0, -1, 1, -2]);
     let named = (before as isize - 1 + steps).clamp(0, linked.len() as isize - 1);
     let offset = named - (before as isize - 1);
-    let (data_offset, data_length) = span(random, &linked[named as usize].sample, track.length_size);
-    (link as u8 + 1, offset.clamp(-128, 127) as i8, data_offset, data_length)
+    let sample = &linked[named as usize].sample;
+    let from_included = !sample.included.is_empty() && random.once_in(2);
+    let (start, length) = if from_included { included_span(random, sample) } else { span(random, sample) };
+    let limit = if track.length_size == 1 { 255 } else { usize::MAX };
+    let (data_offset, data_length) = if start.max(length) > limit { (0, 0) } else { (start, length) };
+    (link as u8 + 1, offset.clamp(-128, 127) as i8, data_offset as u64, data_length as u64)
 }
 
-/// One unit or several of a sample, mostly without extractors among them.
-fn span(random: &mut Random, sample: &MadeSample, length_size: usize) -> (u64, u64) {
+/// One unit or several of a sample, mostly without extractors among them. Now and then the end is in an aggregator.
+fn span(random: &mut Random, sample: &MadeSample) -> (usize, usize) {
     let units = sample.extracting.len();
     if units == 0 {
         return (0, 0);
@@ -159,13 +163,37 @@ fn span(random: &mut Random, sample: &MadeSample, length_size: usize) -> (u64, u
     while last < units && (!sample.extracting[last] || random.once_in(20)) && random.once_in(2) {
         last += 1;
     }
-    let start = sample.borders[first] as u64;
-    let length = if random.once_in(2) { 0 } else { sample.borders[last] as u64 - start };
-    let limit = if length_size == 1 { 255 } else { u64::MAX };
-    if start > limit || length > limit {
-        return (0, 0);
+    let start = sample.borders[first];
+    let mut end = sample.borders[last];
+    if random.once_in(20) {
+        end = border_after(random, sample, start);
     }
-    (start, length)
+    (start, if random.once_in(2) { 0 } else { end - start })
+}
+
+/// From a unit that an aggregator includes: that unit; several, mostly up to a border of the same aggregator, its end
+/// too. Now and then up to any border after it, or beside one. Now and then no unit starts there.
+fn included_span(random: &mut Random, sample: &MadeSample) -> (usize, usize) {
+    let borders = &sample.included[random.below(sample.included.len())];
+    let last = borders.len() - 1;
+    let first = random.below(last);
+    let start = borders[first];
+    let end = match random.below(12) {
+        0..=2 => start,
+        3..=5 => borders[random.between(first + 1, last)],
+        6 | 7 => borders[last],
+        8 | 9 => border_after(random, sample, start),
+        10 => borders[random.between(first + 1, last)] + random.pick(&[0, 2]) - 1,
+        _ => return (start + random.between(1, borders[last] - start), random.pick(&[0, 1, borders[last] - start])),
+    };
+    (start, end - start)
+}
+
+/// Any border after `start`, of a top-level or an included unit.
+fn border_after(random: &mut Random, sample: &MadeSample, start: usize) -> usize {
+    let borders = sample.borders.iter().chain(sample.included.iter().flatten());
+    let after: Vec<usize> = borders.copied().filter(|&border| border > start).collect();
+    random.pick(&after)
 }
 
 /// The bundle's bytes and where its four sections start, and its end.

@@ -7,12 +7,15 @@ const AGGREGATOR: u8 = 30;
 const EXTRACTOR: u8 = 31;
 
 /// A sample and what is known of it.
+#[derive(Default)]
 pub struct MadeSample {
     pub bytes: Vec<u8>,
     /// Where top-level units start, and the end.
     pub borders: Vec<usize>,
     /// For each top-level unit whether it is an extractor or includes one.
     pub extracting: Vec<bool>,
+    /// For each aggregator that includes units, where those start, and its end.
+    pub included: Vec<Vec<usize>>,
     /// Where extractors start, past their length fields.
     pub extractors: Vec<usize>,
 }
@@ -35,15 +38,15 @@ struct Covering {
 }
 
 pub fn make_sample(random: &mut Random, manner: &Manner) -> MadeSample {
-    let mut sample =
-        MadeSample { bytes: Vec::new(), borders: Vec::new(), extracting: Vec::new(), extractors: Vec::new() };
+    let mut sample = MadeSample::default();
     let mut coverings = Vec::new();
     let units = if random.once_in(10) { 0 } else { random.between(1, manner.most_units) };
     for index in 0..units {
         sample.borders.push(sample.bytes.len());
         let before = sample.extractors.len();
         let unit = match random.below(if manner.linked { 7 } else { 40 }) {
-            0 | 3 => {
+            // Where extractors are few, 7 to 10 come up too.
+            0 | 3 | 7..=10 => {
                 coverings.push(Covering { unit: index, at: sample.bytes.len() + manner.length_size + 4 });
                 aggregator(random, manner, &mut sample)
             }
@@ -126,13 +129,15 @@ fn extractor(random: &mut Random, manner: &Manner) -> Vec<u8> {
     unit
 }
 
-/// An aggregator that covers nothing yet, with its included units. Extractors in it are noted as if it stood at the
-/// end of the sample.
+/// An aggregator that covers nothing yet, with its included units. They and the extractors among them are noted as if
+/// it stood at the end of the sample.
 fn aggregator(random: &mut Random, manner: &Manner, sample: &mut MadeSample) -> Vec<u8> {
     let mut unit = header(random, AGGREGATOR).to_vec();
     unit.resize(4 + manner.length_size, 0);
     let start = sample.bytes.len() + manner.length_size;
+    let mut borders = Vec::new();
     for _ in 0..random.below(4) {
+        borders.push(start + unit.len());
         let inner = match random.below(5) {
             0 if manner.linked || random.once_in(20) => {
                 sample.extractors.push(start + unit.len() + manner.length_size);
@@ -146,6 +151,10 @@ fn aggregator(random: &mut Random, manner: &Manner, sample: &mut MadeSample) -> 
             _ => plain(random, manner, true),
         };
         put_unit(&mut unit, &inner, manner.length_size);
+    }
+    if !borders.is_empty() {
+        borders.push(start + unit.len());
+        sample.included.push(borders);
     }
     if fault(random, manner) {
         random.damage(&mut unit);

@@ -1,0 +1,131 @@
+-- Units that stand one after another: the top-level units of a sample, or those that one aggregator includes. Assumes nothing.
+--
+--   places-sooner, places-later   the places up to an earlier end, and from a later unit on, are among them
+--   places-next                   the next place is one of them, or their end
+--   run-has                       inside a unit no other starts
+--   Nearing, nearing-start, -next, -inside, -around    a walk from a, come to q, that looks for the unit that t lies in
+--   holder-one, in-holder         a place lies in one top-level unit; an included unit in its aggregator
+--   top-apart, aggregator-one     an included unit is no top-level one, and one aggregator includes it
+--   includes-one                  what holds of one aggregator that includes a unit
+use Prim.Native.Nat.{ℕ, zero, suc, _+_, _-_, _≤_, _<_}
+use mathlib.Core.Path.{_≡_, refl, sym, _∙_}
+use mathlib.Core.List.{List·Memᴰ, List·Memᴰ·not-nil, List·Memᴰ·cases-cons, List·Memᴰ·head, List·Memᴰ·tail}
+use mathlib.Core.Logic.{⊎-elim}
+use mathlib.Core.Bool.{Bool, true, false, _||_, _&&_}
+use native.Mathlib.Omega.{arith}
+use borrow.Author.Tests.{leb-true, leb-false, eq-eqb, ne-eqb, eqb-true, eqb-false}
+use lib.Dec.{leb}
+use Rattle.words.specs.Tests.{_≡?_}
+use Rattle.words.specs.Lists.{some, has}
+use Rattle.words.proofs.Tests.{by-bool}
+use Rattle.words.proofs.Lists.{some-none, some-mem, has-from}
+use Rattle.words.proofs.Kept.{rising-apart}
+use Rattle.numbers.proofs.Laws.{L-some}
+use Rattle.units.specs.Units.{Sample, end, next, isAggregator, places, topUnits}
+use Rattle.units.specs.Aggregators.{includedStart, included}
+use Rattle.units.proofs.Units.{next-after}
+use Rattle.units.proofs.Walks.{places-end, places-step, in-places, places-rise, top-rise, Before}
+use Rattle.copies.specs.Copies.{includes}
+use Rattle.copies.specs.Runs.{InSample, Around}
+
+module _ (x : Sample) where
+  sooner : (k a t e q : ℕ) → t + 1 - a ≤ k → t < e → List·Memᴰ q (places x a (t + 1)) → List·Memᴰ q (places x a e)
+  sooner zero a t e q h l m = absurd (List·Memᴰ·not-nil (rw (places-end x a (t + 1) (omega arith)) at m))
+  sooner (suc k) a t e q h l m = by-bool (leb (t + 1) a)
+      (λ u. absurd (List·Memᴰ·not-nil (rw (places-end x a (t + 1) (leb-true _ _ u)) at m)))
+      (λ u. let i = leb-false (t + 1) a u in let n = next-after x a in rw (places-step x a e (omega arith)) (⊎-elim
+      (λ j. List·Memᴰ·head j)
+      (λ j. List·Memᴰ·tail (sooner k (next x a) t e q (omega arith) l j))
+      (List·Memᴰ·cases-cons (rw (places-step x a (t + 1) i) at m))))
+
+  pub places-sooner : (a t e q : ℕ) → t < e → List·Memᴰ q (places x a (t + 1)) → List·Memᴰ q (places x a e)
+  places-sooner a t e q l m = sooner (t + 1) a t e q (omega arith) l m
+
+  later : (k p e a q : ℕ) → e - p ≤ k → List·Memᴰ a (places x p e) → List·Memᴰ q (places x a e) → List·Memᴰ q (places x p e)
+  later zero p e a q h m j = absurd (List·Memᴰ·not-nil (rw (places-end x p e (omega arith)) at m))
+  later (suc k) p e a q h m j = by-bool (leb e p)
+      (λ u. absurd (List·Memᴰ·not-nil (rw (places-end x p e (leb-true _ _ u)) at m)))
+      (λ u. let i = leb-false e p u in let n = next-after x p in ⊎-elim
+      (λ r. rw (← r) j)
+      (λ r. rw (places-step x p e i) (List·Memᴰ·tail (later k (next x p) e a q (omega arith) r j)))
+      (List·Memᴰ·cases-cons (rw (places-step x p e i) at m)))
+
+  pub places-later : (p e a q : ℕ) → List·Memᴰ a (places x p e) → List·Memᴰ q (places x a e) → List·Memᴰ q (places x p e)
+  places-later p e a q m j = later (e - p) p e a q (omega arith) m j
+
+  pub places-next : (a e q : ℕ) → List·Memᴰ q (places x a e) → next x q ≤ e → ((next x q ≡? e) || has (next x q) (places x a e)) ≡ true
+  places-next a e q m h = by-bool (next x q ≡? e)
+      (λ t. rw t)
+      (λ t. let n = eqb-false (next x q) e t in
+      let i = in-places x a e q m in
+      rw (
+        t,
+        some-mem (λ j. next x q ≡? j) (places x a e)
+            (places-later a e q (next x q) m (rw (places-step x q e (i .1), places-step x (next x q) e (omega arith)) (List·Memᴰ·tail (List·Memᴰ·head refl))))
+            (eq-eqb (next x q) (next x q) refl),
+      ))
+
+  pub run-has : (a e q t : ℕ) → List·Memᴰ q (places x a e) → q ≤ t → t < next x q → has t (places x a e) ≡ (q ≡? t)
+  run-has a e q t m l h = by-bool (q ≡? t)
+      (λ u. let i = eqb-true q t u in some-mem (λ j. t ≡? j) (places x a e) m (eq-eqb t q (sym i)) ∙ sym u)
+      (λ u. let i = eqb-false q t u in some-none (λ j. t ≡? j) (places x a e) (λ j k. ne-eqb t j (λ e'. ⊎-elim
+      (λ s. i (s ∙ sym e'))
+      (λ s. ⊎-elim (λ b. absurd (omega arith)) (λ b. let n = next-after x j in absurd (omega arith)) s)
+      (rising-apart (Before x) (places x a e) (places-rise x a e) q j m k))) ∙ sym u)
+
+  -- A walk from a toward t, come to q.
+  pub record Nearing (a t q : ℕ) : Type 0 where
+    pub here : List·Memᴰ q (places x a (t + 1))
+    pub rest : (r : ℕ) → List·Memᴰ r (places x q (t + 1)) → List·Memᴰ r (places x a (t + 1))
+
+  pub nearing-start : (a t : ℕ) → a ≤ t → Nearing a t a
+  nearing-start a t l = record { here = rw (places-step x a (t + 1) (omega arith)) (List·Memᴰ·head refl); rest = λ r m. m }
+
+  module _ (a t q : ℕ) (w : Nearing a t q) where
+    pub nearing-inside : InSample x a t → next x q ≤ end x
+    nearing-inside s = s .inside q (w .here)
+
+    pub nearing-next : next x q ≤ t → Nearing a t (next x q)
+    nearing-next h =
+        let i = in-places x a (t + 1) q (w .here) in
+        let s = places-step x q (t + 1) (i .1) in
+        record {
+          here = w .rest (next x q) (rw (s, places-step x (next x q) (t + 1) (omega arith)) (List·Memᴰ·tail (List·Memᴰ·head refl)));
+          rest = λ r m. w .rest r (rw s (List·Memᴰ·tail m));
+        }
+
+    pub nearing-around : t < next x q → Around x a t q
+    nearing-around h = record { unit = w .here; ends = h }
+
+  -- top-level units do not overlap
+  pub holder-one : (p r t : ℕ) → List·Memᴰ p (topUnits x) → List·Memᴰ r (topUnits x) → p ≤ t → t < next x p → r ≤ t → t < next x r → p ≡ r
+  holder-one p r t m k a b c d = ⊎-elim
+      (λ e. e)
+      (λ s. absurd (⊎-elim (λ u. absurd (omega arith)) (λ u. absurd (omega arith)) s))
+      (rising-apart (Before x) (topUnits x) (top-rise x) p r m k)
+
+  pub in-holder : (p q : ℕ) → List·Memᴰ q (included x p) → (p < q) × (q < next x p)
+  in-holder p q m = let i = in-places x (includedStart x p) (next x p) q m in let l = L-some (x .lengthSize) in (omega arith, i .1)
+
+  pub top-apart : (p q : ℕ) → List·Memᴰ p (topUnits x) → List·Memᴰ q (included x p) → List·Memᴰ q (topUnits x) → ⊥
+  top-apart p q m k t =
+      let i = in-holder p q k in
+      let n = next-after x q in
+      let e = holder-one p q q m t (omega arith) (i .1) (omega arith) n in
+      absurd (omega arith)
+
+  pub aggregator-one : (p r q : ℕ) → List·Memᴰ p (topUnits x) → List·Memᴰ r (topUnits x) → List·Memᴰ q (included x p) → List·Memᴰ q (included x r) → p ≡ r
+  aggregator-one p r q m k a b =
+      let i = in-holder p q a in
+      let j = in-holder r q b in
+      holder-one p r q m k (omega arith) (i .1) (omega arith) (j .1)
+
+  -- a test of the aggregator that includes q, whichever it is
+  pub includes-one : (t : ℕ → Bool) (p q : ℕ) → List·Memᴰ p (topUnits x) → isAggregator x p ≡ true → List·Memᴰ q (included x p) → some (λ r. includes x r q && t r) (topUnits x) ≡ t p
+  includes-one t p q m a k = by-bool (t p)
+      (λ u. some-mem (λ r. includes x r q && t r) (topUnits x) m (rw (a, some-mem (λ j. q ≡? j) (included x p) k (eq-eqb q q refl), u)) ∙ sym u)
+      (λ u. some-none (λ r. includes x r q && t r) (topUnits x) (λ r j. by-bool (isAggregator x r)
+      (λ b. by-bool (has q (included x r))
+      (λ c. let e = aggregator-one p r q m j k (has-from q (included x r) c) in rw (b, c, ← e, u))
+      (λ c. rw (b, c)))
+      (λ b. rw b)) ∙ sym u)
