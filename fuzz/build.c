@@ -27,9 +27,8 @@ static void put_header(struct output *out, unsigned type) {
     put(out, 0x800003, 3);
 }
 
-/* A sample has fewer units than this, an aggregator includes fewer. */
-#define UNITS 16
-#define INCLUDED 4
+#define UNITS 16   /* a sample has fewer top-level units */
+#define INCLUDED 4 /* an aggregator includes fewer units */
 
 /* Where the units of a sample start, included ones too, and its end. */
 struct borders {

@@ -4,8 +4,6 @@
 --   copy-refusal               a refusal is 25 to 28
 --   copied-exact               what is copied: all units of the sample that lie in the copy, but aggregators
 --   copied-unit                a copied unit is a unit of the sample, no aggregator
---   copied-other               nor an extractor
---   copied-rise                in order, each once
 --   copied-count               no more units than bytes
 use Prim.Native.Nat.{ℕ, _≤_, _<_}
 use mathlib.Core.Path.{_≡_, refl}
@@ -68,10 +66,7 @@ module _ (z : Sample) (o n : ℕ) where
       let a = keep-from (λ p. not (isAggregator z p)) (units z) (keep-from _ (withoutAggregators z (units z)) (rw copied-exact at m) .0) in
       (a .0, not-true _ (a .1))
 
-  pub copied-other : copyFault z o n ≡ 0 → (q : ℕ) → List·Memᴰ q (copied z o n) → isExtractor z q ≡ false
-  copied-other e = copy-rules e .noExtractor
-
-  pub copied-rise : Rising _<_ (copied z o n)
+  copied-rise : Rising _<_ (copied z o n)
   copied-rise = rw copied-exact (rising-keep _<_ _ (withoutAggregators z (units z)) (rising-keep _<_ _ (units z) (units-rise z)))
 
   pub copied-count : check z ≡ ok tt → length (copied z o n) ≤ end z

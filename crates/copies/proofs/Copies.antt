@@ -1,20 +1,20 @@
 -- Where a copy starts and ends. Assumes nothing.
 --
 --   starts-unit, unit-starts, starts-not    data_offset is a unit of the sample, or none
---   end-length, end-unit, end-aggregator, end-after    where a copy ends
+--   end-length, end-unit, end-aggregator    where a copy ends
 --   ends-top, ends-included     on which borders, by its start
---   Run, run-top, run-included, run    the units that a copy starts and ends among
+--   Run, run                    the units that a copy starts and ends among
 --   run-none, run-some          whether a unit starts at data_offset
---   ends-border                 where a copy may end is a border of units
+--   top-ends                    a top-level unit ends in the sample
 --   end-zero                    what data_length 0 takes ends on a border
 --   border-none                 a copy without 26 and 27 starts at a unit and ends on a border of those that it stands among
---   copy-unit, copy-whole, copy-cut, copy-most    its first unit, and what lies between its borders
+--   copy-whole, copy-cut, copy-most    its first unit, and what lies between its borders
 --   copied-flat                 its units are those of one walk over it, aggregators dropped
-use Prim.Native.Nat.{ℕ, suc, _+_, _≤_, _<_}
-use mathlib.Core.Path.{_≡_, refl, ap, sym, _∙_}
+use Prim.Native.Nat.{ℕ, _+_, _≤_, _<_}
+use mathlib.Core.Path.{_≡_, refl, ap, sym, _∙_, subst}
 use mathlib.Core.List.{List·Memᴰ}
-use mathlib.Core.Logic.{inl, inr}
-use mathlib.Core.Bool.{Bool, true, false, not, _||_, _&&_}
+use mathlib.Core.Logic.{inl, inr, ⊎-elim}
+use mathlib.Core.Bool.{true, false, not, _||_, _&&_}
 use native.Mathlib.Omega.{arith}
 use borrow.Author.Tests.{eq-eqb, ne-eqb, eqb-true, eqb-false, not-false}
 use Rattle.words.specs.Tests.{_≤?_, _<?_, _≡?_}
@@ -22,15 +22,15 @@ use Rattle.words.specs.Refusals.{ok}
 use Rattle.words.specs.Lists.{has}
 use Rattle.words.proofs.Tests.{by-bool, true-false}
 use Rattle.words.proofs.Refusals.{if-none, orElse-none}
-use Rattle.words.proofs.Lists.{some-none, some-mem, has-from}
+use Rattle.words.proofs.Lists.{some-none, has-from, has-mem, is-or-from}
 use Rattle.words.proofs.Kept.{keep-keep}
 use Rattle.units.specs.Units.{Sample, end, next, isAggregator, places, topUnits, border}
 use Rattle.units.specs.Aggregators.{includedStart, included, coverEnd, units}
 use Rattle.units.specs.Rules.{Whole}
-use Rattle.units.proofs.Units.{next-after, whole-end}
-use Rattle.units.proofs.Walks.{in-top, in-places, units-top, units-included, units-from}
+use Rattle.units.proofs.Units.{next-after}
+use Rattle.units.proofs.Walks.{in-top, units-top, units-included, units-from}
 use Rattle.samples.specs.Check.{check}
-use Rattle.samples.proofs.Laws.{rules, included-inside, covered-border, unit-whole, unit-inside}
+use Rattle.samples.proofs.Laws.{included-inside, covered-border, unit-whole, unit-inside}
 use Rattle.copies.specs.Copies.{withoutAggregators, includedBorder, copyStarts, copyEnd, copyEnds, copied, startFault, borderFault}
 use Rattle.copies.specs.Flat.{flatPlaces, UnitBorder, BetweenBorders}
 use Rattle.copies.specs.Runs.{RunEnd}
@@ -42,7 +42,7 @@ module _ (z : Sample) (o : ℕ) where
   starts-unit h = has-from o (units z) h
 
   pub unit-starts : List·Memᴰ o (units z) → copyStarts z o ≡ true
-  unit-starts m = some-mem (λ q. o ≡? q) (units z) m (eq-eqb o o refl)
+  unit-starts m = has-mem o (units z) m
 
   pub starts-not : (List·Memᴰ o (units z) → ⊥) → copyStarts z o ≡ false
   starts-not h = by-bool (copyStarts z o) (λ t. absurd (h (starts-unit t))) (λ t. t)
@@ -60,7 +60,7 @@ module _ (z : Sample) (o n : ℕ) where
   unfolding copyEnd
   end-aggregator h t = rw (eq-eqb n 0 h, t)
 
-  pub end-after : o < copyEnd z o n
+  end-after : o < copyEnd z o n
   end-after = by-bool (n ≡? 0)
       (λ t. let e = eqb-true n 0 t in let l = next-after z o in by-bool (isAggregator z o)
       (λ g. let i = end-aggregator e g in omega arith)
@@ -69,7 +69,7 @@ module _ (z : Sample) (o n : ℕ) where
 
   pub ends-top : List·Memᴰ o (topUnits z) → copyEnds z o n ≡ border z (copyEnd z o n)
   unfolding copyEnds
-  ends-top m = rw (some-mem (λ q. o ≡? q) (topUnits z) m (eq-eqb o o refl))
+  ends-top m = rw (has-mem o (topUnits z) m)
 
   pub ends-included : (p : ℕ) → List·Memᴰ p (topUnits z) → isAggregator z p ≡ true → List·Memᴰ o (included z p) → copyEnds z o n ≡ includedBorder z p (copyEnd z o n)
   unfolding copyEnds
@@ -84,34 +84,8 @@ pub record Run (z : Sample) (a e o : ℕ) : Type 0 where
   pub stop : UnitBorder z e
   pub ends : (n : ℕ) → copyEnds z o n ≡ ((copyEnd z o n ≡? e) || has (copyEnd z o n) (places z a e))
 
-module _ (z : Sample) (k : check z ≡ ok tt) (o : ℕ) where
-  pub run-top : List·Memᴰ o (topUnits z) → Run z 0 (end z) o
-  unfolding topUnits border
-  run-top m = record {
-    here = m;
-    member = λ q j. (units-top z q j, whole-end z (end z) q (rules z k .tops q j) .1);
-    stop = inr refl;
-    ends = λ n. ends-top z o n m;
-  }
-
-  pub run-included : (p : ℕ) → List·Memᴰ p (topUnits z) → isAggregator z p ≡ true → List·Memᴰ o (included z p) → Run z (includedStart z p) (next z p) o
-  run-included p m t j = record {
-    here = j;
-    member = λ q i. (units-included z p q m t i, included-inside z k p m t q i .1);
-    stop = after (next z p) (unfold topUnits in places-next z 0 (end z) p m (whole-end z (end z) p (rules z k .tops p m) .1));
-    ends = λ n. ends-included z o n p m t j;
-  }
-    where
-      after : (q : ℕ) → ((q ≡? end z) || has q (places z 0 (end z))) ≡ true → UnitBorder z q
-      after q h = by-bool (q ≡? end z)
-          (λ u. inr (eqb-true q (end z) u))
-          (λ u. inl (units-top z q (unfold topUnits in has-from q (places z 0 (end z)) (rw u at h))))
-
-  pub run : (e : ℕ) → RunEnd z o e → copyStarts z o ≡ true → (a : ℕ) × Run z a e o
-  run e (RunEnd.none h) s = true-false _ s h
-  run e (RunEnd.top m) s = (0, run-top m)
-  run e (RunEnd.inside p m t j) s = (includedStart z p, run-included p m t j)
-
+-- whether a unit starts at o
+module _ (z : Sample) (o : ℕ) where
   pub run-none : (e : ℕ) → RunEnd z o e → e ≡ 0 → copyStarts z o ≡ false
   run-none e (RunEnd.none h) i = h
   run-none e (RunEnd.top m) i = let l = in-top z o m in absurd (omega arith)
@@ -122,16 +96,46 @@ module _ (z : Sample) (k : check z ≡ ok tt) (o : ℕ) where
   run-some e (RunEnd.top m) i = unit-starts z o (units-top z o m)
   run-some e (RunEnd.inside p m t j) i = unit-starts z o (units-included z p o m t j)
 
-  -- a unit stands in a run
+pub top-ends : (z : Sample) → check z ≡ ok tt → (p : ℕ) → List·Memᴰ p (topUnits z) → next z p ≤ end z
+top-ends z k p m = unit-inside z k p (units-top z p m) .1
+
+module _ (z : Sample) (k : check z ≡ ok tt) (o : ℕ) where
+  run-top : List·Memᴰ o (topUnits z) → Run z 0 (end z) o
+  unfolding topUnits border
+  run-top m = record {
+    here = m;
+    member = λ q j. (units-top z q j, top-ends z k q j);
+    stop = inl refl;
+    ends = λ n. ends-top z o n m;
+  }
+
+  run-included : (p : ℕ) → List·Memᴰ p (topUnits z) → isAggregator z p ≡ true → List·Memᴰ o (included z p) → Run z (includedStart z p) (next z p) o
+  run-included p m t j = record {
+    here = j;
+    member = λ q i. (units-included z p q m t i, included-inside z k p m t q i .1);
+    stop = after (next z p) (unfold topUnits in places-next z 0 (end z) p m (top-ends z k p m));
+    ends = λ n. ends-included z o n p m t j;
+  }
+    where
+      after : (q : ℕ) → ((q ≡? end z) || has q (places z 0 (end z))) ≡ true → UnitBorder z q
+      after q h = ⊎-elim (λ e. inl e) (λ i. inr (units-top z q i)) (is-or-from q (end z) (topUnits z) (unfold topUnits in h))
+
+  pub run : (e : ℕ) → RunEnd z o e → copyStarts z o ≡ true → (a : ℕ) × Run z a e o
+  run e (RunEnd.none h) s = true-false _ s h
+  run e (RunEnd.top m) s = (0, run-top m)
+  run e (RunEnd.inside p m t j) s = (includedStart z p, run-included p m t j)
+
+  -- each unit stands in a run
   some-run : {G : Type 0} → copyStarts z o ≡ true → ((a e : ℕ) → Run z a e o → G) → G
   some-run s g = units-from z o (starts-unit z o s) (λ m. g 0 (end z) (run-top m)) (λ p m t j. g (includedStart z p) (next z p) (run-included p m t j))
 
   run-border : (a e n : ℕ) → Run z a e o → copyEnds z o n ≡ true → UnitBorder z (copyEnd z o n)
-  run-border a e n w h = by-bool (copyEnd z o n ≡? e)
-      (λ t. rw (eqb-true (copyEnd z o n) e t) (w .stop))
-      (λ t. inl (w .member _ (has-from _ (places z a e) (rw t at (sym (w .ends n) ∙ h))) .0))
+  run-border a e n w h = ⊎-elim
+      (λ i. subst (UnitBorder z) (sym i) (w .stop))
+      (λ m. inr (w .member _ m .0))
+      (is-or-from (copyEnd z o n) e (places z a e) (sym (w .ends n) ∙ h))
 
-  pub ends-border : (n : ℕ) → copyStarts z o ≡ true → copyEnds z o n ≡ true → UnitBorder z (copyEnd z o n)
+  ends-border : (n : ℕ) → copyStarts z o ≡ true → copyEnds z o n ≡ true → UnitBorder z (copyEnd z o n)
   ends-border n s h = some-run s (λ a e w. run-border a e n w h)
 
   -- what data_length 0 takes ends on a border
@@ -154,13 +158,13 @@ module _ (z : Sample) (o n : ℕ) where
 
   -- a copy without 26 and 27
   module _ (b : borderFault z o n ≡ 0) where
-    pub copy-unit : List·Memᴰ o (units z)
+    copy-unit : List·Memᴰ o (units z)
     copy-unit = starts-unit z o (border-none b .0)
 
     pub copy-cut : check z ≡ ok tt → BetweenBorders z o (copyEnd z o n)
     copy-cut k = record {
       formed = k;
-      start = inl copy-unit;
+      start = inr copy-unit;
       stop = ends-border z k o n (border-none b .0) (border-none b .1);
       order = (let a = end-after z o n in omega arith);
     }

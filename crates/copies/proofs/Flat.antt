@@ -3,9 +3,7 @@
 --   flat-aggregator, flat-other   the place after an aggregator, and after another unit
 --   flat-after                    the walk goes on
 --   flat-end, flat-step           the places from p up to e: none, or p and those from the next on
---   in-flat                       they lie from p on, before e
 --   flat-part                     a part of a walk, from one of its places on, is a walk
---   flat-unit                     a top-level unit with what it includes, then those from the next on
 --   flat-units                    all units of a well-formed sample
 --   flat-run                      units that are no aggregators, one after another
 --   border-most                   a border of units does not lie past the end
@@ -14,19 +12,19 @@
 --   flat-good                     each unit between two borders is whole, and the walk does not leave them
 --   Walking, walking-start, -whole, -step, -next    a walk between two borders that has come to p: what stands there is whole
 use Prim.Native.Nat.{ℕ, zero, suc, _-_, _≤_, _<_}
-use mathlib.Core.Path.{_≡_, refl, ap, sym, _∙_}
+use mathlib.Core.Path.{_≡_, refl, ap, _∙_}
 use mathlib.Core.List.{[], _∷_, _++_, append-nil, List·Memᴰ, List·Memᴰ·not-nil, List·Memᴰ·cases-cons, List·Memᴰ·head, List·Memᴰ·tail}
 use mathlib.Core.Logic.{_⊎_, inl, inr, ⊎-elim}
 use mathlib.Core.Bool.{Bool, true, false, _&&_}
 use native.Mathlib.Omega.{arith}
-use borrow.Author.Tests.{le-leb, lt-leb, leb-true, leb-false, lt-ltb, le-ltb, ltb-true, ltb-false}
-use lib.Dec.{leb, ltb}
+use borrow.Author.Tests.{le-leb, lt-leb, leb-true, leb-false, lt-ltb, le-ltb}
+use lib.Dec.{leb}
 use Rattle.words.specs.Tests.{_≤?_, _<?_}
 use Rattle.words.specs.Refusals.{ok}
 use Rattle.words.specs.Lists.{keep, each}
 use Rattle.words.proofs.Tests.{by-bool}
 use Rattle.words.proofs.Lists.{keep-mem, keep-from, keep-nothing}
-use Rattle.words.proofs.Kept.{keep-same, keep-yes, keep-no}
+use Rattle.words.proofs.Kept.{keep-same, keep-no}
 use Rattle.numbers.proofs.Laws.{L-some}
 use Rattle.units.specs.Units.{Sample, end, next, isAggregator, places, topUnits}
 use Rattle.units.specs.Aggregators.{includedStart, withIncluded, units}
@@ -80,7 +78,7 @@ module _ (x : Sample) where
       (λ b. let i = from-in e k (flatStep x p) q b in let g = flat-after p in (omega arith, i .1))
       (List·Memᴰ·cases-cons (rw t at m)))
 
-  pub in-flat : (p e q : ℕ) → List·Memᴰ q (flatPlaces x p e) → (p ≤ q) × (q < e)
+  in-flat : (p e q : ℕ) → List·Memᴰ q (flatPlaces x p e) → (p ≤ q) × (q < e)
   in-flat p e q m = from-in e (e - p) p q m
 
   -- a part of a walk
@@ -130,7 +128,7 @@ module _ (x : Sample) where
 
   module _ (ok : check x ≡ ok tt) where
     -- a top-level unit, and what it includes
-    pub flat-unit : (p b : ℕ) → List·Memᴰ p (topUnits x) → next x p ≤ b → flatPlaces x p b ≡ withIncluded x p ++ flatPlaces x (next x p) b
+    flat-unit : (p b : ℕ) → List·Memᴰ p (topUnits x) → next x p ≤ b → flatPlaces x p b ≡ withIncluded x p ++ flatPlaces x (next x p) b
     unfolding withIncluded
     flat-unit p b m h =
         let n = next-after x p in
@@ -154,7 +152,7 @@ module _ (x : Sample) where
     flat-units = tops (end x) 0 (omega arith) (λ q m. m)
 
     pub border-most : (q : ℕ) → UnitBorder x q → q ≤ end x
-    border-most q b = ⊎-elim (λ m. let i = unit-inside x ok q m in omega arith) (λ e. omega arith) b
+    border-most q b = ⊎-elim (λ e. omega arith) (λ m. let i = unit-inside x ok q m in omega arith) b
 
     -- the next place of the walk
     step-inside : (q : ℕ) → List·Memᴰ q (units x) → flatStep x q ≤ end x
@@ -177,16 +175,16 @@ module _ (x : Sample) where
         (List·Memᴰ·cases-cons (rw (flat-step q (end x) (omega arith)) at g))
 
     step-border : (q b : ℕ) → List·Memᴰ q (units x) → UnitBorder x b → q < b → flatStep x q ≤ b
-    step-border q b m s l = ⊎-elim (λ j. step-unit q b m j l) (λ e. let i = step-inside q m in omega arith) s
+    step-border q b m s l = ⊎-elim (λ e. let i = step-inside q m in omega arith) (λ j. step-unit q b m j l) s
 
   -- a whole sample lies between two borders
   pub sample-borders : check x ≡ ok tt → BetweenBorders x 0 (end x)
   sample-borders k = record {
     formed = k;
     start = by-bool (leb (end x) 0)
-        (λ t. let i = leb-true (end x) 0 t in inr (omega arith))
-        (λ t. inl (rw (flat-units k, flat-step 0 (end x) (leb-false (end x) 0 t)) (List·Memᴰ·head refl)));
-    stop = inr refl;
+        (λ t. let i = leb-true (end x) 0 t in inl (omega arith))
+        (λ t. inr (rw (flat-units k, flat-step 0 (end x) (leb-false (end x) 0 t)) (List·Memᴰ·head refl)));
+    stop = inl refl;
     order = omega arith;
   }
 
@@ -195,7 +193,7 @@ module _ (x : Sample) where
     pub flat-between : keep (λ q. (a ≤? q) && (q <? b)) (units x) ≡ flatPlaces x a b
     flat-between =
         let u = flat-units (s .formed) in
-        rw u (flat-part 0 (end x) a b (⊎-elim (λ m. inl (rw u at m)) (λ e. inr e) (s .start)) (border-most (s .formed) b (s .stop)))
+        rw u (flat-part 0 (end x) a b (⊎-elim (λ e. inr e) (λ m. inl (rw u at m)) (s .start)) (border-most (s .formed) b (s .stop)))
 
     -- each unit between two borders is whole, and the walk does not leave them
     pub flat-good : (q : ℕ) → List·Memᴰ q (flatPlaces x a b) → Whole x (end x) q × (flatStep x q ≤ b)

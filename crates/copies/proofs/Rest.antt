@@ -6,17 +6,15 @@
 --   walking-never                          on its way there is always a unit
 --   Looking, looking-start, -skip, -found, -take, -end    a loop that looks for an extractor
 --   Finding, finding-start, -skip, -never, -found, -take, -end    a loop that looks for the ith unit, where there is no extractor
-use Prim.Native.Nat.{ℕ, _+_, _-_, _≤_, _<_}
+use Prim.Native.Nat.{ℕ, _-_, _≤_, _<_}
 use mathlib.Core.Path.{_≡_, refl, ap, sym, _∙_}
 use mathlib.Core.List.{List, [], _∷_}
 use mathlib.Core.Bool.{true, false}
 use native.Mathlib.Omega.{arith}
 use native.Mathlib.Nat.{pos-of-ne-zero}
-use lib.ListN.{length}
 use Rattle.words.specs.Lists.{keep, some, nth}
 use Rattle.words.specs.RefusalNumbers.{extractorCopied}
-use Rattle.numbers.proofs.Laws.{L-some}
-use Rattle.units.specs.Units.{Sample, end, size, next, isAggregator, isExtractor}
+use Rattle.units.specs.Units.{Sample, end, next, isAggregator, isExtractor}
 use Rattle.units.specs.Aggregators.{includedStart}
 use Rattle.unit_steps.specs.Items.{itemAt}
 use Rattle.unit_steps.specs.declared.Item.the-variants.{Nothing}

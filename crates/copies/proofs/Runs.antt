@@ -6,19 +6,19 @@
 --   Nearing, nearing-start, -next, -inside, -around    a walk from a, come to q, that looks for the unit that t lies in
 --   holder-one, in-holder         a place lies in one top-level unit; an included unit in its aggregator
 --   top-apart, aggregator-one     an included unit is no top-level one, and one aggregator includes it
---   includes-one                  what holds of one aggregator that includes a unit
+--   includes-one                  a test of the one aggregator that includes a unit
 use Prim.Native.Nat.{ℕ, zero, suc, _+_, _-_, _≤_, _<_}
 use mathlib.Core.Path.{_≡_, refl, sym, _∙_}
 use mathlib.Core.List.{List·Memᴰ, List·Memᴰ·not-nil, List·Memᴰ·cases-cons, List·Memᴰ·head, List·Memᴰ·tail}
-use mathlib.Core.Logic.{⊎-elim}
-use mathlib.Core.Bool.{Bool, true, false, _||_, _&&_}
+use mathlib.Core.Logic.{inl, inr, ⊎-elim}
+use mathlib.Core.Bool.{Bool, true, _||_, _&&_}
 use native.Mathlib.Omega.{arith}
-use borrow.Author.Tests.{leb-true, leb-false, eq-eqb, ne-eqb, eqb-true, eqb-false}
+use borrow.Author.Tests.{leb-true, leb-false, ne-eqb, eqb-true, eqb-false}
 use lib.Dec.{leb}
 use Rattle.words.specs.Tests.{_≡?_}
 use Rattle.words.specs.Lists.{some, has}
 use Rattle.words.proofs.Tests.{by-bool}
-use Rattle.words.proofs.Lists.{some-none, some-mem, has-from}
+use Rattle.words.proofs.Lists.{some-none, some-mem, has-from, has-mem, is-or-mem}
 use Rattle.words.proofs.Kept.{rising-apart}
 use Rattle.numbers.proofs.Laws.{L-some}
 use Rattle.units.specs.Units.{Sample, end, next, isAggregator, places, topUnits}
@@ -54,20 +54,15 @@ module _ (x : Sample) where
   places-later p e a q m j = later (e - p) p e a q (omega arith) m j
 
   pub places-next : (a e q : ℕ) → List·Memᴰ q (places x a e) → next x q ≤ e → ((next x q ≡? e) || has (next x q) (places x a e)) ≡ true
-  places-next a e q m h = by-bool (next x q ≡? e)
-      (λ t. rw t)
+  places-next a e q m h = is-or-mem (next x q) e (places x a e) (by-bool (next x q ≡? e)
+      (λ t. inl (eqb-true _ _ t))
       (λ t. let n = eqb-false (next x q) e t in
       let i = in-places x a e q m in
-      rw (
-        t,
-        some-mem (λ j. next x q ≡? j) (places x a e)
-            (places-later a e q (next x q) m (rw (places-step x q e (i .1), places-step x (next x q) e (omega arith)) (List·Memᴰ·tail (List·Memᴰ·head refl))))
-            (eq-eqb (next x q) (next x q) refl),
-      ))
+      inr (places-later a e q (next x q) m (rw (places-step x q e (i .1), places-step x (next x q) e (omega arith)) (List·Memᴰ·tail (List·Memᴰ·head refl))))))
 
   pub run-has : (a e q t : ℕ) → List·Memᴰ q (places x a e) → q ≤ t → t < next x q → has t (places x a e) ≡ (q ≡? t)
   run-has a e q t m l h = by-bool (q ≡? t)
-      (λ u. let i = eqb-true q t u in some-mem (λ j. t ≡? j) (places x a e) m (eq-eqb t q (sym i)) ∙ sym u)
+      (λ u. has-mem t (places x a e) (rw (← eqb-true q t u) m) ∙ sym u)
       (λ u. let i = eqb-false q t u in some-none (λ j. t ≡? j) (places x a e) (λ j k. ne-eqb t j (λ e'. ⊎-elim
       (λ s. i (s ∙ sym e'))
       (λ s. ⊎-elim (λ b. absurd (omega arith)) (λ b. let n = next-after x j in absurd (omega arith)) s)
@@ -123,7 +118,7 @@ module _ (x : Sample) where
   -- a test of the aggregator that includes q, whichever it is
   pub includes-one : (t : ℕ → Bool) (p q : ℕ) → List·Memᴰ p (topUnits x) → isAggregator x p ≡ true → List·Memᴰ q (included x p) → some (λ r. includes x r q && t r) (topUnits x) ≡ t p
   includes-one t p q m a k = by-bool (t p)
-      (λ u. some-mem (λ r. includes x r q && t r) (topUnits x) m (rw (a, some-mem (λ j. q ≡? j) (included x p) k (eq-eqb q q refl), u)) ∙ sym u)
+      (λ u. some-mem (λ r. includes x r q && t r) (topUnits x) m (rw (a, has-mem q (included x p) k, u)) ∙ sym u)
       (λ u. some-none (λ r. includes x r q && t r) (topUnits x) (λ r j. by-bool (isAggregator x r)
       (λ b. by-bool (has q (included x r))
       (λ c. let e = aggregator-one p r q m j k (has-from q (included x r) c) in rw (b, c, ← e, u))

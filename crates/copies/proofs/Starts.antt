@@ -6,37 +6,34 @@
 --   held-other, held-head     it is no aggregator; data_offset lies before the units that it includes
 --   held-run                  a walk over these
 --   held-inside, held-between     one of them starts there, or none
---   run-walk                  a walk from the first unit of a copy
+--   run-before, run-most      a copy starts before the end of the units that it starts among, which lie in the sample
+--   run-walk                  a walk from its first unit
 --   run-past, run-last, run-ends  whether a copy ends on a border of the units that it starts among
 use Prim.Native.Nat.{ℕ, _+_, _≤_, _<_}
-use mathlib.Core.Path.{_≡_, refl, sym, _∙_}
+use mathlib.Core.Path.{_≡_, sym, _∙_}
 use mathlib.Core.List.{List·Memᴰ}
-use mathlib.Core.Bool.{true, false, _||_}
+use mathlib.Core.Bool.{true, false}
 use native.Mathlib.Omega.{arith}
 use borrow.Author.Tests.{eq-eqb, ne-eqb, eqb-true}
 use Rattle.words.specs.Tests.{_≡?_}
 use Rattle.words.specs.Refusals.{ok}
-use Rattle.words.specs.Lists.{has}
 use Rattle.words.proofs.Tests.{true-false}
-use Rattle.words.proofs.Lists.{some-none, some-mem}
+use Rattle.words.proofs.Lists.{some-none, has-mem}
 use Rattle.units.specs.Units.{Sample, end, next, isAggregator, places, topUnits}
 use Rattle.units.specs.Aggregators.{includedStart, included, units}
-use Rattle.units.proofs.Units.{next-after, whole-end}
+use Rattle.units.proofs.Units.{next-after}
 use Rattle.units.proofs.Walks.{in-places, units-from}
 use Rattle.samples.specs.Check.{check}
-use Rattle.samples.proofs.Laws.{rules, included-inside, unit-inside}
+use Rattle.samples.proofs.Laws.{included-inside, unit-inside}
 use Rattle.copies.specs.Copies.{copyEnd, copyEnds}
 use Rattle.copies.specs.Runs.{InSample, Around, RunEnd}
 use Rattle.copies.proofs.Flat.{border-most}
 use Rattle.copies.proofs.Runs.{places-sooner, places-later, run-has, holder-one, in-holder}
-use Rattle.copies.proofs.Copies.{starts-not, Run}
+use Rattle.copies.proofs.Copies.{starts-not, top-ends, Run}
 
 module _ (z : Sample) (k : check z ≡ ok tt) (o : ℕ) where
   pub start-past : end z ≤ o → RunEnd z o 0
   start-past h = RunEnd.none (starts-not z o (λ m. let i = unit-inside z k o m in absurd (omega arith)))
-
-  top-ends : (p : ℕ) → List·Memᴰ p (topUnits z) → next z p ≤ end z
-  top-ends p m = whole-end z (end z) p (rules z k .tops p m) .1
 
   -- The top-level unit at p holds o.
   pub record Held (p : ℕ) : Type 0 where
@@ -47,7 +44,7 @@ module _ (z : Sample) (k : check z ≡ ok tt) (o : ℕ) where
   module _ (h : o < end z) where
     pub held-walk : InSample z 0 o
     unfolding topUnits
-    held-walk = record { order = omega arith; inside = λ q m. top-ends q (places-sooner z 0 o (end z) q h m) }
+    held-walk = record { order = omega arith; inside = λ q m. top-ends z k q (places-sooner z 0 o (end z) q h m) }
 
     pub held : (p : ℕ) → Around z 0 o p → Held p
     unfolding topUnits
@@ -77,7 +74,7 @@ module _ (z : Sample) (k : check z ≡ ok tt) (o : ℕ) where
       order = l;
       inside = λ q m.
           let i = included-inside z k p (w .top) t q (places-sooner z (includedStart z p) o (next z p) q (w .to) m) in
-          let e = top-ends p (w .top) in
+          let e = top-ends z k p (w .top) in
           omega arith;
     }
 
@@ -92,7 +89,7 @@ module _ (z : Sample) (k : check z ≡ ok tt) (o : ℕ) where
       held-between n d = RunEnd.none (starts-not z o (λ m. held-unit n m (λ t i.
           let j = in-places z (includedStart z p) (o + 1) q (a .unit) in
           let s = run-has z (includedStart z p) (next z p) q o there (omega arith) (a .ends) in
-          d (eqb-true q o (sym s ∙ some-mem (λ r. o ≡? r) (included z p) i (eq-eqb o o refl))))))
+          d (eqb-true q o (sym s ∙ has-mem o (included z p) i)))))
 
   -- a copy from o, among the units from a up to e
   module _ (a e : ℕ) (w : Run z a e o) where

@@ -1,5 +1,5 @@
 -- What an extractor copies of the sample z that it names, by its data_offset o and its data_length n (01, 'Resolving'; 02, [4]; B.2.1,
--- B.3.3). It starts at a top-level unit, or at one that an aggregator includes, and ends among the same units.
+-- B.3.3). It starts at a top-level unit, or at one that an aggregator includes, and ends on a border of the units beside that one.
 --
 --   withoutAggregators z ps     units as they are delivered
 --   includes z p q              whether the aggregator at p includes the unit at q

@@ -34,7 +34,7 @@ module _ (x : Sample) where
   unitsBetween a e = withoutAggregators x (flatPlaces a e)
 
   abbrev pub UnitBorder : ℕ → Type 0
-  UnitBorder q = (q ∈ units x) ⊎ (q ≡ end x)
+  UnitBorder q = (q ≡ end x) ⊎ (q ∈ units x)
 
   pub record BetweenBorders (a e : ℕ) : Type 0 where
     pub formed : check x ≡ ok tt

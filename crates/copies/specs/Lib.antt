@@ -3,7 +3,7 @@
 --   Copies      where a copy starts and ends, the units in it, refusals 25 to 28
 --   Extracted   a copied unit as a part of the sample that it is copied from
 --   Flat        all units of a sample as one walk
---   Runs        the units that a copy starts and ends among
+--   Runs        runs of units, which a copy starts and ends in
 --   Written     what code says of a copy
 --   Range       where a copy ends, for code that goes over it unit by unit
 --   Rules       the rules of a copy in plain facts, for laws

@@ -1,9 +1,8 @@
--- The units that a copy starts and ends among, for code that walks over them: the top-level units of a sample, or those that one aggregator
--- includes.
+-- A run of units, for code that walks over it: the top-level units of a sample, or those that one aggregator includes.
 --
 --   InSample x a t        the units from a up to the one that t lies in lie in the sample
 --   Around x a t q        the unit at q, one of them, is the one that t lies in
---   RunEnd x o e          a unit starts at o, and those that it stands among end at e; e is 0 where none starts there
+--   RunEnd x o e          a unit starts at o, and the run that it stands in ends at e; e is 0 where none starts there
 use Prim.Native.Nat.{ℕ, _+_, _≤_, _<_}
 use mathlib.Core.Path.{_≡_}
 use mathlib.Core.Bool.{true, false}

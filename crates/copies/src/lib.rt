@@ -34,7 +34,10 @@ fn next_at(k: Track, z: &[u8], at: usize) -> usize
     at + l.bytes() + l.number(z, at)
 }
 
-// Where the unit starts that a place lies in, by a walk over units from one that does not lie after it.
+// What `run_end` gives where no unit starts. No run of units ends there.
+const NO_UNIT: usize = 0;
+
+// Where the unit starts that a place lies in. The walk goes over units, from one that does not start after the place.
 fn unit_around(k: Track, z: &[u8], from: usize, place: usize) -> usize
     requires { ⌜ InSample (sample k (now z)) from place ⌝ }
     ensures { λ r. ⌜ Around (sample k (now (z .entry))) from place r ⌝ }
@@ -48,35 +51,38 @@ fn unit_around(k: Track, z: &[u8], from: usize, place: usize) -> usize
     q
 }
 
-// Where the units end among which one starts at data_offset: the sample's end for a top-level unit, its aggregator's end for an included
-// one; 0 where no unit starts there.
+// If a unit starts at data_offset, where the units end among which it stands: the sample's end for a top-level unit, its aggregator's end
+// for an included one. Else NO_UNIT.
 fn run_end(k: Track, z: &[u8], from: usize) -> usize
     requires { ⌜ check (sample k (now z)) ≡ ok tt ⌝ }
     ensures { λ r. ⌜ RunEnd (sample k (now (z .entry))) from r ⌝ }
 {
     if z.len() <= from {
-        return 0;
+        return NO_UNIT;
     }
     let top = unit_around(k, z, 0, from);
     if top == from {
         return z.len();
     }
-    if units::type_at(k, z, ByteOffset(top)) != units::AGGREGATOR {
-        return 0;
+    let item = unit_steps::item_at(k, z, ByteOffset(top));
+    match item {
+        Item::Aggregator(included) => {
+            if from < included.0 {
+                return NO_UNIT;
+            }
+            if unit_around(k, z, included.0, from) != from {
+                return NO_UNIT;
+            }
+            next_at(k, z, top)
+        }
+        Item::Extractor(_) => NO_UNIT,
+        Item::Unit(_) => NO_UNIT,
+        // does not come: the sample is well formed
+        Item::Nothing => NO_UNIT,
     }
-    let l = k.length_size;
-    let n = l.bytes();
-    let included = top + n + LengthSize::HEADER + n;
-    if from < included {
-        return 0;
-    }
-    if unit_around(k, z, included, from) != from {
-        return 0;
-    }
-    next_at(k, z, top)
 }
 
-// Whether a copy ends on a border of the units that it starts among, which end at `end`. What data_length 0 takes does so in any well-formed
+// Whether a copy ends on a border of the units that it starts among; these end at `end`. What data_length 0 takes does so in any well-formed
 // sample.
 fn copy_ends(k: Track, z: &[u8], from: usize, length: usize, end: usize) -> bool
     requires { ⌜ (check (sample k (now z)) ≡ ok tt) × (copyStarts (sample k (now z)) from ≡ true) × RunEnd (sample k (now z)) from end ⌝ }
@@ -101,7 +107,7 @@ pub(crate) fn border_fault(k: Track, z: &[u8], from: usize, length: usize) -> u8
     ensures { λ r. ⌜ r ≡ borderFault (sample k (now (z .entry))) from length ⌝ }
 {
     let end = run_end(k, z, from);
-    if end == 0 {
+    if end == NO_UNIT {
         return refusals::BAD_DATA_OFFSET;
     }
     if !copy_ends(k, z, from, length, end) {
@@ -166,8 +172,8 @@ fn formed_fault(k: Track, z: &[u8], from: usize, length: usize) -> u8
 }
 
 // The refusal number of a copy by data_offset and data_length, 25 to 28; 0 for none.
-// The sample is checked once. Then one walk goes over its top-level units up to data_offset, there into an aggregator, and on to the end of
-// the copy; and one over the units copied.
+// The sample is checked once. Then one walk goes over its top-level units up to data_offset; if that lies inside an aggregator, on over what
+// it includes; and on to the end of the copy, if data_length tells it. The units copied are gone over once more.
 fn copy_fault(k: Track, z: &[u8], offset: ByteOffset, length: usize) -> u8
     ensures { λ r. ⌜ r ≡ copyFault (sample k (now (z .entry))) (offset .0) length ⌝ }
 {

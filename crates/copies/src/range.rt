@@ -29,8 +29,8 @@ fn range_formed(k: Track, z: &[u8], from: usize, length: usize) -> CopyRange
 }
 
 // A copy of a sample by data_offset and data_length: 25 to 27, or where it ends.
-// The sample is checked once, and one walk goes over its top-level units up to data_offset, there into an aggregator, and on to the end of
-// the copy.
+// The sample is checked once. Then one walk goes over its top-level units up to data_offset; if that lies inside an aggregator, on over what
+// it includes; and on to the end of the copy, if data_length tells it.
 pub fn range_of(k: Track, z: &[u8], offset: ByteOffset, length: usize) -> CopyRange
     ensures { λ r. ⌜ r ≡ rangeOf (sample k (now (z .entry))) (offset .0) length ⌝ }
 {

@@ -1,64 +1,36 @@
 -- The proofs of what Demands and Request04 say of a copy. Assumes nothing.
-use Prim.Native.Nat.{ℕ, _+_, _≤_, _<_}
-use mathlib.Core.Path.{_≡_, refl, ap, sym, _∙_, subst}
+--
+--   starts-of, of-starts          where a copy may start, both ways
+--   copy-ends, ends-copy          where it ends, both ways
+--   among-of, of-among            that it starts and ends on borders of the same units, both ways
+--   copied-inside, inside-copied  the units in it, both ways
+--   copy-of, of-copy              a copy without a fault, both ways
+--   by-copy                       the fault of a copy of a well-formed sample, by cases
+--   fault-26, fault-27, fault-28  when it is each of these
+use Prim.Native.Nat.{ℕ, _≤_, _<_}
+use mathlib.Core.Path.{_≡_, ap, sym, _∙_, subst}
 use mathlib.Core.Bool.{Bool, true, false, not, _&&_}
-use mathlib.Core.List.{List, [], _∷_, List·Memᴰ·head, List·Memᴰ·tail}
-use mathlib.Core.Logic.{_⊎_, inl, inr, _↔_}
+use mathlib.Core.List.{List}
+use mathlib.Core.Logic.{_↔_}
 use native.Mathlib.Omega.{arith}
 use native.Mathlib.Nat.{pos-of-ne-zero}
-use borrow.Author.Tests.{eqb-true, eqb-false, ne-eqb, eq-eqb}
+use borrow.Author.Tests.{leb-true, le-leb, lt-ltb, ltb-true, eqb-true, eqb-false, ne-eqb, eq-eqb}
 use Rattle.words.specs.Tests.{_≤?_, _<?_, _≡?_}
-use Rattle.words.specs.Refusals.{refused, ok}
+use Rattle.words.specs.Refusals.{ok, _if_}
 use Rattle.words.specs.Lists.{_∈_, keep, some}
-use Rattle.words.proofs.Tests.{by-bool, true-false}
-use Rattle.words.proofs.Lists.{some-mem, has-from}
-use Rattle.units.specs.Units.{Sample, type, next, isAggregator, isExtractor, topUnits}
+use Rattle.words.proofs.Tests.{by-bool, and-both, true-false}
+use Rattle.words.proofs.Lists.{keep-mem, keep-from, some-from, is-or-from, is-or-mem}
+use Rattle.words.proofs.Kept.{some-false}
+use Rattle.units.specs.Units.{Sample, type, next, isAggregator, isExtractor}
 use Rattle.units.specs.Aggregators.{included, units}
 use Rattle.units.proofs.Walks.{units-top, units-included, units-from}
 use Rattle.samples.specs.Check.{check}
-use Rattle.copies.specs.Copies.{withoutAggregators, includedBorder, copyStarts, copyEnd, copyEnds, copied, borderFault, copyFault}
+use Rattle.copies.specs.Copies.{withoutAggregators, copyStarts, copyEnd, copyEnds, copied, borderFault, copyFault}
 use Rattle.copies.proofs.Copied.{copy-rules, rules-copy, copied-exact}
 use Rattle.copies.proofs.Copies.{starts-unit, unit-starts, ends-top, ends-included}
 use Rattle.promise_rules.proofs.SampleLaws.{formed-rules, rules-formed, border-at, at-border}
+use Rattle.promise_rules.specs.Samples.{Formed}
 use Rattle.promise_rules.specs.Resolving.{CopyStarts, CopyEnds, CopyAmong, CopyOf}
-
--- the numbers of a copy
-module _ (z : Sample) (o n : ℕ) where
-  pub copy-25 : {m p : ℕ} → check z ≡ refused m p → copyFault z o n ≡ 25
-  unfolding copyFault
-  copy-25 v = rw v
-
-  pub copy-26 : check z ≡ ok tt → copyStarts z o ≡ false → copyFault z o n ≡ 26
-  unfolding copyFault borderFault
-  copy-26 v s = rw (v, s)
-
-  pub copy-27 : check z ≡ ok tt → copyStarts z o ≡ true → copyEnds z o n ≡ false → copyFault z o n ≡ 27
-  unfolding copyFault borderFault
-  copy-27 v s e = rw (v, s, e)
-
-  pub copy-28 : check z ≡ ok tt → copyStarts z o ≡ true → copyEnds z o n ≡ true → some (isExtractor z) (copied z o n) ≡ true → copyFault z o n ≡ 28
-  unfolding copyFault borderFault
-  copy-28 v s e x = rw (v, s, e, x)
-
-  pub copy-0 : check z ≡ ok tt → copyStarts z o ≡ true → copyEnds z o n ≡ true → some (isExtractor z) (copied z o n) ≡ false → copyFault z o n ≡ 0
-  unfolding copyFault borderFault
-  copy-0 v s e x = rw (v, s, e, x)
-
-pub some-from : (t : ℕ → Bool) (xs : List ℕ) → some t xs ≡ true → (x : ℕ) × (x ∈ xs) × (t x ≡ true)
-unfolding some
-some-from t [] e = true-false false e refl
-some-from t (x ∷ xs) e = by-bool (t x)
-    (λ q. (x, List·Memᴰ·head refl, q))
-    (λ q. let w = some-from t xs (rw q at e) in (w .0, List·Memᴰ·tail (w .1), w .2))
-
--- a border of the units that the aggregator at p includes
-module _ (z : Sample) (p q : ℕ) where
-  included-at : includedBorder z p q ≡ true → (q ∈ included z p) ⊎ (q ≡ next z p)
-  included-at h = by-bool (q ≡? next z p) (λ t. inr (eqb-true _ _ t)) (λ t. inl (has-from q (included z p) (rw t at h)))
-
-  at-included : (q ∈ included z p) ⊎ (q ≡ next z p) → includedBorder z p q ≡ true
-  at-included (inl k) = rw (some-mem (λ r. q ≡? r) (included z p) k (eq-eqb q q refl)) (by-bool (q ≡? next z p) (λ u. rw u) (λ u. rw u))
-  at-included (inr e) = rw (eq-eqb q (next z p) e)
 
 module _ (z : Sample) (o : ℕ) where
   pub starts-of : copyStarts z o ≡ true → CopyStarts z o
@@ -67,6 +39,10 @@ module _ (z : Sample) (o : ℕ) where
   pub of-starts : CopyStarts z o → copyStarts z o ≡ true
   of-starts (CopyStarts.top m) = unit-starts z o (units-top z o m)
   of-starts (CopyStarts.inside p m t j) = unit-starts z o (units-included z p o m (eq-eqb (type z p) 30 t) j)
+
+  among-starts : {e : ℕ} → CopyAmong z o e → CopyStarts z o
+  among-starts (CopyAmong.top m b) = CopyStarts.top m
+  among-starts (CopyAmong.inside p m t j b) = CopyStarts.inside p m t j
 
 module _ (z : Sample) (o n : ℕ) where
   pub copy-ends : CopyEnds z o n (copyEnd z o n)
@@ -86,13 +62,24 @@ module _ (z : Sample) (o n : ℕ) where
   pub among-of : copyStarts z o ≡ true → copyEnds z o n ≡ true → CopyAmong z o (copyEnd z o n)
   among-of s e = units-from z o (starts-unit z o s)
       (λ m. CopyAmong.top m (border-at z (copyEnd z o n) (sym (ends-top z o n m) ∙ e)))
-      (λ p m t j. CopyAmong.inside p m (eqb-true _ _ t) j (included-at z p (copyEnd z o n) (sym (ends-included z o n p m t j) ∙ e)))
+      (λ p m t j. CopyAmong.inside p m (eqb-true _ _ t) j (is-or-from (copyEnd z o n) (next z p) (included z p) (sym (ends-included z o n p m t j) ∙ e)))
 
   pub of-among : CopyAmong z o (copyEnd z o n) → (copyStarts z o ≡ true) × (copyEnds z o n ≡ true)
   of-among (CopyAmong.top m b) = (unit-starts z o (units-top z o m), ends-top z o n m ∙ at-border z (copyEnd z o n) b)
   of-among (CopyAmong.inside p m t j b) =
       let a = eq-eqb (type z p) 30 t in
-      (unit-starts z o (units-included z p o m a j), ends-included z o n p m a j ∙ at-included z p (copyEnd z o n) b)
+      (unit-starts z o (units-included z p o m a j), ends-included z o n p m a j ∙ is-or-mem (copyEnd z o n) (next z p) (included z p) b)
+
+  -- a copied unit lies in the copy
+  pub copied-inside : (q : ℕ) → q ∈ copied z o n → (q ∈ units z) × (o ≤ q) × (q < copyEnd z o n)
+  copied-inside q m =
+      let i = keep-from (λ j. (o ≤? j) && (j <? copyEnd z o n)) (withoutAggregators z (units z)) (rw (copied-exact z o n) at m) in
+      let a = and-both (o ≤? q) (q <? copyEnd z o n) (i .1) in
+      (keep-from (λ j. not (isAggregator z j)) (units z) (i .0) .0, leb-true _ _ (a .0), ltb-true _ _ (a .1))
+
+  pub inside-copied : (q : ℕ) → q ∈ units z → (type z q ≡ 30 → ⊥) → o ≤ q → q < copyEnd z o n → q ∈ copied z o n
+  inside-copied q m t a b = rw (copied-exact z o n) (keep-mem (λ j. (o ≤? j) && (j <? copyEnd z o n)) (withoutAggregators z (units z))
+      (keep-mem (λ j. not (isAggregator z j)) (units z) m (rw (ne-eqb (type z q) 30 t))) (rw (le-leb o q a, lt-ltb q (copyEnd z o n) b)))
 
   pub copy-of : copyFault z o n ≡ 0 → CopyOf z o n (copied z o n)
   copy-of e =
@@ -119,3 +106,50 @@ module _ (z : Sample) (o n : ℕ) where
         }),
         c,
       )
+
+  -- the fault of a copy of a well-formed sample, by cases
+  fault-start : check z ≡ ok tt → copyStarts z o ≡ false → copyFault z o n ≡ 26
+  unfolding copyFault borderFault
+  fault-start v s = rw (v, s)
+
+  fault-end : check z ≡ ok tt → copyStarts z o ≡ true → copyEnds z o n ≡ false → copyFault z o n ≡ 27
+  unfolding copyFault borderFault
+  fault-end v s e = rw (v, s, e)
+
+  fault-chain : {b : Bool} → check z ≡ ok tt → copyStarts z o ≡ true → copyEnds z o n ≡ true → some (isExtractor z) (copied z o n) ≡ b → copyFault z o n ≡ (28 if b)
+  unfolding copyFault borderFault
+  fault-chain v s e x = rw (v, s, e, x)
+
+  module _ (f : Formed z) where
+    pub by-copy : {G : Type 0} →
+        ((CopyStarts z o → ⊥) → copyFault z o n ≡ 26 → G) →
+        (CopyStarts z o → (CopyAmong z o (copyEnd z o n) → ⊥) → copyFault z o n ≡ 27 → G) →
+        (CopyAmong z o (copyEnd z o n) → (q : ℕ) → q ∈ copied z o n → type z q ≡ 31 → copyFault z o n ≡ 28 → G) →
+        (CopyAmong z o (copyEnd z o n) → ((q : ℕ) → q ∈ copied z o n → type z q ≡ 31 → ⊥) → copyFault z o n ≡ 0 → G) → G
+    by-copy start end chain good =
+        let v = rules-formed z f in
+        by-bool (copyStarts z o)
+        (λ s. by-bool (copyEnds z o n)
+        (λ e. by-bool (some (isExtractor z) (copied z o n))
+        (λ x. let w = some-from (isExtractor z) (copied z o n) x in chain (among-of s e) (w .0) (w .1) (eqb-true _ _ (w .2)) (fault-chain v s e x))
+        (λ x. good (among-of s e) (λ q m t. true-false _ (eq-eqb _ _ t) (some-false (isExtractor z) (copied z o n) x q m)) (fault-chain v s e x)))
+        (λ e. end (starts-of z o s) (λ a. true-false _ (of-among a .1) e) (fault-end v s e)))
+        (λ s. start (λ w. true-false _ (of-starts z o w) s) (fault-start v s))
+
+    pub fault-26 : (copyFault z o n ≡ 26) ↔ (CopyStarts z o → ⊥)
+    fault-26 = (
+      λ e. by-copy (λ no i. no) (λ s no i. absurd (omega arith)) (λ a q m t i. absurd (omega arith)) (λ a no i. absurd (omega arith)),
+      λ no. by-copy (λ s i. i) (λ s a i. absurd (no s)) (λ a q m t i. absurd (no (among-starts z o a))) (λ a x i. absurd (no (among-starts z o a))),
+    )
+
+    pub fault-27 : CopyStarts z o → (copyFault z o n ≡ 27) ↔ (CopyAmong z o (copyEnd z o n) → ⊥)
+    fault-27 s = (
+      λ e. by-copy (λ no i. absurd (no s)) (λ s no i. no) (λ a q m t i. absurd (omega arith)) (λ a no i. absurd (omega arith)),
+      λ no. by-copy (λ n i. absurd (n s)) (λ s a i. i) (λ a q m t i. absurd (no a)) (λ a x i. absurd (no a)),
+    )
+
+    pub fault-28 : CopyAmong z o (copyEnd z o n) → (copyFault z o n ≡ 28) ↔ ((q : ℕ) × (q ∈ copied z o n) × (type z q ≡ 31))
+    fault-28 a = (
+      λ e. by-copy (λ no i. absurd (no (among-starts z o a))) (λ s no i. absurd (no a)) (λ b q m t i. (q, m, t)) (λ b no i. absurd (omega arith)),
+      λ w. by-copy (λ no i. absurd (no (among-starts z o a))) (λ s no i. absurd (no a)) (λ b q m t i. i) (λ b no i. absurd (no (w .0) (w .1) (w .2))),
+    )

@@ -1,34 +1,28 @@
 -- The proofs of what Demands says of an extractor that is refused. Assumes nothing.
 use Prim.Native.Nat.{ℕ, suc, _≤_, _<_}
-use mathlib.Core.Path.{_≡_, refl, ap, sym, _∙_, subst}
-use mathlib.Core.Bool.{Bool, true, false, not, _&&_}
-use mathlib.Core.List.{List, [], _∷_, List·Memᴰ·head, List·Memᴰ·tail}
-use mathlib.Core.Logic.{_⊎_, inl, inr}
+use mathlib.Core.Path.{_≡_, ap, sym, _∙_, subst}
+use mathlib.Core.Logic.{_⊎_, inl, inr, _↔_}
 use native.Mathlib.Omega.{arith}
 use native.Mathlib.Nat.{pos-of-ne-zero}
-use borrow.Author.Tests.{ltb-true, ltb-false, leb-true, le-leb, lt-ltb, eqb-true, eqb-false, eq-eqb, ne-eqb}
+use borrow.Author.Tests.{ltb-true, ltb-false, lt-ltb, eqb-true, eqb-false, eq-eqb}
 use lib.ListN.{length}
-use Rattle.words.specs.Tests.{_≤?_, _<?_, _≡?_}
-use Rattle.words.specs.Refusals.{refused, ok}
-use Rattle.words.specs.Lists.{_∈_, keep, some}
-use Rattle.words.proofs.Tests.{by-bool, by-number, true-false, and-both}
+use Rattle.words.specs.Tests.{_<?_, _≡?_}
+use Rattle.words.specs.Lists.{keep}
+use Rattle.words.proofs.Tests.{by-bool, by-number}
 use Rattle.words.proofs.Refusals.{ok-refused, by-verdict}
-use Rattle.words.proofs.Lists.{keep-mem, keep-from, some-mem}
-use Rattle.units.specs.Units.{Sample, type, isAggregator, isExtractor}
 use Rattle.units.specs.Extractors.{trackRefIndex, sampleOffset, dataOffset, dataLength}
-use Rattle.units.specs.Aggregators.{units}
 use Rattle.samples.specs.Check.{check}
 use Rattle.bundles.specs.Recordings.{Layout, Recording, trackOf, referencesFrom}
 use Rattle.links.specs.Links.{linkFault, sampleNamed, nameFault}
 use Rattle.links.specs.Order.{TimesRise}
 use Rattle.links.proofs.Links.{link-good, name-good}
-use Rattle.copies.specs.Copies.{withoutAggregators, copyStarts, copyEnd, copyEnds, copied, borderFault, copyFault}
-use Rattle.copies.proofs.Copied.{copied-exact}
+use Rattle.copies.specs.Copies.{copyEnd, copyFault}
+use Rattle.copies.proofs.Answers.{copy-ill}
 use Rattle.resolution_rules.specs.Resolving.{sampleOf, own, named, linked, nameFaultAt, copyFaultAt, extractFault}
 use Rattle.promise_rules.specs.Resolving.{NamedBy, CopyAmong}
 use Rattle.promise_rules.specs.Refused.{ExtractorFault}
 use Rattle.promise_rules.proofs.SampleLaws.{formed-rules, rules-formed}
-use Rattle.promise_rules.proofs.CopyLaws.{copy-25, copy-26, copy-27, copy-28, copy-0, some-from, starts-of, of-starts, copy-ends, ends-copy, among-of, of-among}
+use Rattle.promise_rules.proofs.CopyLaws.{copy-ends, ends-copy, copied-inside, inside-copied, by-copy, fault-26, fault-27, fault-28}
 use Rattle.promise_rules.proofs.ResolveLaws.{names-by, by-names}
 
 -- the numbers of a name
@@ -96,23 +90,16 @@ module _ (r : Recording) (rise : TimesRise (r .layout)) (n : ℕ) (byte : (p : �
       let z = linked r n p in
       let w = is-named f in
       by-verdict (check z)
-      (λ a c v. is (copy-then f ∙ copy-25 z o l v) (ExtractorFault.form (named r n p) w (λ g. ok-refused (sym v ∙ rules-formed z g))))
-      (λ v. let g = formed-rules z v in
-      by-bool (copyStarts z o)
-      (λ t. by-bool (copyEnds z o l)
-      (λ d. by-bool (some (isExtractor z) (copied z o l))
-      (λ x.
-      let q = some-from (isExtractor z) (copied z o l) x in
-      let i = keep-from (λ j. (o ≤? j) && (j <? copyEnd z o l)) (withoutAggregators z (units z)) (subst (λ js. q .0 ∈ js) (copied-exact z o l) (q .1)) in
-      let a = and-both (o ≤? q .0) (q .0 <? copyEnd z o l) (i .1) in
-      is (copy-then f ∙ copy-28 z o l v t d x)
-      (ExtractorFault.chain (named r n p) (copyEnd z o l) (q .0) w g (copy-ends z o l) (among-of z o l t d)
-      (keep-from (λ j. not (isAggregator z j)) (units z) (i .0) .0) (leb-true _ _ (a .0)) (ltb-true _ _ (a .1)) (eqb-true _ _ (q .2))))
-      (λ x. let y = copy-then f ∙ copy-0 z o l v t d x in absurd (omega arith)))
-      (λ d. is (copy-then f ∙ copy-27 z o l v t d)
-      (ExtractorFault.end (named r n p) (copyEnd z o l) w g (starts-of z o t) (copy-ends z o l) (λ b. true-false (copyEnds z o l) (of-among z o l b .1) d))))
-      (λ t. is (copy-then f ∙ copy-26 z o l v t)
-      (ExtractorFault.start (named r n p) w g (λ k. true-false (copyStarts z o) (of-starts z o k) t)))))
+      (λ a c v. is (copy-then f ∙ copy-ill z o l v) (ExtractorFault.form (named r n p) w (λ g. ok-refused (sym v ∙ rules-formed z g))))
+      (λ v.
+      let g = formed-rules z v in
+      by-copy z o l g
+      (λ no i. is (copy-then f ∙ i) (ExtractorFault.start (named r n p) w g no))
+      (λ s no i. is (copy-then f ∙ i) (ExtractorFault.end (named r n p) (copyEnd z o l) w g s (copy-ends z o l) no))
+      (λ a q m t i.
+      let j = copied-inside z o l q m in
+      is (copy-then f ∙ i) (ExtractorFault.chain (named r n p) (copyEnd z o l) q w g (copy-ends z o l) a (j .0) (j .1) (j .2) t))
+      (λ a no i. let y = copy-then f ∙ i in absurd (omega arith))))
     where
       is : {k : ℕ} → extractFault r n p ≡ k → ExtractorFault r n p k → ExtractorFault r n p m
       is q w = subst (ExtractorFault r n p) (sym q ∙ e) w
@@ -145,9 +132,9 @@ module _ (r : Recording) (rise : TimesRise (r .layout)) (n : ℕ) (byte : (p : �
   name-fault-is (ExtractorFault.chain k e q w f c d u a b t) l = absurd (omega arith)
 
   -- the fault of an extractor that names sample k is that of its copy
-  pub then : {k : ℕ} → NamedBy (r .layout) n index offset k → extractFault r n p ≡ copyFault (sampleOf r k) o l
+  named-fault : {k : ℕ} → NamedBy (r .layout) n index offset k → extractFault r n p ≡ copyFault (sampleOf r k) o l
   unfolding named
-  then {k} w =
+  named-fault {k} w =
       let i = by-names (r .layout) rise n index offset (byte p) k w in
       copy-then (i .0) ∙ ap (λ (j : ℕ). copyFault (sampleOf r j) o l) (i .1)
 
@@ -155,29 +142,20 @@ module _ (r : Recording) (rise : TimesRise (r .layout)) (n : ℕ) (byte : (p : �
   is-fault (ExtractorFault.index h) = (name-first (link-23 (r .layout) n index offset h), omega arith)
   is-fault (ExtractorFault.name h k none) = (name-first (name-none h k none), omega arith)
   is-fault (ExtractorFault.form k w broken) = (
-    then w ∙ by-verdict (check (sampleOf r k))
-        (λ a c v. copy-25 (sampleOf r k) o l v)
+    named-fault w ∙ by-verdict (check (sampleOf r k))
+        (λ a c v. copy-ill (sampleOf r k) o l v)
         (λ v. absurd (broken (formed-rules (sampleOf r k) v))),
     omega arith,
   )
-  is-fault (ExtractorFault.start k w f none) =
-      let z = sampleOf r k in
-      (then w ∙ copy-26 z o l (rules-formed z f) (by-bool (copyStarts z o) (λ t. absurd (none (starts-of z o t))) (λ t. t)), omega arith)
+  is-fault (ExtractorFault.start k w f none) = (named-fault w ∙ fault-26 (sampleOf r k) o l f .1 none, omega arith)
   is-fault (ExtractorFault.end k e w f s ends none) =
       let z = sampleOf r k in
-      let i : copyEnd z o l ≡ e = ends-copy z o l e ends in
-      let c = of-starts z o s in (
-        then w ∙ copy-27 z o l (rules-formed z f) c
-            (by-bool (copyEnds z o l) (λ t. absurd (none (subst (CopyAmong z o) i (among-of z o l c t)))) (λ t. t)),
-        omega arith,
-      )
+      (named-fault w ∙ fault-27 z o l f s .1 (λ a. none (subst (CopyAmong z o) (ends-copy z o l e ends) a)), omega arith)
   is-fault (ExtractorFault.chain k e q w f ends d u a b t) =
       let z = sampleOf r k in
       let i : copyEnd z o l ≡ e = ends-copy z o l e ends in
-      let h = of-among z o l (subst (CopyAmong z o) (sym i) d) in
-      let g = keep-mem (λ j. (o ≤? j) && (j <? copyEnd z o l)) (withoutAggregators z (units z))
-      (keep-mem (λ j. not (isAggregator z j)) (units z) u (rw (ne-eqb (type z q) 30 (λ c. omega arith)))) (rw (i, le-leb o q a, lt-ltb q e b)) in (
-        then w ∙ copy-28 z o l (rules-formed z f) (h .0) (h .1)
-            (some-mem (isExtractor z) (copied z o l) (subst (λ js. q ∈ js) (sym (copied-exact z o l)) g) (eq-eqb _ _ t)),
-        omega arith,
-      )
+      let j = inside-copied z o l q u (λ c. absurd (omega arith)) a (rw i b) in
+      (named-fault w ∙ fault-28 z o l f (subst (CopyAmong z o) (sym i) d) .1 (q, j, t), omega arith)
+
+  pub copy-fault-is : {k m : ℕ} → NamedBy (r .layout) n index offset k → 0 < m → ExtractorFault r n p m ↔ (copyFault (sampleOf r k) o l ≡ m)
+  copy-fault-is w s = (λ x. sym (named-fault w) ∙ is-fault x .0, λ e. fault-of (named-fault w ∙ e) s)

@@ -1,37 +1,38 @@
 -- The proofs of what Request04 says. Assumes nothing.
 use Prim.Native.Nat.{ℕ, _+_, _≤_, _<_}
 use mathlib.Core.Path.{_≡_, refl, ap, sym, _∙_, subst}
-use mathlib.Core.Bool.{true, false, not, _&&_}
+use mathlib.Core.Bool.{true, _&&_}
 use mathlib.Core.List.{List, [], _∷_, List·Memᴰ·head, List·Memᴰ·eq-of-singleton}
 use mathlib.Core.Logic.{_⊎_, inl, inr, ⊎-elim, _↔_}
 use native.Mathlib.Omega.{arith}
 use native.Mathlib.Nat.{pos-of-ne-zero}
-use borrow.Author.Tests.{leb-true, le-leb, lt-ltb, ltb-true, eqb-true, eqb-false, eq-eqb, ne-eqb}
+use borrow.Author.Tests.{leb-true, le-leb, lt-ltb, ltb-true, eqb-true, eqb-false, eq-eqb}
 use Rattle.words.specs.Tests.{_≤?_, _<?_, _≡?_}
 use Rattle.words.specs.Refusals.{ok}
 use Rattle.words.specs.Bytes.{Bytes}
 use Rattle.words.specs.Lists.{_∈_, keep, some}
-use Rattle.words.proofs.Tests.{by-bool, and-both, true-false}
-use Rattle.words.proofs.Lists.{keep-mem, keep-from, some-mem}
-use Rattle.units.specs.Units.{Sample, end, type, next, isAggregator, isExtractor, topUnits}
+use Rattle.words.proofs.Tests.{by-bool, and-both}
+use Rattle.words.proofs.Lists.{keep-mem, keep-from}
+use Rattle.units.specs.Units.{Sample, end, type, next, isAggregator, topUnits}
 use Rattle.units.specs.Extractors.{trackRefIndex, sampleOffset, dataOffset, dataLength}
 use Rattle.units.specs.Aggregators.{included, units}
 use Rattle.samples.specs.Check.{check}
 use Rattle.bundles.specs.Recordings.{Recording, sampleCount}
 use Rattle.bundles.specs.Readers.{firstLayout}
-use Rattle.copies.specs.Copies.{withoutAggregators, copyStarts, copyEnd, copyEnds, copied, copyFault}
+use Rattle.copies.specs.Copies.{withoutAggregators, copyEnd, copied, copyFault}
 use Rattle.copies.proofs.Runs.{in-holder, top-apart, aggregator-one}
 use Rattle.copies.proofs.Copies.{end-length, end-unit, end-zero}
 use Rattle.copies.proofs.Copied.{copied-exact}
 use Rattle.copies.proofs.Included.{included-unit, included-part, included-one}
-use Rattle.resolution_rules.specs.Resolving.{sampleOf, extractFault}
-use Rattle.promise_rules.specs.Samples.{BorderAt, Formed}
+use Rattle.resolution_rules.specs.Resolving.{sampleOf}
+use Rattle.promise_rules.specs.Samples.{BorderAt, BorderIn, Formed}
 use Rattle.promise_rules.specs.Resolving.{NamedBy, CopyStarts, CopyEnds, CopyAmong, CopyOf}
-use Rattle.promise_rules.specs.Copies.{TopCopy, IncludedEnds, BorderIn, IncludedCopy}
+use Rattle.promise_rules.specs.Copies.{TopCopy, IncludedEnds, IncludedCopy}
+use Rattle.promise_rules.specs.Refused.{ExtractorFault}
 use Rattle.promise_rules.proofs.SampleLaws.{formed-rules, rules-formed}
 use Rattle.promise_rules.proofs.CallLaws.{rise, offset-byte}
-use Rattle.promise_rules.proofs.FaultLaws.{then}
-use Rattle.promise_rules.proofs.CopyLaws.{copy-26, copy-27, copy-28, copy-0, some-from, starts-of, of-starts, copy-ends, ends-copy, among-of, of-among, copy-of, of-copy}
+use Rattle.promise_rules.proofs.FaultLaws.{copy-fault-is}
+use Rattle.promise_rules.proofs.CopyLaws.{of-starts, copy-ends, ends-copy, among-of, copy-of, of-copy, by-copy, fault-26, fault-27, fault-28}
 
 module _ (z : Sample) (p o : ℕ) (m : p ∈ topUnits z) (j : o ∈ included z p) where
   pub starts-apart : (o ∈ topUnits z → ⊥) × ((a : ℕ) → a ∈ topUnits z → o ∈ included z a → a ≡ p)
@@ -46,40 +47,18 @@ module _ (z : Sample) (o n : ℕ) where
   copy-exactly qs = (λ w. subst (CopyOf z o n) (w .1) (copy-of z o n (w .0)), of-copy z o n qs)
 
   module _ (f : Formed z) where
-    ok-formed : check z ≡ ok tt
-    ok-formed = rules-formed z f
-
-    -- the fault of a copy that starts and ends on borders, or does not
-    pub fault-26 : (copyFault z o n ≡ 26) ↔ (CopyStarts z o → ⊥)
-    fault-26 = (
-      λ e s. by-bool (copyEnds z o n)
-          (λ t. by-bool (some (isExtractor z) (copied z o n))
-          (λ x. let i = copy-28 z o n ok-formed (of-starts z o s) t x in absurd (omega arith))
-          (λ x. let i = copy-0 z o n ok-formed (of-starts z o s) t x in absurd (omega arith)))
-          (λ t. let i = copy-27 z o n ok-formed (of-starts z o s) t in absurd (omega arith)),
-      λ no. copy-26 z o n ok-formed (by-bool (copyStarts z o) (λ t. absurd (no (starts-of z o t))) (λ t. t)),
-    )
-
-    pub fault-27 : CopyStarts z o → (copyFault z o n ≡ 27) ↔ (CopyAmong z o (copyEnd z o n) → ⊥)
-    fault-27 s = (
-      λ e a. by-bool (some (isExtractor z) (copied z o n))
-          (λ x. let i = copy-28 z o n ok-formed (of-starts z o s) (of-among z o n a .1) x in absurd (omega arith))
-          (λ x. let i = copy-0 z o n ok-formed (of-starts z o s) (of-among z o n a .1) x in absurd (omega arith)),
-      λ no. copy-27 z o n ok-formed (of-starts z o s) (by-bool (copyEnds z o n) (λ t. absurd (no (among-of z o n (of-starts z o s) t))) (λ t. t)),
-    )
-
     -- what data_length 0 takes ends on a border
-    pub zero-among : CopyStarts z o → n ≡ 0 → CopyAmong z o (copyEnd z o n)
-    zero-among s e = among-of z o n (of-starts z o s) (end-zero z ok-formed o n (of-starts z o s) e)
+    zero-among : CopyStarts z o → n ≡ 0 → CopyAmong z o (copyEnd z o n)
+    zero-among s e = among-of z o n (of-starts z o s) (end-zero z (rules-formed z f) o n (of-starts z o s) e)
 
-    pub fault-28 : CopyAmong z o (copyEnd z o n) → (copyFault z o n ≡ 28) ↔ ((q : ℕ) × (q ∈ copied z o n) × (type z q ≡ 31))
-    fault-28 a =
-        let b = of-among z o n a in (
-          λ e. by-bool (some (isExtractor z) (copied z o n))
-              (λ x. let w = some-from (isExtractor z) (copied z o n) x in (w .0, w .1, eqb-true _ _ (w .2)))
-              (λ x. let i = copy-0 z o n ok-formed (b .0) (b .1) x in absurd (omega arith)),
-          λ w. copy-28 z o n ok-formed (b .0) (b .1) (some-mem (isExtractor z) (copied z o n) (w .1) (eq-eqb _ _ (w .2))),
-        )
+    -- 27, where B are the borders that the copy may end on
+    fault-by : (B : ℕ → Type 0) → CopyStarts z o → ((e : ℕ) → CopyAmong z o e → B e) → ((e : ℕ) → B e → CopyAmong z o e) → (copyFault z o n ≡ 27) ↔ ((0 < n) × (B (o + n) → ⊥))
+    fault-by B s to from = (
+      λ e. by-bool (n ≡? 0)
+          (λ t. absurd (fault-27 z o n f s .0 e (zero-among s (eqb-true _ _ t))))
+          (λ t. (pos-of-ne-zero (eqb-false _ _ t), λ b. fault-27 z o n f s .0 e (from (copyEnd z o n) (subst B (sym (end-length z o n (eqb-false _ _ t))) b)))),
+      λ w. fault-27 z o n f s .1 (λ a. w .1 (subst B (end-length z o n (λ e. let h = w .0 in absurd (omega arith))) (to (copyEnd z o n) a))),
+    )
 
   -- from a top-level unit
   module _ (m : o ∈ topUnits z) where
@@ -95,15 +74,7 @@ module _ (z : Sample) (o n : ℕ) where
 
     module _ (f : Formed z) where
       pub top-27 : (copyFault z o n ≡ 27) ↔ ((0 < n) × (BorderAt z (o + n) → ⊥))
-      top-27 = (
-        λ e. by-bool (n ≡? 0)
-            (λ t. absurd (fault-27 f start .0 e (zero-among f start (eqb-true _ _ t))))
-            (λ t. (pos-of-ne-zero (eqb-false _ _ t), λ b. fault-27 f start .0 e (CopyAmong.top m (rw (end-length z o n (eqb-false _ _ t)) b)))),
-        λ w. fault-27 f start .1 (λ a. w .1 (rw (end-length z o n (λ e. let h = w .0 in absurd (omega arith))) at (top-border (copyEnd z o n) a))),
-      )
-        where
-          start : CopyStarts z o
-          start = CopyStarts.top m
+      top-27 = fault-by f (BorderAt z) (CopyStarts.top m) top-border (λ e b. CopyAmong.top m b)
 
       pub top-inside : (p : ℕ) → p ∈ topUnits z → o + n ∈ included z p → copyFault z o n ≡ 27
       top-inside p k j = top-27 .1 (
@@ -129,7 +100,7 @@ module _ (z : Sample) (p o : ℕ) (m : p ∈ topUnits z) (t : type z p ≡ 30) (
   among-in e (CopyAmong.inside a k u i b) = subst (λ (q : ℕ). BorderIn z q e) (aggregator-one z a p o k m i j) b
 
   in-most : (e : ℕ) → BorderIn z p e → e ≤ next z p
-  in-most e b = ⊎-elim (λ k. let i = in-holder z p e k in omega arith) (λ i. omega arith) b
+  in-most e b = ⊎-elim (λ i. omega arith) (λ k. let i = in-holder z p e k in omega arith) b
 
   module _ (k : check z ≡ ok tt) (n : ℕ) where
     flat : type z o ≡ 30 → ⊥
@@ -198,12 +169,7 @@ module _ (z : Sample) (p o : ℕ) (m : p ∈ topUnits z) (t : type z p ≡ 30) (
     included-26 e = fault-26 z o n f .0 e starts
 
     pub included-27 : (copyFault z o n ≡ 27) ↔ ((0 < n) × (BorderIn z p (o + n) → ⊥))
-    included-27 = (
-      λ e. by-bool (n ≡? 0)
-          (λ u. absurd (fault-27 z o n f starts .0 e (zero-among z o n f starts (eqb-true _ _ u))))
-          (λ u. (pos-of-ne-zero (eqb-false _ _ u), λ b. fault-27 z o n f starts .0 e (CopyAmong.inside p m t j (rw (end-length z o n (eqb-false _ _ u)) b)))),
-      λ w. fault-27 z o n f starts .1 (λ a. w .1 (rw (end-length z o n (λ e. let h = w .0 in absurd (omega arith))) at (among-in (copyEnd z o n) a))),
-    )
+    included-27 = fault-by z o n f (BorderIn z p) starts among-in (λ e b. CopyAmong.inside p m t j b)
 
     pub included-28 :
         (copyFault z o n ≡ 28)
@@ -227,14 +193,12 @@ module _ (z : Sample) (p o : ℕ) (m : p ∈ topUnits z) (t : type z p ≡ 30) (
         k = rules-formed z f
 
         among : copyFault z o n ≡ 28 → CopyAmong z o (copyEnd z o n)
-        among e = by-bool (copyEnds z o n)
-            (λ u. among-of z o n (of-starts z o starts) u)
-            (λ u. let i = copy-27 z o n k (of-starts z o starts) u in absurd (omega arith))
+        among e = by-copy z o n f (λ no i. absurd (no starts)) (λ s no i. absurd (omega arith)) (λ a q u v i. a) (λ a no i. a)
 
 -- the fault of an extractor is that of its copy
 pub fault-of-copy :
     (b : List ℕ) → Bytes b → (r : Recording) → firstLayout .means b ≡ ok r → (n p m : ℕ) → 0 < n → n ≤ sampleCount (r .layout) →
-    NamedBy (r .layout) n (trackRefIndex (sampleOf r n) p) (sampleOffset (sampleOf r n) p) m →
-    extractFault r n p ≡ copyFault (sampleOf r m) (dataOffset (sampleOf r n) p) (dataLength (sampleOf r n) p)
-fault-of-copy b bytes r accepted n p m some there w =
-    then r (rise b bytes r accepted) n (offset-byte b bytes r accepted n some there) p w
+    NamedBy (r .layout) n (trackRefIndex (sampleOf r n) p) (sampleOffset (sampleOf r n) p) m → (k : ℕ) → 0 < k →
+    ExtractorFault r n p k ↔ (copyFault (sampleOf r m) (dataOffset (sampleOf r n) p) (dataLength (sampleOf r n) p) ≡ k)
+fault-of-copy b bytes r accepted n p m some there w k s =
+    copy-fault-is r (rise b bytes r accepted) n (offset-byte b bytes r accepted n some there) p w s

@@ -1,18 +1,17 @@
 -- The proofs of what Contents says of the sample that an extractor names. Assumes nothing.
 use Prim.Native.Nat.{ℕ, suc, _≤_, _<_}
-use mathlib.Core.Path.{_≡_, refl, ap, sym, _∙_}
+use mathlib.Core.Path.{_≡_, ap, sym, _∙_}
 use mathlib.Core.Bool.{true, false}
 use mathlib.Core.List.{List}
 use mathlib.Core.Logic.{_⊎_, _↔_}
 use native.Mathlib.Omega.{arith}
 use borrow.Author.Tests.{eqb-true, eq-eqb}
-use Rattle.words.specs.Tests.{_≡?_}
 use Rattle.words.specs.Refusals.{refused, ok}
 use Rattle.words.specs.Lists.{_∈_, has}
 use Rattle.words.specs.Bytes.{Bytes}
 use Rattle.words.proofs.Tests.{by-bool, by-number, true-false}
 use Rattle.words.proofs.Refusals.{at-refused, ok-refused, ok-same, refused-along, by-answer, by-verdict}
-use Rattle.words.proofs.Lists.{keep-from, keep-mem, has-from, some-mem}
+use Rattle.words.proofs.Lists.{keep-from, keep-mem, has-from, has-mem}
 use Rattle.units.specs.Units.{type, isExtractor}
 use Rattle.units.specs.Aggregators.{units, extractors}
 use Rattle.samples.specs.Check.{check}
@@ -47,7 +46,7 @@ module _ (r : Recording) (n p : ℕ) where
       in-named f = named-extractor r n p good c e ∙ rw f
 
   listed : p ∈ extractors (own r n) → has p (extractors (own r n)) ≡ true
-  listed m = some-mem (λ q. p ≡? q) (extractors (own r n)) m (eq-eqb p p refl)
+  listed m = has-mem p (extractors (own r n)) m
 
   -- an extractor among the units
   extractor-there : p ∈ extractors (own r n) → (p ∈ units (sampleOf r n)) × (type (sampleOf r n) p ≡ 31)

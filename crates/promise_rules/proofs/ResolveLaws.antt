@@ -1,22 +1,19 @@
 -- The proofs of what Demands says of resolving. Assumes nothing.
 use Prim.Native.Nat.{ℕ, _+_, _-_, _≤_, _<_}
-use mathlib.Core.Path.{_≡_, refl, ap, sym, _∙_, subst}
-use mathlib.Core.Bool.{true, not, _&&_}
+use mathlib.Core.Path.{_≡_, refl, sym, _∙_, subst}
 use mathlib.Core.List.{List}
 use mathlib.Core.Logic.{_↔_}
 use native.Mathlib.Omega.{arith}
-use native.Mathlib.Nat.{pos-of-ne-zero}
-use borrow.Author.Tests.{ltb-true, ltb-false, le-ltb, eqb-true, eqb-false, ne-eqb, eq-eqb, leb-true, leb-false, le-leb}
+use borrow.Author.Tests.{ltb-true, ltb-false, le-ltb, eqb-true, eqb-false, eq-eqb, leb-true, leb-false, le-leb}
 use lib.ListN.{length}
 use Rattle.words.specs.Tests.{_≤?_, _<?_, _≡?_}
 use Rattle.words.specs.Refusals.{ok}
 use Rattle.words.specs.Lists.{_∈_, keep, nth}
 use Rattle.words.proofs.Tests.{by-bool, by-number}
-use Rattle.words.proofs.Lists.{keep-from, some-mem}
-use Rattle.units.specs.Units.{Sample, end, type, isAggregator, isExtractor, topUnits, border}
+use Rattle.words.proofs.Lists.{keep-from}
+use Rattle.units.specs.Units.{isExtractor}
 use Rattle.units.specs.Extractors.{trackRefIndex, sampleOffset, dataOffset, dataLength}
 use Rattle.units.specs.Aggregators.{units, extractors}
-use Rattle.samples.specs.Check.{check}
 use Rattle.bundles.specs.Recordings.{Layout, Recording, noReference, trackOf, referencesFrom, samplesIn}
 use Rattle.links.specs.Links.{linkFault, linkedTrack, base, sampleNamed, nameFault}
 use Rattle.links.specs.Order.{TimesRise, baseSample, before, upTo}

@@ -3,7 +3,7 @@ use Prim.Native.Nat.{ℕ, _+_, _≤_, _<_}
 use mathlib.Core.Path.{_≡_, refl, sym, _∙_}
 use mathlib.Core.Bool.{true, false}
 use mathlib.Core.List.{[], _∷_, List·Memᴰ·head, List·Memᴰ·tail, List·Memᴰ·not-nil, List·Memᴰ·cases-cons}
-use mathlib.Core.Logic.{inl, inr, ⊎-elim, _↔_}
+use mathlib.Core.Logic.{⊎-elim, _↔_}
 use native.Mathlib.Omega.{arith}
 use borrow.Author.Tests.{eqb-true, eqb-false, ne-eqb, eq-eqb, leb-true, le-leb}
 use Rattle.words.specs.Tests.{_≤?_, _≡?_}
@@ -11,7 +11,7 @@ use Rattle.words.specs.Refusals.{ok, first}
 use Rattle.words.specs.Lists.{_∈_}
 use Rattle.words.proofs.Tests.{by-bool, true-false}
 use Rattle.words.proofs.Refusals.{and-ok, at-ok, at-none, first-ok, first-all, by-verdict, ok-refused}
-use Rattle.words.proofs.Lists.{has-from, some-mem}
+use Rattle.words.proofs.Lists.{is-or-from, is-or-mem}
 use Rattle.numbers.specs.Kinds.{isAvc}
 use Rattle.numbers.specs.declared.Kind.{Kind}
 use Rattle.numbers.specs.declared.Kind.the-variants.{Avc, Svc}
@@ -70,12 +70,11 @@ module _ (x : Sample) where
 
   pub border-at : (q : ℕ) → border x q ≡ true → BorderAt x q
   unfolding border
-  border-at q e = by-bool (q ≡? end x) (λ t. inl (eqb-true _ _ t)) (λ t. inr (has-from q (topUnits x) (rw t at e)))
+  border-at q e = is-or-from q (end x) (topUnits x) e
 
   pub at-border : (q : ℕ) → BorderAt x q → border x q ≡ true
   unfolding border
-  at-border q (inl e) = rw (eq-eqb q (end x) e)
-  at-border q (inr m) = rw (some-mem (λ n. q ≡? n) (topUnits x) m (eq-eqb q q refl)) (by-bool (q ≡? end x) (λ t. rw t) (λ t. rw t))
+  at-border q b = is-or-mem q (end x) (topUnits x) b
 
   pub is-avc : (k : Kind) → isAvc k ≡ true → k ≡ Avc
   is-avc Avc e = refl

@@ -1,9 +1,8 @@
 -- A copy by its start, in plain facts (02, [4]). z is the sample named, o data_offset, n data_length.
 --
---   TopCopy z o n qs          none of 25, 27 and 28, and the copy is the units qs: from a top-level unit
---   IncludedCopy z p o n qs   the same, from a unit that the aggregator at p includes
---   IncludedEnds z o n e      a copy from an included unit ends at e
---   BorderIn z p e            e is a border of the units that the aggregator at p includes
+--   TopCopy z o n qs          of a top-level unit o: none of 25, 27 and 28, and the copy is the units qs
+--   IncludedCopy z p o n qs   the same of a unit o that the aggregator at p includes
+--   IncludedEnds z o n e      where a copy from an included unit ends
 use Prim.Native.Nat.{ℕ, _+_, _<_}
 use mathlib.Core.Path.{_≡_}
 use mathlib.Core.Bool.{not, _&&_}
@@ -13,7 +12,7 @@ use Rattle.words.specs.Tests.{_≤?_, _<?_, _≡?_}
 use Rattle.words.specs.Lists.{_∈_, keep}
 use Rattle.units.specs.Units.{Sample, type, next}
 use Rattle.units.specs.Aggregators.{included, units}
-use Rattle.promise_rules.specs.Samples.{BorderAt, Formed}
+use Rattle.promise_rules.specs.Samples.{BorderAt, BorderIn, Formed}
 use Rattle.promise_rules.specs.Resolving.{CopyEnds}
 
 pub record TopCopy (z : Sample) (o n : ℕ) (qs : List ℕ) : Type 0 where
@@ -28,10 +27,6 @@ pub record TopCopy (z : Sample) (o n : ℕ) (qs : List ℕ) : Type 0 where
 -- one unit, or so many bytes: additional_bytes play no part
 abbrev pub IncludedEnds : Sample → ℕ → ℕ → ℕ → Type 0
 IncludedEnds z o n e = ((n ≡ 0) × (e ≡ next z o)) ⊎ ((0 < n) × (e ≡ o + n))
-
--- one of them starts there, or the aggregator ends there
-abbrev pub BorderIn : Sample → ℕ → ℕ → Type 0
-BorderIn z p e = (e ∈ included z p) ⊎ (e ≡ next z p)
 
 pub record IncludedCopy (z : Sample) (p o n : ℕ) (qs : List ℕ) : Type 0 where
   pub formed : Formed z

@@ -1,6 +1,7 @@
 -- What the words of crates/promises/specs mean: plain facts, with document 01's numbers. The proofs stand in proofs/.
 --
 --   Records, Samples, Bundles, Resolving, Audits    a record, a sample, a bundle, a sample resolved, an audit
+--   Copies      a copy by its start: a top-level unit, or an included one
 --   Reading     with which number reading a record is refused
 --   Numbers     where the sets of a record stand; a record as numbers
 --   Units       the fields of units, and where they lie

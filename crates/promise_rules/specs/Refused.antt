@@ -34,8 +34,8 @@ pub data CheckRefused (kind l : ℕ) (s : List ℕ) : ℕ → ℕ → Type 0 whe
   size : (kind ≡ 0) ⊎ (kind ≡ 1) → (l ∈ (1 ∷ 2 ∷ 4 ∷ []) → ⊥) → CheckRefused kind l s 11 0
   form : {m p : ℕ} (x : Sample) → Given kind l s x → FormRefused x m p → CheckRefused kind l s m p
 
--- an extractor: its track_ref_index, how many references its track has, what it names, where its copy of sample k starts and ends,
--- and that these are borders of the same units
+-- an extractor: its track_ref_index, how many references its track has, what it names, where its copy of sample k starts and
+-- ends, and that these are borders of the same units
 module _ (r : Recording) (n p : ℕ) where
   abbrev refIndex : ℕ
   refIndex = trackRefIndex (sampleOf r n) p

@@ -7,7 +7,8 @@
 --   NamedBy y n index offset m    the extractor's track_ref_index and sample_offset name sample m
 --   CopyStarts z o           a copy of z may start at data_offset o
 --   CopyEnds z o n e         a copy of z from data_offset o, with data_length n, ends at e
---   CopyAmong z o e          it starts at o and ends at e on borders of the same units: top-level ones, or those of one aggregator
+--   CopyAmong z o e          it starts at o and ends at e, both borders of the same units: top-level ones, or those of one
+--                            aggregator
 --   CopyOf z o n qs          none of 25 to 28, and the copy is the units qs
 --   Extraction r n p m qs    none of 23 to 28: the extractor names sample m, and stands for its units qs
 --   GoodSample r n           none of 14 to 28
@@ -27,7 +28,7 @@ use Rattle.units.specs.Extractors.{trackRefIndex, sampleOffset, dataOffset, dat
 use Rattle.units.specs.Aggregators.{included, additionalBytes, units}
 use Rattle.bundles.specs.Recordings.{Layout, Recording, noReference, sampleCount, trackOf, timeOf, contentOf}
 use Rattle.resolution_rules.specs.Resolving.{sampleOf, Span}
-use Rattle.promise_rules.specs.Samples.{BorderAt, Formed}
+use Rattle.promise_rules.specs.Samples.{BorderAt, BorderIn, Formed}
 
 module _ (y : Layout) where
   pub record Sampled (m k : ℕ) : Type 0 where
@@ -67,8 +68,7 @@ module _ (z : Sample) (o : ℕ) where
   -- includes starts, or where p ends
   pub data CopyAmong (e : ℕ) : Type 0 where
     top : o ∈ topUnits z → BorderAt z e → CopyAmong e
-    inside :
-        (p : ℕ) → p ∈ topUnits z → type z p ≡ 30 → o ∈ included z p → (e ∈ included z p) ⊎ (e ≡ next z p) → CopyAmong e
+    inside : (p : ℕ) → p ∈ topUnits z → type z p ≡ 30 → o ∈ included z p → BorderIn z p e → CopyAmong e
 
 module _ (z : Sample) (o n : ℕ) where
   -- data_length 0: one unit, of an aggregator with what it covers; else so many bytes

@@ -3,6 +3,7 @@
 --
 --   UnitAt x e p     the unit at p is whole, in what ends at e
 --   BorderAt x q     q is the start of a top-level unit, or the end of the sample
+--   BorderIn x p q   q is the start of a unit that the aggregator at p includes, or the aggregator's end
 --   IncludedAt x e q the unit at q may be included in an aggregator that ends at e
 --   CoverAt x p      what the aggregator at p covers follows the rules
 --   ContentAt x p    so does what stands in the top-level unit at p
@@ -32,6 +33,9 @@ module _ (x : Sample) where
 
   abbrev pub BorderAt : ℕ → Type 0
   BorderAt q = (q ≡ length (x .content)) ⊎ (q ∈ topUnits x)
+
+  abbrev pub BorderIn : ℕ → ℕ → Type 0
+  BorderIn p q = (q ≡ next x p) ⊎ (q ∈ included x p)
 
   pub record IncludedAt (e q : ℕ) : Type 0 where
     pub unit : UnitAt e q

@@ -7,16 +7,14 @@
 --   next-is                     a length field that was read, and the place after the unit
 --   top-has                     a top-level unit is among the top-level units
 use Prim.Native.Nat.{ℕ, _+_, _<_}
-use mathlib.Core.Path.{_≡_, refl}
+use mathlib.Core.Path.{_≡_}
 use mathlib.Core.List.{List}
 use mathlib.Core.Bool.{true, false}
-use borrow.Author.Tests.{eq-eqb}
-use Rattle.words.specs.Tests.{_≡?_}
 use Rattle.words.specs.Refusals.{ok, refused, Verdict, _atPlace_}
 use Rattle.words.specs.Lists.{has}
 use Rattle.words.specs.Bytes.{big}
 use Rattle.words.proofs.Refusals.{and-ok, at-ok, at-none, by-verdict, first-ok, first-all}
-use Rattle.words.proofs.Lists.{some-mem}
+use Rattle.words.proofs.Lists.{has-mem}
 use Rattle.numbers.specs.Sizes.{inBytes}
 use Rattle.units.specs.Units.{Sample, sample, end, size, next, isAggregator, unitFault, topUnits}
 use Rattle.units.specs.Extractors.{extractorFault}
@@ -41,7 +39,7 @@ module _ (x : Sample) where
   whole-top w = first-all topJudge (topUnits x) (λ q m. at-none q (whole-none x (end x) q (w q m)))
 
   pub top-has : (p : ℕ) → Reached x p → p < end x → has p (topUnits x) ≡ true
-  top-has p w h = some-mem (λ m. p ≡? m) (topUnits x) (reached-mem x p w h) (eq-eqb p p refl)
+  top-has p w h = has-mem p (topUnits x) (reached-mem x p w h)
 
   -- what stands in a top-level unit
   pub content-ok : (p : ℕ) → contentVerdict x p ≡ ok tt → (insideVerdict x p ≡ ok tt) × (coverVerdict x p ≡ ok tt)

@@ -5,25 +5,25 @@
 --   places-rise, top-rise       each ends before the next starts
 --   walk, walk-none, walk-here, walk-on  the first refusal of a walk, place by place
 --   places-tile                 units that lie without gap or overlap
---   Reached, reached-start, -next, -top, -mem, -border, -between    a top-level walk that has come to p
+--   Reached, reached-start, -next, -top, -mem, -border    a top-level walk that has come to p
 --   border-past, -here, -inside    borders on the way of a walk
 --   in-unit, units-rise         a unit and what it includes lie before the next; all units rise
 --   units-top, units-included, units-from    membership in all units, both ways
 use Prim.Native.Nat.{ℕ, zero, suc, _-_, _≤_, _<_}
 use mathlib.Core.Path.{_≡_, refl, ap, sym, _∙_, subst}
 use mathlib.Core.List.{List, [], _∷_, _++_, append-assoc, List·Memᴰ, List·Memᴰ·not-nil, List·Memᴰ·append-cases, List·Memᴰ·eq-of-singleton, List·Memᴰ·cases-cons, List·Memᴰ·head, List·Memᴰ·tail, Memᴰ·append-right}
-use mathlib.Core.Logic.{⊎-elim}
-use mathlib.Core.Bool.{true, false, _||_, _&&_, false-or}
+use mathlib.Core.Logic.{inl, inr, ⊎-elim}
+use mathlib.Core.Bool.{true, false, _||_, false-or}
 use native.Mathlib.Omega.{arith}
-use borrow.Author.Tests.{le-leb, lt-leb, leb-true, leb-false, eqb-false, ne-eqb, eq-eqb}
+use borrow.Author.Tests.{le-leb, lt-leb, leb-true, leb-false, eqb-true, eqb-false, ne-eqb}
 use lib.Dec.{leb}
-use Rattle.words.specs.Tests.{_<?_, _≤?_, _≡?_}
+use Rattle.words.specs.Tests.{_≡?_}
 use Rattle.words.specs.Refusals.{ok, refused, Verdict, first}
-use Rattle.words.specs.Lists.{keep, has}
+use Rattle.words.specs.Lists.{has}
 use Rattle.words.proofs.Tests.{by-bool}
-use Rattle.words.proofs.Lists.{some-append, some-none, some-mem, keep-append, keep-nothing, each-mem, each-from, Rising, rising-each, rising-weaken}
+use Rattle.words.proofs.Lists.{some-append, some-none, is-or-mem, each-mem, each-from, Rising, rising-each, rising-weaken}
 use Rattle.numbers.proofs.Laws.{L-some}
-use Rattle.units.specs.Units.{Sample, end, next, isAggregator, placesFrom, places, topUnits, border, topBetween}
+use Rattle.units.specs.Units.{Sample, end, next, isAggregator, placesFrom, places, topUnits, border}
 use Rattle.units.specs.Aggregators.{includedStart, included, withIncluded, units}
 use Rattle.units.specs.Rules.{Whole, Tiles}
 use Rattle.units.proofs.Units.{next-after, whole-end}
@@ -133,17 +133,12 @@ module _ (x : Sample) where
   pub reached-mem : (q : ℕ) → Reached q → q < end x → List·Memᴰ q (topUnits x)
   reached-mem q w h = rw (w .split, places-step q (end x) h) (Memᴰ·append-right (w .done) (List·Memᴰ·head refl))
 
-  -- from p on, borders and units between are found without looking back
+  -- from p on, borders are found without looking back
   pub reached-border : (p : ℕ) → Reached p → (b : ℕ) → p ≤ b → border x b ≡ ((b ≡? end x) || has b (places x p (end x)))
   unfolding border
   reached-border p w b h = ap (λ t. (b ≡? end x) || t)
       (rw (w .split) (some-append (λ m. b ≡? m) (w .done) (places x p (end x))
       ∙ ap (λ t. t || has b (places x p (end x))) (some-none (λ m. b ≡? m) (w .done) (λ q m. let k = w .below q m in ne-eqb b q (omega arith))) ∙ false-or _))
-
-  pub reached-between : (p : ℕ) → Reached p → (a b : ℕ) → p ≤ a → topBetween x a b ≡ keep (λ q. (a ≤? q) && (q <? b)) (places x p (end x))
-  unfolding topBetween
-  reached-between p w a b h = rw (w .split) (keep-append _ (w .done) (places x p (end x))
-      ∙ ap (λ l. l ++ keep (λ q. (a ≤? q) && (q <? b)) (places x p (end x))) (keep-nothing _ (w .done) (λ q m. let k = w .below q m in rw (lt-leb a q (omega arith)))))
 
   -- borders on the way of a walk
   pub border-past : (b : ℕ) → end x < b → border x b ≡ false
@@ -152,9 +147,9 @@ module _ (x : Sample) where
 
   pub border-here : (q : ℕ) → Reached q → q ≤ end x → border x q ≡ true
   unfolding border
-  border-here q w h = by-bool (q ≡? end x)
-      (λ t. rw t)
-      (λ t. rw (t, some-mem (λ m. q ≡? m) (topUnits x) (reached-mem q w (let n = eqb-false q (end x) t in omega arith)) (eq-eqb q q refl)))
+  border-here q w h = is-or-mem q (end x) (topUnits x) (by-bool (q ≡? end x)
+      (λ t. inl (eqb-true q (end x) t))
+      (λ t. inr (reached-mem q w (let n = eqb-false q (end x) t in omega arith))))
 
   pub border-inside : (q b : ℕ) → Reached q → q < end x → next x q ≤ end x → q < b → b < next x q → border x b ≡ false
   border-inside q b w h g l u = reached-border q w b (omega arith) ∙ rw (ne-eqb b (end x) (omega arith), places-step q (end x) h)

@@ -4,7 +4,9 @@
 --   each-mem, each-from               membership in `each`, both ways
 --   keep-mem, keep-from, keep-cong    membership in `keep`, both ways; `keep` of equal tests
 --   keep-append, keep-nothing, some-append, some-none, some-mem    tests over joined lists, and over lists where none passes
---   has-from                          a number that is among numbers
+--   some-from                         an element that passes a test
+--   has-from, has-mem                 a number that is among numbers, both ways
+--   is-or-from, is-or-mem             a number that is one number, or among others, both ways
 --   upto-mem, upto-from               membership in `upto`, both ways
 --   nth-mem, nth-found                what stands at a number
 --   lastThat-snoc                     one element more at the end
@@ -16,7 +18,7 @@ use mathlib.Core.List.{List, [], _∷_, _++_, map, append-assoc, List·Memᴰ, L
 use mathlib.Core.Bool.{Bool, true, false, _||_, true-or, false-or}
 use mathlib.Core.Logic.{_⊎_, inl, inr, ⊎-elim}
 use native.Mathlib.Omega.{arith}
-use borrow.Author.Tests.{leb-true, leb-false, eqb-true}
+use borrow.Author.Tests.{leb-true, leb-false, eqb-true, eq-eqb}
 use lib.Dec.{leb, eqb, eqb·suc-zero}
 use lib.ListN.{length, getD}
 use Rattle.words.specs.Tests.{pick}
@@ -217,3 +219,20 @@ has-from n [] h = true-false false h refl
 has-from n (m ∷ ns) h = by-bool (eqb n m)
     (λ q. List·Memᴰ·head (eqb-true n m q))
     (λ q. List·Memᴰ·tail (has-from n ns (rw q at h)))
+
+pub has-mem : (n : ℕ) (ns : List ℕ) → List·Memᴰ n ns → has n ns ≡ true
+has-mem n ns m = some-mem (λ k. eqb n k) ns m (eq-eqb n n refl)
+
+pub is-or-from : (n m : ℕ) (ns : List ℕ) → (eqb n m || has n ns) ≡ true → (n ≡ m) ⊎ List·Memᴰ n ns
+is-or-from n m ns h = by-bool (eqb n m) (λ t. inl (eqb-true n m t)) (λ t. inr (has-from n ns (rw t at h)))
+
+pub is-or-mem : (n m : ℕ) (ns : List ℕ) → (n ≡ m) ⊎ List·Memᴰ n ns → (eqb n m || has n ns) ≡ true
+is-or-mem n m ns (inl e) = rw (eq-eqb n m e)
+is-or-mem n m ns (inr k) = rw (has-mem n ns k) (by-bool (eqb n m) (λ t. rw t) (λ t. rw t))
+
+pub some-from : {A : Type 0} (t : A → Bool) (xs : List A) → some t xs ≡ true → (x : A) × List·Memᴰ x xs × (t x ≡ true)
+unfolding some
+some-from t [] e = true-false false e refl
+some-from t (x ∷ xs) e = by-bool (t x)
+    (λ q. (x, List·Memᴰ·head refl, q))
+    (λ q. let w = some-from t xs (rw q at e) in (w .0, List·Memᴰ·tail (w .1), w .2))

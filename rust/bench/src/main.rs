@@ -5,7 +5,7 @@
 //! of the rounds counts. All answers are compared. The slice for the lines is written to before each call.
 //!
 //! The peer has two audits. Both check each sample's form once. The plain one walks a named sample from its front to
-//! find data_offset; the other keeps where all units start, on the heap, and looks data_offset up.
+//! find data_offset; the other keeps where all top-level units start, on the heap, and looks data_offset up.
 
 mod bundle;
 mod contents;

@@ -166,9 +166,9 @@ fn unit(parts: &[&[u8]], length_size: usize) -> Vec<u8> {
     [number(unit.len(), length_size), unit].concat()
 }
 
-/// Aggregators of an AVC track: one includes two units, the second of which holds bytes that look like a unit, and
-/// covers a third; one includes nothing; one includes an extractor between two units; one is another type of unit; the
-/// last includes nothing.
+/// Units of an AVC track. An aggregator that includes two units, the second of which holds bytes that look like a unit,
+/// and covers the next; that one; an aggregator that includes nothing; one that includes an extractor between two units;
+/// a unit of another type with the bytes of an aggregator; and one more that includes nothing.
 fn aggregators(length_size: usize) -> Vec<u8> {
     let unit = |parts: &[&[u8]]| unit(parts, length_size);
     let additional = |bytes: usize| number(bytes, length_size);

@@ -11,14 +11,14 @@ use Rattle.copies.proofs.border_fault.Tie as tie
 
 -- a copy may start there
 starts : (c : tie.Else1) → let a = c .before .before .before .args in copyStarts (sample (a .k) (a .z .now)) (a .from) ≡ true
-starts c = run-some _ (c .before .before .before .pre) _ _ (c .before .run-end .ensures) (c .if1 .left)
+starts c = run-some _ _ _ (c .before .run-end .ensures) (c .if1 .left)
 
 run-end-requires : tie.Need-run-end-requires
 run-end-requires c κs = search needs
 
 returns : tie.Need-returns
 unfolding borderFault
-returns c = rw (run-none _ (c .before .before .before .pre) _ _ (c .before .run-end .ensures) (c .if1 .taken))
+returns c = rw (run-none _ _ _ (c .before .run-end .ensures) (c .if1 .taken))
 
 copy-ends-requires : tie.Need-copy-ends-requires
 copy-ends-requires c κs = let k = c .before .before .before .pre in (k, starts c, c .before .run-end .ensures)

@@ -2,7 +2,7 @@
 use borrow.Author.Needs.{needs}
 use native.Mathlib.Omega.{arith}
 use mathlib.Core.Path.{sym}
-use Prim.Native.Nat.{ℕ, _+_}
+use Prim.Native.Nat.{ℕ}
 use Rattle.copies.proofs.copy_ends.Statement.{statement}
 use Rattle.units.specs.Units.{sample}
 use Rattle.copies.proofs.Copies.{end-length, end-zero, Run, run}
