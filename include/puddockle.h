@@ -106,9 +106,8 @@ enum {
     PUDDOCKLE_REFUSED_NO_SAMPLE_NAMED = 24,
     PUDDOCKLE_REFUSED_NAMED_ILL_FORMED = 25,        /* the sample named is not well formed */
     PUDDOCKLE_REFUSED_BAD_DATA_OFFSET = 26,         /* not the start of a unit, top-level or included */
-    PUDDOCKLE_REFUSED_BAD_DATA_LENGTH = 27,         /* does not end on a top-level border; from an included
-                                                       unit: where a unit of its aggregator starts, or at
-                                                       the aggregator's end */
+    PUDDOCKLE_REFUSED_BAD_DATA_LENGTH = 27,         /* does not end on a border: a top-level one or, from an
+                                                       included unit, one of its aggregator's units */
     PUDDOCKLE_REFUSED_EXTRACTOR_COPIED = 28,        /* an extractor in the copy */
 
     /* what was asked for; the place is 0 */

@@ -1060,7 +1060,7 @@ static void included_starts(void)
     copies(COVERING, sizeof COVERING, 9, 6, 27, NULL, 0, __LINE__);
     copies(COVERING, sizeof COVERING, 6, 4, 27, NULL, 0, __LINE__);
     copies(COVERING, sizeof COVERING, 0, 9, 27, NULL, 0, __LINE__);
-    /* in the aggregator's head, in an included unit, at the sample's end */
+    /* in the aggregator's head, in an included unit, in the covered one, at the sample's end, past it */
     static const uint8_t no_start[] = { 1, 4, 5, 7, 8, 10, 12, 14, 15, 255 };
     for (size_t i = 0; i < sizeof no_start; i++) {
         copies(COVERING, sizeof COVERING, no_start[i], 0, 26, NULL, 0, __LINE__);

@@ -262,10 +262,10 @@ def copied(bundle, number, unit):
     except No:
         raise No(25, place)
     offset, length = big(data, place + size + 6, size), big(data, place + size + 6 + size, size)
-    found = [row for row in rows(size, linked) if offset in [u[0] for u in row]]
-    if not found:
+    around = [row for row in rows(size, linked) if offset in [u[0] for u in row]]
+    if not around:
         raise No(26, place)
-    units = [u for u in found[0] if offset <= u[0]]
+    units = [u for u in around[0] if offset <= u[0]]
     end = offset + length
     if length == 0:
         end = covered(size, linked, units[0]) if units[0][2] == 30 else units[0][1]

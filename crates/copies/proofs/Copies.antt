@@ -7,13 +7,13 @@
 --   run-none, run-some          whether a unit starts at data_offset
 --   top-ends                    a top-level unit ends in the sample
 --   end-zero                    what data_length 0 takes ends on a border
---   border-none                 a copy without 26 and 27 starts at a unit and ends on a border of those that it stands among
---   copy-whole, copy-cut, copy-most    its first unit, and what lies between its borders
+--   border-none                 a copy without 26 and 27 starts and ends where it may; of such a copy:
+--   copy-whole, copy-cut, copy-most    its first unit is whole, it lies between two borders of units, and in the sample
 --   copied-flat                 its units are those of one walk over it, aggregators dropped
 use Prim.Native.Nat.{ℕ, _+_, _≤_, _<_}
 use mathlib.Core.Path.{_≡_, refl, ap, sym, _∙_, subst}
 use mathlib.Core.List.{List·Memᴰ}
-use mathlib.Core.Logic.{inl, inr, ⊎-elim}
+use mathlib.Core.Logic.{_⊎_, inl, inr, ⊎-elim}
 use mathlib.Core.Bool.{true, false, not, _||_, _&&_}
 use native.Mathlib.Omega.{arith}
 use borrow.Author.Tests.{eq-eqb, ne-eqb, eqb-true, eqb-false, not-false}
@@ -22,7 +22,7 @@ use Rattle.words.specs.Refusals.{ok}
 use Rattle.words.specs.Lists.{has}
 use Rattle.words.proofs.Tests.{by-bool, true-false}
 use Rattle.words.proofs.Refusals.{if-none, orElse-none}
-use Rattle.words.proofs.Lists.{some-none, has-from, has-mem, is-or-from}
+use Rattle.words.proofs.Lists.{some-none, has-from, has-mem, is-or-from, is-or-mem}
 use Rattle.words.proofs.Kept.{keep-keep}
 use Rattle.units.specs.Units.{Sample, end, next, isAggregator, places, topUnits, border}
 use Rattle.units.specs.Aggregators.{includedStart, included, coverEnd, units}
@@ -117,8 +117,8 @@ module _ (z : Sample) (k : check z ≡ ok tt) (o : ℕ) where
     ends = λ n. ends-included z o n p m t j;
   }
     where
-      after : (q : ℕ) → ((q ≡? end z) || has q (places z 0 (end z))) ≡ true → UnitBorder z q
-      after q h = ⊎-elim (λ e. inl e) (λ i. inr (units-top z q i)) (is-or-from q (end z) (topUnits z) (unfold topUnits in h))
+      after : (q : ℕ) → (q ≡ end z) ⊎ List·Memᴰ q (topUnits z) → UnitBorder z q
+      after q h = ⊎-elim (λ e. inl e) (λ i. inr (units-top z q i)) h
 
   pub run : (e : ℕ) → RunEnd z o e → copyStarts z o ≡ true → (a : ℕ) × Run z a e o
   run e (RunEnd.none h) s = true-false _ s h
@@ -147,7 +147,7 @@ module _ (z : Sample) (k : check z ≡ ok tt) (o : ℕ) where
       (λ p m t j. next-border (includedStart z p) (next z p) (run-included p m t j) (included-inside z k p m t o j .2))
     where
       next-border : (a e : ℕ) → Run z a e o → isAggregator z o ≡ false → copyEnds z o n ≡ true
-      next-border a e w t = w .ends n ∙ rw (end-unit z o n i t) (places-next z a e o (w .here) (w .member o (w .here) .1))
+      next-border a e w t = w .ends n ∙ rw (end-unit z o n i t) (is-or-mem (next z o) e (places z a e) (places-next z a e o (w .here) (w .member o (w .here) .1)))
 
 module _ (z : Sample) (o n : ℕ) where
   pub border-none : borderFault z o n ≡ 0 → (copyStarts z o ≡ true) × (copyEnds z o n ≡ true)

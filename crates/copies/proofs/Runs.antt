@@ -1,32 +1,31 @@
 -- Units that stand one after another: the top-level units of a sample, or those that one aggregator includes. Assumes nothing.
 --
 --   places-sooner, places-later   the places up to an earlier end, and from a later unit on, are among them
---   places-next                   the next place is one of them, or their end
+--   places-next                   the next place is their end, or one of them
 --   run-has                       inside a unit no other starts
---   Nearing, nearing-start, -next, -inside, -around    a walk from a, come to q, that looks for the unit that t lies in
+--   walk-start, walk-next         a walk from a up to the unit that t lies in
 --   holder-one, in-holder         a place lies in one top-level unit; an included unit in its aggregator
 --   top-apart, aggregator-one     an included unit is no top-level one, and one aggregator includes it
 --   includes-one                  a test of the one aggregator that includes a unit
 use Prim.Native.Nat.{ℕ, zero, suc, _+_, _-_, _≤_, _<_}
 use mathlib.Core.Path.{_≡_, refl, sym, _∙_}
 use mathlib.Core.List.{List·Memᴰ, List·Memᴰ·not-nil, List·Memᴰ·cases-cons, List·Memᴰ·head, List·Memᴰ·tail}
-use mathlib.Core.Logic.{inl, inr, ⊎-elim}
-use mathlib.Core.Bool.{Bool, true, _||_, _&&_}
+use mathlib.Core.Logic.{_⊎_, inl, inr, ⊎-elim}
+use mathlib.Core.Bool.{Bool, true, _&&_}
 use native.Mathlib.Omega.{arith}
 use borrow.Author.Tests.{leb-true, leb-false, ne-eqb, eqb-true, eqb-false}
 use lib.Dec.{leb}
 use Rattle.words.specs.Tests.{_≡?_}
 use Rattle.words.specs.Lists.{some, has}
 use Rattle.words.proofs.Tests.{by-bool}
-use Rattle.words.proofs.Lists.{some-none, some-mem, has-from, has-mem, is-or-mem}
+use Rattle.words.proofs.Lists.{some-none, some-mem, has-from, has-mem}
 use Rattle.words.proofs.Kept.{rising-apart}
 use Rattle.numbers.proofs.Laws.{L-some}
-use Rattle.units.specs.Units.{Sample, end, next, isAggregator, places, topUnits}
+use Rattle.units.specs.Units.{Sample, next, isAggregator, places, topUnits}
 use Rattle.units.specs.Aggregators.{includedStart, included}
 use Rattle.units.proofs.Units.{next-after}
 use Rattle.units.proofs.Walks.{places-end, places-step, in-places, places-rise, top-rise, Before}
 use Rattle.copies.specs.Copies.{includes}
-use Rattle.copies.specs.Runs.{InSample, Around}
 
 module _ (x : Sample) where
   sooner : (k a t e q : ℕ) → t + 1 - a ≤ k → t < e → List·Memᴰ q (places x a (t + 1)) → List·Memᴰ q (places x a e)
@@ -53,12 +52,12 @@ module _ (x : Sample) where
   pub places-later : (p e a q : ℕ) → List·Memᴰ a (places x p e) → List·Memᴰ q (places x a e) → List·Memᴰ q (places x p e)
   places-later p e a q m j = later (e - p) p e a q (omega arith) m j
 
-  pub places-next : (a e q : ℕ) → List·Memᴰ q (places x a e) → next x q ≤ e → ((next x q ≡? e) || has (next x q) (places x a e)) ≡ true
-  places-next a e q m h = is-or-mem (next x q) e (places x a e) (by-bool (next x q ≡? e)
+  pub places-next : (a e q : ℕ) → List·Memᴰ q (places x a e) → next x q ≤ e → (next x q ≡ e) ⊎ List·Memᴰ (next x q) (places x a e)
+  places-next a e q m h = by-bool (next x q ≡? e)
       (λ t. inl (eqb-true _ _ t))
       (λ t. let n = eqb-false (next x q) e t in
       let i = in-places x a e q m in
-      inr (places-later a e q (next x q) m (rw (places-step x q e (i .1), places-step x (next x q) e (omega arith)) (List·Memᴰ·tail (List·Memᴰ·head refl))))))
+      inr (places-later a e q (next x q) m (rw (places-step x q e (i .1), places-step x (next x q) e (omega arith)) (List·Memᴰ·tail (List·Memᴰ·head refl)))))
 
   pub run-has : (a e q t : ℕ) → List·Memᴰ q (places x a e) → q ≤ t → t < next x q → has t (places x a e) ≡ (q ≡? t)
   run-has a e q t m l h = by-bool (q ≡? t)
@@ -68,29 +67,12 @@ module _ (x : Sample) where
       (λ s. ⊎-elim (λ b. absurd (omega arith)) (λ b. let n = next-after x j in absurd (omega arith)) s)
       (rising-apart (Before x) (places x a e) (places-rise x a e) q j m k))) ∙ sym u)
 
-  -- A walk from a toward t, come to q.
-  pub record Nearing (a t q : ℕ) : Type 0 where
-    pub here : List·Memᴰ q (places x a (t + 1))
-    pub rest : (r : ℕ) → List·Memᴰ r (places x q (t + 1)) → List·Memᴰ r (places x a (t + 1))
+  -- a walk from a up to the unit that t lies in
+  pub walk-start : (a t : ℕ) → a ≤ t → List·Memᴰ a (places x a (t + 1))
+  walk-start a t l = rw (places-step x a (t + 1) (omega arith)) (List·Memᴰ·head refl)
 
-  pub nearing-start : (a t : ℕ) → a ≤ t → Nearing a t a
-  nearing-start a t l = record { here = rw (places-step x a (t + 1) (omega arith)) (List·Memᴰ·head refl); rest = λ r m. m }
-
-  module _ (a t q : ℕ) (w : Nearing a t q) where
-    pub nearing-inside : InSample x a t → next x q ≤ end x
-    nearing-inside s = s .inside q (w .here)
-
-    pub nearing-next : next x q ≤ t → Nearing a t (next x q)
-    nearing-next h =
-        let i = in-places x a (t + 1) q (w .here) in
-        let s = places-step x q (t + 1) (i .1) in
-        record {
-          here = w .rest (next x q) (rw (s, places-step x (next x q) (t + 1) (omega arith)) (List·Memᴰ·tail (List·Memᴰ·head refl)));
-          rest = λ r m. w .rest r (rw s (List·Memᴰ·tail m));
-        }
-
-    pub nearing-around : t < next x q → Around x a t q
-    nearing-around h = record { unit = w .here; ends = h }
+  pub walk-next : (a t q : ℕ) → List·Memᴰ q (places x a (t + 1)) → next x q ≤ t → List·Memᴰ (next x q) (places x a (t + 1))
+  walk-next a t q m h = ⊎-elim (λ e. absurd (omega arith)) (λ k. k) (places-next a (t + 1) q m (omega arith))
 
   -- top-level units do not overlap
   pub holder-one : (p r t : ℕ) → List·Memᴰ p (topUnits x) → List·Memᴰ r (topUnits x) → p ≤ t → t < next x p → r ≤ t → t < next x r → p ≡ r

@@ -1,6 +1,6 @@
 -- What code finds of a copy's start and end by walks. Assumes nothing.
 --
---   start-past                a start past the end of the sample is none
+--   start-past                a start at the end of the sample, or past it, is none
 --   Held, held, held-walk     the top-level unit that data_offset lies in
 --   held-here                 it starts there
 --   held-other, held-head     it is no aggregator; data_offset lies before the units that it includes

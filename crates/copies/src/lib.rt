@@ -34,7 +34,7 @@ fn next_at(k: Track, z: &[u8], at: usize) -> usize
     at + l.bytes() + l.number(z, at)
 }
 
-// What `run_end` gives where no unit starts. No run of units ends there.
+// What `run_end` gives where no unit starts: no run that has a unit ends there.
 const NO_UNIT: usize = 0;
 
 // Where the unit starts that a place lies in. The walk goes over units, from one that does not start after the place.
@@ -172,8 +172,8 @@ fn formed_fault(k: Track, z: &[u8], from: usize, length: usize) -> u8
 }
 
 // The refusal number of a copy by data_offset and data_length, 25 to 28; 0 for none.
-// The sample is checked once. Then one walk goes over its top-level units up to data_offset; if that lies inside an aggregator, on over what
-// it includes; and on to the end of the copy, if data_length tells it. The units copied are gone over once more.
+// The sample is checked once. The start is found among the top-level units and, inside an aggregator, among those that this one includes; the
+// end from the start on; and then the units copied are gone over. None of these goes over a unit twice.
 fn copy_fault(k: Track, z: &[u8], offset: ByteOffset, length: usize) -> u8
     ensures { λ r. ⌜ r ≡ copyFault (sample k (now (z .entry))) (offset .0) length ⌝ }
 {

@@ -29,8 +29,8 @@ fn range_formed(k: Track, z: &[u8], from: usize, length: usize) -> CopyRange
 }
 
 // A copy of a sample by data_offset and data_length: 25 to 27, or where it ends.
-// The sample is checked once. Then one walk goes over its top-level units up to data_offset; if that lies inside an aggregator, on over what
-// it includes; and on to the end of the copy, if data_length tells it.
+// The sample is checked once. The start is found among the top-level units and, inside an aggregator, among those that this one includes; the
+// end from the start on. Neither goes over a unit twice.
 pub fn range_of(k: Track, z: &[u8], offset: ByteOffset, length: usize) -> CopyRange
     ensures { λ r. ⌜ r ≡ rangeOf (sample k (now (z .entry))) (offset .0) length ⌝ }
 {

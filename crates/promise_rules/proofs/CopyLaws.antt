@@ -26,7 +26,7 @@ use Rattle.units.specs.Aggregators.{included, units}
 use Rattle.units.proofs.Walks.{units-top, units-included, units-from}
 use Rattle.samples.specs.Check.{check}
 use Rattle.copies.specs.Copies.{withoutAggregators, copyStarts, copyEnd, copyEnds, copied, borderFault, copyFault}
-use Rattle.copies.proofs.Copied.{copy-rules, rules-copy, copied-exact}
+use Rattle.copies.proofs.Copied.{copy-rules, rules-copy, copied-exact, copied-unit}
 use Rattle.copies.proofs.Copies.{starts-unit, unit-starts, ends-top, ends-included}
 use Rattle.promise_rules.proofs.SampleLaws.{formed-rules, rules-formed, border-at, at-border}
 use Rattle.promise_rules.specs.Samples.{Formed}
@@ -75,7 +75,7 @@ module _ (z : Sample) (o n : ℕ) where
   copied-inside q m =
       let i = keep-from (λ j. (o ≤? j) && (j <? copyEnd z o n)) (withoutAggregators z (units z)) (rw (copied-exact z o n) at m) in
       let a = and-both (o ≤? q) (q <? copyEnd z o n) (i .1) in
-      (keep-from (λ j. not (isAggregator z j)) (units z) (i .0) .0, leb-true _ _ (a .0), ltb-true _ _ (a .1))
+      (copied-unit z o n q m .0, leb-true _ _ (a .0), ltb-true _ _ (a .1))
 
   pub inside-copied : (q : ℕ) → q ∈ units z → (type z q ≡ 30 → ⊥) → o ≤ q → q < copyEnd z o n → q ∈ copied z o n
   inside-copied q m t a b = rw (copied-exact z o n) (keep-mem (λ j. (o ≤? j) && (j <? copyEnd z o n)) (withoutAggregators z (units z))

@@ -6,22 +6,23 @@ use mathlib.Core.List.{List, [], _∷_, List·Memᴰ·head, List·Memᴰ·eq-of-
 use mathlib.Core.Logic.{_⊎_, inl, inr, ⊎-elim, _↔_}
 use native.Mathlib.Omega.{arith}
 use native.Mathlib.Nat.{pos-of-ne-zero}
-use borrow.Author.Tests.{leb-true, le-leb, lt-ltb, ltb-true, eqb-true, eqb-false, eq-eqb}
+use borrow.Author.Tests.{eqb-true, eqb-false, eq-eqb}
 use Rattle.words.specs.Tests.{_≤?_, _<?_, _≡?_}
 use Rattle.words.specs.Refusals.{ok}
 use Rattle.words.specs.Bytes.{Bytes}
 use Rattle.words.specs.Lists.{_∈_, keep, some}
-use Rattle.words.proofs.Tests.{by-bool, and-both}
-use Rattle.words.proofs.Lists.{keep-mem, keep-from}
+use Rattle.words.proofs.Tests.{by-bool}
+use Rattle.words.proofs.Lists.{keep-from}
 use Rattle.units.specs.Units.{Sample, end, type, next, isAggregator, topUnits}
 use Rattle.units.specs.Extractors.{trackRefIndex, sampleOffset, dataOffset, dataLength}
 use Rattle.units.specs.Aggregators.{included, units}
+use Rattle.units.proofs.Walks.{units-included}
 use Rattle.samples.specs.Check.{check}
 use Rattle.bundles.specs.Recordings.{Recording, sampleCount}
 use Rattle.bundles.specs.Readers.{firstLayout}
 use Rattle.copies.specs.Copies.{withoutAggregators, copyEnd, copied, copyFault}
 use Rattle.copies.proofs.Runs.{in-holder, top-apart, aggregator-one}
-use Rattle.copies.proofs.Copies.{end-length, end-unit, end-zero}
+use Rattle.copies.proofs.Copies.{top-ends, end-length, end-unit, end-zero}
 use Rattle.copies.proofs.Copied.{copied-exact}
 use Rattle.copies.proofs.Included.{included-unit, included-part, included-one}
 use Rattle.resolution_rules.specs.Resolving.{sampleOf}
@@ -32,14 +33,11 @@ use Rattle.promise_rules.specs.Refused.{ExtractorFault}
 use Rattle.promise_rules.proofs.SampleLaws.{formed-rules, rules-formed}
 use Rattle.promise_rules.proofs.CallLaws.{rise, offset-byte}
 use Rattle.promise_rules.proofs.FaultLaws.{copy-fault-is}
-use Rattle.promise_rules.proofs.CopyLaws.{of-starts, copy-ends, ends-copy, among-of, copy-of, of-copy, by-copy, fault-26, fault-27, fault-28}
+use Rattle.promise_rules.proofs.CopyLaws.{of-starts, copy-ends, ends-copy, among-of, copied-inside, inside-copied, copy-of, of-copy, by-copy, fault-26, fault-27, fault-28}
 
 module _ (z : Sample) (p o : ℕ) (m : p ∈ topUnits z) (j : o ∈ included z p) where
   pub starts-apart : (o ∈ topUnits z → ⊥) × ((a : ℕ) → a ∈ topUnits z → o ∈ included z a → a ≡ p)
   starts-apart = (top-apart z p o m j, λ a k i. aggregator-one z a p o k m i j)
-
-top-end : (z : Sample) → Formed z → (p : ℕ) → p ∈ topUnits z → next z p ≤ end z
-top-end z f p m = f .tops p m .inside
 
 -- a copy, by what the code decides
 module _ (z : Sample) (o n : ℕ) where
@@ -82,7 +80,7 @@ module _ (z : Sample) (o n : ℕ) where
             (λ t. let e : n ≡ 0 = eqb-true _ _ t in let i : o + n ≡ o = omega arith in absurd (top-apart z p o k (rw i at j) m))
             (λ t. pos-of-ne-zero (eqb-false _ _ t)),
         λ b. ⊎-elim
-            (λ e. let i = in-holder z p (o + n) j in let l = top-end z f p k in absurd (omega arith))
+            (λ e. let i = in-holder z p (o + n) j in let l = top-ends z (rules-formed z f) p k in absurd (omega arith))
             (λ u. top-apart z p (o + n) k j u)
             b,
       )
@@ -180,13 +178,14 @@ module _ (z : Sample) (p o : ℕ) (m : p ∈ topUnits z) (t : type z p ≡ 30) (
           let b = among-in (copyEnd z o n) a in
           let w = fault-28 z o n f a .0 e in
           let i = keep-from (λ q. (o ≤? q) && (q <? copyEnd z o n)) (included z p) (rw (copied-exact z o n, part k n (copyEnd z o n) b) at (w .1)) in
-          let l = and-both (o ≤? w .0) (w .0 <? copyEnd z o n) (i .1) in
-          (copyEnd z o n, w .0, ends-in k n (copyEnd z o n) (copy-ends z o n), b, i .0, leb-true _ _ (l .0), ltb-true _ _ (l .1), w .2),
+          let l = copied-inside z o n (w .0) (w .1) in
+          (copyEnd z o n, w .0, ends-in k n (copyEnd z o n) (copy-ends z o n), b, i .0, l .1, l .2, w .2),
       λ w.
           let e : copyEnd z o n ≡ w .0 = ends-copy z o n (w .0) (in-ends k n (w .0) (w .2)) in
           let b : BorderIn z p (copyEnd z o n) = subst (BorderIn z p) (sym e) (w .3) in
-          let i = keep-mem (λ q. (o ≤? q) && (q <? copyEnd z o n)) (included z p) (w .4) (rw (e, le-leb o (w .1) (w .5), lt-ltb (w .1) (w .0) (w .6))) in
-          fault-28 z o n f (CopyAmong.inside p m t j b) .1 (w .1, rw (copied-exact z o n, part k n (copyEnd z o n) b) i, w .7),
+          let i = units-included z p (w .1) m aggregator (w .4) in
+          let l = inside-copied z o n (w .1) i (λ c. let v = w .7 in absurd (omega arith)) (w .5) (rw e (w .6)) in
+          fault-28 z o n f (CopyAmong.inside p m t j b) .1 (w .1, l, w .7),
     )
       where
         k : check z ≡ ok tt

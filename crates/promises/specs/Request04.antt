@@ -1,5 +1,5 @@
--- Request [4] of document 02, 'Extracting from inside an aggregator', in its order and nearly in its words, as theorems in plain
--- facts. The proofs stand in crates/promise_rules/proofs: IncludedLaws, CopyLaws. Assumes nothing.
+-- Request [4] of document 02, 'Extracting from inside an aggregator', nearly in its words, as theorems in plain facts. The proofs
+-- stand in crates/promise_rules/proofs: IncludedLaws, CopyLaws. Assumes nothing.
 --
 --   copyFault z o n, copied z o n   25 to 28, 0 for none, and the units of a copy of the sample z from data_offset o with
 --                                   data_length n: the one definition that the code follows (crates/copies/specs/Copies)
@@ -10,7 +10,8 @@
 --   IncludedEnds, BorderIn    where a copy from an included unit ends, and where it may (the same, Copies and Samples)
 --
 -- Which sample an extractor names does not change: Demands stays by text, all of it. `good-exactly`, `resolved-exactly` and
--- `resolve-refused` there say by `Extraction` and `ExtractorFault`, that is by `CopyOf` and its parts, what a sample delivers.
+-- `resolve-refused` there say by `Extraction` and `ExtractorFault`, that is by `CopyOf` and its parts, what a sample delivers and
+-- with which number it is refused.
 use Prim.Native.Nat.{ℕ, _+_, _≤_, _<_}
 use mathlib.Core.Path.{_≡_, refl}
 use mathlib.Core.List.{List, [], _∷_}

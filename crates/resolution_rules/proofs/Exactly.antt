@@ -1,14 +1,14 @@
 -- What a good sample delivers. Assumes nothing.
 --
---   copied-spans          what a good extractor stands for, in plain facts
---   delivers              the units of a good sample deliver what is delivered
+--   copied-spans          what an extractor stands for, in plain facts
+--   delivers              the units of a sample deliver what is delivered
 --   delivers-only         and nothing else
 --   plain-unit            a unit of a well-formed sample that is neither an aggregator nor an extractor, as it is delivered
 --   delivered-plain       every delivered unit is such a unit
 --   delivered-there       of a sample that there is
 use Prim.Native.Nat.{ℕ, _+_, _%_, _≤_, _<_}
 use mathlib.Core.Path.{_≡_, refl, ap, sym, _∙_}
-use mathlib.Core.List.{List, [], _∷_, _++_, List·Memᴰ, List·Memᴰ·head, List·Memᴰ·tail, List·Memᴰ·not-nil, List·Memᴰ·eq-of-singleton, Memᴰ·of-map}
+use mathlib.Core.List.{List, [], _∷_, _++_, List·Memᴰ, List·Memᴰ·not-nil, List·Memᴰ·eq-of-singleton, Memᴰ·of-map}
 use mathlib.Core.Bool.{true, false}
 use native.Mathlib.Omega.{arith}
 use native.Mathlib.Nat.{add-zero}
@@ -36,28 +36,28 @@ use Rattle.resolution_rules.proofs.Delivered.{extractor-only, delivered
 use Rattle.resolution_rules.proofs.Good.{own-length}
 
 module _ (r : Recording) (n : ℕ) where
-  pub copied-spans : (p : ℕ) → Extracts r n p → copiedAt r n p ≡ copySpans r n p
+  pub copied-spans : (p : ℕ) → copiedAt r n p ≡ copySpans r n p
   unfolding copiedAt
-  copied-spans p x = ap (spansOf (named r n p) (linked r n p)) (copied-exact (linked r n p) (dataOffset (own r n) p) (dataLength (own r n) p))
+  copied-spans p = ap (spansOf (named r n p) (linked r n p)) (copied-exact (linked r n p) (dataOffset (own r n) p) (dataLength (own r n) p))
 
   pub extractor-mem : (p : ℕ) → List·Memᴰ p (units (own r n)) → isExtractor (own r n) p ≡ true → List·Memᴰ p (extractors (own r n))
   unfolding extractors
   extractor-mem p m e = keep-mem (isExtractor (own r n)) (units (own r n)) m e
 
-  over : (ps : List ℕ) → ((p : ℕ) → List·Memᴰ p ps → isExtractor (own r n) p ≡ true → Extracts r n p) → Delivers r n ps (each (deliveredAt r n) ps)
+  over : (ps : List ℕ) → Delivers r n ps (each (deliveredAt r n) ps)
   unfolding each
-  over [] g = Delivers.none
-  over (p ∷ ps) g =
-      let below = over ps (λ q m. g q (List·Memᴰ·tail m)) in
+  over [] = Delivers.none
+  over (p ∷ ps) =
+      let below = over ps in
       by-bool (isAggregator (own r n) p)
       (λ a. rw (delivered-aggregator r n p a) (Delivers.aggregator a below))
       (λ a. by-bool (isExtractor (own r n) p)
-      (λ e. rw (delivered-extractor r n p e, copied-spans p (g p (List·Memᴰ·head refl) e)) (Delivers.extractor e below))
+      (λ e. rw (delivered-extractor r n p e, copied-spans p) (Delivers.extractor e below))
       (λ e. rw (delivered-unit r n p a e) (Delivers.unit a e below)))
 
-  pub delivers : Good r n → Delivers r n (units (own r n)) (delivered r n)
+  pub delivers : Delivers r n (units (own r n)) (delivered r n)
   unfolding delivered
-  delivers g = over (units (own r n)) (λ p m e. g .extracts p (extractor-mem p m e))
+  delivers = over (units (own r n))
 
   -- the spans are determined by the places
   spansAt : ℕ → List Span

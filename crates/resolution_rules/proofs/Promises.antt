@@ -79,7 +79,7 @@ module _ (r : Recording) (n : ℕ) where
 
   module _ (good : judged r n ≡ ok tt) where
     pub delivers-exactly : Delivers r n (units (own r n)) (delivered r n) × ((us : List Span) → Delivers r n (units (own r n)) us → us ≡ delivered r n)
-    delivers-exactly = let d = delivers r n (good-rules r n good) in (d, λ us e. delivers-only r n e d)
+    delivers-exactly = let d = delivers r n in (d, λ us e. delivers-only r n e d)
 
     pub plain-units : (u : Span) → List·Memᴰ u (delivered r n) → Plain r u
     plain-units = delivered-plain r n (good-rules r n good)

@@ -62,7 +62,7 @@ const AT_THE_BENCH: [(&str, &str); 34] = [
     ("A detail picture borrows from a sample that is not there", "The bench track may begin later, or be cut: export both tracks over the same time"),
     ("A detail picture borrows from a damaged sample", "The fault is in that sample: mend it first. puddockle names on it lists all that hang on it"),
     ("It borrows from a place where no unit starts", "The bench sample may have been changed after the extractor was written: export both tracks together"),
-    ("It borrows a part that does not end with a unit, or that goes on past the aggregator it starts in", "The bench sample may have been changed after the extractor was written: export both tracks together"),
+    ("It borrows a part that does not end with a top-level unit or, where it starts inside an aggregator, with a unit of that aggregator", "The bench sample may have been changed after the extractor was written: export both tracks together"),
     ("It borrows what is itself borrowed", "Chains are not followed: export with extractors that point to the pictures themselves"),
     ("The caller's buffer is too small", "Nothing is wrong with the recording: lend a larger buffer"),
     ("There is no sample, unit, track or reference of that number, or no extractor at that place", "Ask for a number from 1 to the count"),

@@ -188,7 +188,7 @@ fn aggregators(length_size: usize) -> Vec<u8> {
 }
 
 /// B0 with this length size and aggregators in its first sample. The second is an extractor, with every data_offset in
-/// the first or just past it, and every data_length up to there or, in so many bytes, back to its front.
+/// the first or just past it, and every data_length up to there; and the greatest of L bytes, whose sum may wrap.
 pub fn with_every_start(length_size: usize) -> Vec<Vec<u8>> {
     let first = aggregators(length_size);
     let (most, limit) = (first.len() + 1, 1 << (8 * length_size));

@@ -62,7 +62,7 @@ fn span(sample: &[u8], size: LengthSize, last_border: usize, extractor: &Extract
     if extractor.data_length == 0 {
         let first = unit_at(sample, size, start);
         let end = match first.unit_type(sample) {
-            // An included unit is none.
+            // No included unit is an aggregator.
             AGGREGATOR => covered_end(sample, size, first),
             _ => first.end,
         };
