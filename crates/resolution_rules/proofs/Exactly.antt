@@ -1,6 +1,5 @@
 -- What a good sample delivers. Assumes nothing.
 --
---   copied-spans          what an extractor stands for, in plain facts
 --   delivers              the units of a sample deliver what is delivered
 --   delivers-only         and nothing else
 --   plain-unit            a unit of a well-formed sample that is neither an aggregator nor an extractor, as it is delivered
@@ -27,19 +26,15 @@ use Rattle.samples.proofs.Laws.{unit-whole, unit-inside}
 use Rattle.bundles.specs.Recordings.{Recording, sampleCount, contentOf}
 use Rattle.links.proofs.Links.{in-track}
 use Rattle.copies.specs.Copies.{copied}
-use Rattle.copies.proofs.Copied.{copied-exact, copied-unit}
-use Rattle.resolution_rules.specs.Resolving.{sampleOf, Span, spanOf, spansOf, own, named, linked, copiedAt, deliveredAt, delivered}
+use Rattle.copies.proofs.Copied.{copied-unit}
+use Rattle.resolution_rules.specs.Resolving.{sampleOf, Span, spanOf, own, named, linked, copiedAt, deliveredAt, delivered}
 use Rattle.resolution_rules.specs.Calls.{spanBytes}
-use Rattle.resolution_rules.specs.Rules.{Extracts, Good, copySpans, Delivers, Plain}
+use Rattle.resolution_rules.specs.Rules.{Extracts, Good, Delivers, Plain}
 use Rattle.words.proofs.Joined.{part-byte}
 use Rattle.resolution_rules.proofs.Delivered.{extractor-only, delivered-unit, delivered-aggregator, delivered-extractor}
 use Rattle.resolution_rules.proofs.Good.{own-length}
 
 module _ (r : Recording) (n : ℕ) where
-  pub copied-spans : (p : ℕ) → copiedAt r n p ≡ copySpans r n p
-  unfolding copiedAt
-  copied-spans p = ap (spansOf (named r n p) (linked r n p)) (copied-exact (linked r n p) (dataOffset (own r n) p) (dataLength (own r n) p))
-
   pub extractor-mem : (p : ℕ) → List·Memᴰ p (units (own r n)) → isExtractor (own r n) p ≡ true → List·Memᴰ p (extractors (own r n))
   unfolding extractors
   extractor-mem p m e = keep-mem (isExtractor (own r n)) (units (own r n)) m e
@@ -52,7 +47,7 @@ module _ (r : Recording) (n : ℕ) where
       by-bool (isAggregator (own r n) p)
       (λ a. rw (delivered-aggregator r n p a) (Delivers.aggregator a below))
       (λ a. by-bool (isExtractor (own r n) p)
-      (λ e. rw (delivered-extractor r n p e, copied-spans p) (Delivers.extractor e below))
+      (λ e. rw (delivered-extractor r n p e) (Delivers.extractor e below))
       (λ e. rw (delivered-unit r n p a e) (Delivers.unit a e below)))
 
   pub delivers : Delivers r n (units (own r n)) (delivered r n)
@@ -61,14 +56,14 @@ module _ (r : Recording) (n : ℕ) where
 
   -- the spans are determined by the places
   spansAt : ℕ → List Span
-  spansAt p = pick (isAggregator (own r n) p) [] (pick (isExtractor (own r n) p) (copySpans r n p) (spanOf n (own r n) p ∷ []))
+  spansAt p = pick (isAggregator (own r n) p) [] (pick (isExtractor (own r n) p) (copiedAt r n p) (spanOf n (own r n) p ∷ []))
 
   determined : {ps : List ℕ} {us : List Span} → Delivers r n ps us → us ≡ each spansAt ps
   unfolding each spansAt
   determined Delivers.none = refl
   determined (Delivers.unit {p} a e d) = rw (a, e) (ap (λ l. spanOf n (own r n) p ∷ l) (determined d))
   determined (Delivers.aggregator a d) = rw a (determined d)
-  determined (Delivers.extractor {p} e d) = rw (extractor-only (own r n) p e, e) (ap (λ l. copySpans r n p ++ l) (determined d))
+  determined (Delivers.extractor {p} e d) = rw (extractor-only (own r n) p e, e) (ap (λ l. copiedAt r n p ++ l) (determined d))
 
   pub delivers-only : {ps : List ℕ} {us vs : List Span} → Delivers r n ps us → Delivers r n ps vs → us ≡ vs
   delivers-only d e = determined d ∙ sym (determined e)

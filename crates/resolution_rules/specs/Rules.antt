@@ -2,7 +2,6 @@
 --
 --   Extracts r n p       none of 23 to 28 holds of the extractor at p
 --   Good r n             sample n is good
---   copySpans r n p      what a good extractor stands for: the units of the sample named that lie in the copy, but aggregators
 --   Delivers r n ps us   the units at places ps deliver us, in order
 --   Plain r u            u is a unit of its sample, and neither an aggregator nor an extractor
 --   Apart r n            no extractor of sample n names sample n itself
@@ -18,7 +17,7 @@ use mathlib.Core.List.{List, [], _∷_, _++_}
 use mathlib.Core.Bool.{true, false, _&&_}
 use mathlib.Core.Logic.{_⊎_}
 use lib.ListN.{length}
-use Rattle.words.specs.Tests.{_≤?_, _<?_, _≡?_}
+use Rattle.words.specs.Tests.{_≡?_}
 use Rattle.words.specs.Refusals.{refused, ok}
 use Rattle.words.specs.RefusalNumbers.{sampleRefusals, outputTooLong, noSuchNumber}
 use Rattle.words.specs.Lists.{keep, _∈_}
@@ -31,9 +30,8 @@ use Rattle.samples.specs.Check.{check}
 use Rattle.bundles.specs.Recordings.{Recording, sampleCount, trackOf, referencesFrom, samplesIn, contentOf}
 use Rattle.bundles.specs.Readers.{Reader}
 use Rattle.links.specs.Links.{linkedTrack}
-use Rattle.copies.specs.Copies.{withoutAggregators, copyEnd}
 use Rattle.copies.specs.Rules.{CopyRules}
-use Rattle.resolution_rules.specs.Resolving.{sampleOf, Span, spanOf, spansOf, own, named, linked, extractFault, delivered, judged}
+use Rattle.resolution_rules.specs.Resolving.{sampleOf, Span, spanOf, own, named, linked, extractFault, copiedAt, delivered, judged}
 use Rattle.resolution_rules.specs.Calls.{spanBytes, output}
 
 module _ (r : Recording) (n : ℕ) where
@@ -48,14 +46,6 @@ module _ (r : Recording) (n : ℕ) where
     pub formed : check (own r n) ≡ ok tt
     pub extracts : (p : ℕ) → p ∈ extractors (own r n) → Extracts p
 
-  -- from data_offset up to the end of the copy
-  abbrev pub copySpans : ℕ → List Span
-  copySpans p =
-      let z = linked r n p in
-      let o = dataOffset (own r n) p in
-      let e = copyEnd z o (dataLength (own r n) p) in
-      spansOf (named r n p) z (keep (λ q. (o ≤? q) && (q <? e)) (withoutAggregators z (units z)))
-
   -- Each unit once, in order: an aggregator's head is dropped, an extractor is replaced, any other unit is delivered as it stands.
   pub data Delivers : List ℕ → List Span → Type 0 where
     none : Delivers [] []
@@ -67,7 +57,7 @@ module _ (r : Recording) (n : ℕ) where
         Delivers ps us → Delivers (p ∷ ps) us
     extractor :
         {p : ℕ} {ps : List ℕ} {us : List Span} → isExtractor (own r n) p ≡ true →
-        Delivers ps us → Delivers (p ∷ ps) (copySpans p ++ us)
+        Delivers ps us → Delivers (p ∷ ps) (copiedAt r n p ++ us)
 
   abbrev pub Apart : Type 0
   Apart = (p : ℕ) → p ∈ extractors (own r n) → named r n p ≡ n → ⊥
