@@ -4,9 +4,10 @@
 --   Order    where the samples of a track are neighbours and times rise: the base, signed steps from it
 --   Naming   what the code's answer says
 --   Words    laws that belong to words
---   Search   the code case by case, in any table: for the proofs of this crate alone
+--   Cases    the code case by case, in any table: for the proofs of this crate alone
 pub mod Words
+pub mod Halving
 pub mod Links
 pub mod Order
 pub mod Naming
-mod Search
+mod Cases

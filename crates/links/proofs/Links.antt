@@ -5,6 +5,9 @@
 --   linked-none               else there is no linked track, and no sample is named
 --   in-track, track-in        the samples of a track: those that there are, of that track
 --   track-rise                they rise
+--   search-untracked, search-track    the search for the base, without a track and in one
+--   search-rounds             its rounds are at most the binary digits of how many samples the track has
+--   base-found                the base is what it finds
 --   named-there               a sample that is named is there, in the linked track
 --   name-none, name-good      no 23, no 24, both ways
 --   name-refusal              a refusal is 23 or 24
@@ -13,11 +16,10 @@ use mathlib.Core.Path.{_≡_, refl, ap}
 use mathlib.Core.List.{List·Memᴰ}
 use native.Mathlib.Omega.{arith}
 use native.Mathlib.Nat.{pos-of-ne-zero}
-use borrow.Author.Tests.{le-ltb, ltb-true, ltb-false, eq-eqb, ne-eqb, eqb-true, eqb-false}
+use borrow.Author.Tests.{ltb-true, ltb-false, eq-eqb, ne-eqb, eqb-true, eqb-false}
 use lib.Dec.{ltb, eqb}
 use lib.ListN.{length}
 use Rattle.words.specs.Tests.{_≡?_, outOf}
-use Rattle.words.specs.Refusals.{_if_}
 use Rattle.words.specs.RefusalNumbers.{badTrackRefIndex, noSampleNamed, nameRefusals}
 use Rattle.words.specs.Lists.{some, nth, upto}
 use Rattle.words.proofs.Tests.{by-bool, count-within, within-count}
@@ -25,7 +27,9 @@ use Rattle.words.proofs.Refusals.{if-none, orElse-none, NoneOr, none-or-if, non
 use Rattle.words.proofs.Lists.{keep-mem, keep-from, upto-mem, upto-from, nth-mem, nth-found, has-from, Rising, rising-keep, rising-upto}
 use Rattle.words.proofs.Rows.{nth-none, nth-beyond}
 use Rattle.bundles.specs.Recordings.{Layout, Reference, noReference, sampleCount, trackOf, referencesFrom, samplesIn}
-use Rattle.links.specs.Links.{signed, stepped, linkFault, linkedTrack, base, sampleNamed, nameFault}
+use Rattle.links.specs.Halving.{ended, halving, binaryDigits}
+use Rattle.links.specs.Links.{signed, stepped, linkFault, linkedTrack, atOrBefore, baseSearch, base, sampleNamed, nameFault}
+use Rattle.links.proofs.Halving.{rounds-digits}
 
 module _ (y : Layout) (n : ℕ) where
   -- 23
@@ -56,7 +60,7 @@ module _ (y : Layout) (n : ℕ) where
   linked-default index e = ap (λ (f : Reference). f .to) e
 
   named-default : (index offset : ℕ) → linkedTrack y n index ≡ 0 → sampleNamed y n index offset ≡ 0
-  unfolding sampleNamed base
+  unfolding sampleNamed base baseSearch
   named-default index offset e = rw e
 
   pub linked-none : (index offset : ℕ) → (linkFault y n index ≡ 0 → ⊥) → (linkedTrack y n index ≡ 0) × (sampleNamed y n index offset ≡ 0)
@@ -83,6 +87,24 @@ module _ (y : Layout) (n : ℕ) where
   pub track-rise : (k : ℕ) → Rising _<_ (samplesIn y k)
   unfolding samplesIn
   track-rise k = rising-keep _<_ (λ i. trackOf y i ≡? k) (upto (sampleCount y)) (rising-upto (sampleCount y))
+
+  -- the search for the base
+  pub search-untracked : {k : ℕ} → k ≡ 0 → baseSearch y n k ≡ ended 0
+  unfolding baseSearch
+  search-untracked z = rw z
+
+  pub search-track : {k : ℕ} → (k ≡ 0 → ⊥) → baseSearch y n k ≡ halving (λ i. atOrBefore y (nth (samplesIn y k) i 0) n) (length (samplesIn y k))
+  unfolding baseSearch
+  search-track {k} h = rw (ne-eqb k 0 h)
+
+  pub search-rounds : (k : ℕ) → baseSearch y n k .rounds ≤ binaryDigits (length (samplesIn y k))
+  search-rounds k = by-bool (eqb k 0)
+      (λ q. rw (search-untracked (eqb-true k 0 q)) (omega arith))
+      (λ q. rw (search-track (eqb-false k 0 q)) (rounds-digits (λ i. atOrBefore y (nth (samplesIn y k) i 0) n) (length (samplesIn y k))))
+
+  pub base-found : (k : ℕ) → base y n k ≡ baseSearch y n k .found
+  unfolding base
+  base-found k = refl
 
   -- the sample named
   pub named-there : (index offset : ℕ) → 0 < sampleNamed y n index offset → List·Memᴰ (sampleNamed y n index offset) (samplesIn y (linkedTrack y n index))

@@ -5,11 +5,11 @@
 --   before-test, upTo-test       which samples stand in tracks before k, and up to k
 --   samples-range                the samples of track k are those after `before`, up to `upTo`
 -- Where besides times rise, as in every accepted bundle:
+--   earlier-passes               with a sample of a track every earlier one of it is at or before
 --   base-is                      the base is the last sample of the linked track at or before, by its number there
 --   base-none                    no base: no sample of the linked track is at or before
 --   base-last                    the base is at or before, and no later sample of the linked track is
 --   base-times, later-without    the same in times
---   earlier-passes               at or before holds of the samples of a track up to one, and of none after it
 --   base-number                  the base by its number in the recording
 --   named-baseless               without a base no sample is named
 --   named-up, named-past         sample_offset 0 to 127: that many samples after the base, or none
@@ -38,7 +38,8 @@ use Rattle.tables.proofs.Ranges.{keep-range}
 use Rattle.links.specs.Links.{signed, stepped, linkedTrack, atOrBefore, base, sampleNamed}
 use Rattle.links.specs.Order.{TracksRise, TimesRise, before, upTo, baseSample, Base, Steps}
 use Rattle.links.proofs.Words.{mem-nth, rising-nth, last-most, last-passes, last-later, last-count, last-down}
-use Rattle.links.proofs.Links.{in-track, track-rise}
+use Rattle.links.proofs.Halving.{last-found}
+use Rattle.links.proofs.Links.{in-track, track-rise, search-untracked, search-track, base-found}
 
 pub ordered-rise : (y : Layout) → Ordered y → TimesRise y
 ordered-rise y o = record {
@@ -128,11 +129,27 @@ module _ (y : Layout) (rise : TimesRise y) where
 
   -- the base, by its number within the linked track
   module _ (n k : ℕ) where
+    pub earlier-passes : (i j : ℕ) → List·Memᴰ i (samplesIn y k) → List·Memᴰ j (samplesIn y k) → i < j → atOrBefore y j n ≡ true → atOrBefore y i n ≡ true
+    earlier-passes i j a c l t =
+        let p = in-track y n k i a in
+        let q = in-track y n k j c in
+        let u = rise .times i j (p .0) l (q .1) (p .2 ∙ sym (q .2)) in
+        let v = leb-true (timeOf y j) (timeOf y n) t in
+        le-leb (timeOf y i) (timeOf y n) (omega arith)
+
+    -- by their numbers within the track
+    earlier-too : (i j : ℕ) → 0 < i → i < j → j ≤ length (samplesIn y k) → atOrBefore y (nth (samplesIn y k) j 0) n ≡ true → atOrBefore y (nth (samplesIn y k) i 0) n ≡ true
+    earlier-too i j h l g =
+        earlier-passes (nth (samplesIn y k) i 0) (nth (samplesIn y k) j 0)
+        (nth-mem (samplesIn y k) i 0 h (omega arith))
+        (nth-mem (samplesIn y k) j 0 (omega arith) g)
+        (rising-nth _<_ (samplesIn y k) (track-rise y n k) i j 0 h l g)
+
     pub base-is : base y n k ≡ lastThat (λ m. atOrBefore y m n) (samplesIn y k)
-    unfolding base lastThat
-    base-is = by-bool (k ≡? 0)
-        (λ q. let z : k ≡ 0 = eqb-true k 0 q in rw (z, no-samples))
-        (λ q. rw q)
+    unfolding lastThat
+    base-is = base-found y n k ∙ by-bool (k ≡? 0)
+        (λ q. let z : k ≡ 0 = eqb-true k 0 q in rw (search-untracked y n z, z, no-samples))
+        (λ q. rw (search-track y n (eqb-false k 0 q)) (last-found (λ m. atOrBefore y m n) (samplesIn y k) 0 earlier-too))
 
     base-most : base y n k ≤ length (samplesIn y k)
     base-most = rw base-is (last-most (λ m. atOrBefore y m n) (samplesIn y k))
@@ -168,14 +185,6 @@ module _ (y : Layout) (rise : TimesRise y) where
 
     pub later-without : base y n k ≡ 0 → (m : ℕ) → List·Memᴰ m (samplesIn y k) → timeOf y n < timeOf y m
     later-without e m j = leb-false _ _ (base-none e m j)
-
-    pub earlier-passes : (i j : ℕ) → List·Memᴰ i (samplesIn y k) → List·Memᴰ j (samplesIn y k) → i < j → atOrBefore y j n ≡ true → atOrBefore y i n ≡ true
-    earlier-passes i j a c l t =
-        let p = in-track y n k i a in
-        let q = in-track y n k j c in
-        let u = rise .times i j (p .0) l (q .1) (p .2 ∙ sym (q .2)) in
-        let v = leb-true (timeOf y j) (timeOf y n) t in
-        le-leb (timeOf y i) (timeOf y n) (omega arith)
 
     -- by its number in the recording
     base-fits : before y k + base y n k ≤ upTo y k

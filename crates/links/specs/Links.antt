@@ -6,6 +6,7 @@
 --   linkFault n index              23
 --   linkedTrack n index            the linked track; 0 is none
 --   atOrBefore m n                 the clock: sample m stands at or before sample n
+--   baseSearch n track             the search for the base among the samples of the linked track
 --   base n track                   the base, by its number within the linked track; 0 is none
 --   sampleNamed n index offset     the sample named; 0 is none
 --   nameFault n index offset       23, 24
@@ -15,8 +16,10 @@ use lib.ListN.{length}
 use Rattle.words.specs.Tests.{_<?_, _≤?_, _≡?_, outOf, pick, _when_else_}
 use Rattle.words.specs.Refusals.{_if_, _orElse_}
 use Rattle.words.specs.RefusalNumbers.{badTrackRefIndex, noSampleNamed}
-use Rattle.words.specs.Lists.{nth, lastThat}
+use Rattle.words.specs.Lists.{nth}
 use Rattle.bundles.specs.Recordings.{Layout, noReference, trackOf, timeOf, referencesFrom, samplesIn}
+use Rattle.links.specs.declared.Search.{Search}
+use Rattle.links.specs.Halving.{ended, halving}
 
 -- sample_offset is signed: so many samples ahead, or back.
 pub data Signed : Type 0 where
@@ -45,9 +48,16 @@ module _ (y : Layout) where
   abbrev pub atOrBefore : ℕ → ℕ → Bool
   atOrBefore m n = timeOf y m ≤? timeOf y n
 
-  -- The base: the last sample of the linked track with decode time at or before the own sample's. Without a track there is none.
+  -- The samples of the linked track are halved (02, [5]). Without a track there are none.
+  unfoldable pub baseSearch : ℕ → ℕ → Search
+  baseSearch n track =
+      let samples = samplesIn y track in
+      pick (track ≡? 0) (ended 0) (halving (λ i. atOrBefore (nth samples i 0) n) (length samples))
+
+  -- The base: what the search finds. Where times rise, as in every accepted bundle, it is the last sample of the linked track with
+  -- decode time at or before the own sample's (proofs/Order: base-is).
   unfoldable pub base : ℕ → ℕ → ℕ
-  base n track = 0 when track ≡? 0 else lastThat (λ m. atOrBefore m n) (samplesIn y track)
+  base n track = baseSearch n track .found
 
   -- The sample named: sample_offset steps from the base in the linked track, in number order; with no base, or past either end, there
   -- is none.

@@ -1,17 +1,27 @@
 // Which sample an extractor names, by a table alone. Every public function takes any table and any numbers.
 ghost use mathlib.Core.Path.{_≡_};
-ghost use Prim.Native.Nat.{_≤_};
+ghost use Prim.Native.Nat.{_-_, _≤_};
+ghost use lib.ListN.{length};
 ghost use Rattle.bundles.specs.Limits.{sampleMost};
+ghost use Rattle.bundles.specs.Recordings.{samplesIn};
 ghost use Rattle.tables.specs.Tables.{layoutIn};
-ghost use Rattle.links.specs.Links.{linkFault, base, signed, stepped, sampleNamed};
+ghost use Rattle.links.specs.Halving.{binaryDigits};
+ghost use Rattle.links.specs.Links.{linkFault, baseSearch, signed, stepped, sampleNamed};
 ghost use Rattle.links.specs.Named.{naming};
 use numbers::SampleNumber;
 use numbers::TrackNumber;
+use tables::SampleRange;
 
 // The sample that an extractor names, or the number of the refusal: 23 or 24.
 pub enum Named {
     Refused(u8),
     Sample(SampleNumber),
+}
+
+// What a search for the base found, by its number within the track, 0 for none; and how many rounds it took.
+pub struct Search {
+    pub found: usize,
+    pub rounds: usize,
 }
 
 // A track_ref_index 0 or past the last reference of the own sample's track.
@@ -29,21 +39,37 @@ fn link_fault(t: &[u64], n: SampleNumber, index: u8) -> u8
     0
 }
 
-// The base: the last sample of a track at or before sample n, by its number within the track; 0 where there is none, and for track 0.
-fn base_in(t: &[u64], n: SampleNumber, track: TrackNumber) -> usize
-    ensures { λ r. ⌜ r ≡ base (layoutIn (now (t .entry))) (n .0) (track .0) ⌝ }
+// How many samples a range has.
+fn range_size(range: SampleRange) -> usize
+    ensures { λ r. ⌜ r ≡ range .after - range .before ⌝ }
+{
+    if range.after < range.before {
+        return 0;
+    }
+    range.after - range.before
+}
+
+// The base, searched by halving: the last sample of a track at or before sample n, where the track's times rise. Those left are the
+// samples after `low`, up to `high`, by their numbers within the track. Track 0 has none.
+pub fn find_base(t: &[u64], n: SampleNumber, track: TrackNumber) -> Search
+    ensures { λ r. ⌜ (r ≡ baseSearch (layoutIn (now (t .entry))) (n .0) (track .0)) × (r .rounds ≤ binaryDigits (length (samplesIn (layoutIn (now (t .entry))) (track .0)))) ⌝ }
 {
     let own = sample_tables::sample_time(t, n);
     let range = sample_tables::sample_range(t, track);
-    let mut b: usize = 0;
-    let mut m = range.before;
-    while m < range.after {
-        m += 1;
-        if sample_tables::sample_time(t, SampleNumber(m)) <= own {
-            b = m - range.before;
+    let mut low: usize = 0;
+    let mut high = range_size(range);
+    let mut rounds: usize = 0;
+    while low < high {
+        let middle = (low + high + 1) / 2;
+        rounds += 1;
+        let time = sample_tables::sample_time(t, SampleNumber(range.before + middle));
+        if time <= own {
+            low = middle;
+        } else {
+            high = middle - 1;
         }
     }
-    b
+    Search { found: low, rounds }
 }
 
 // sample_offset steps from the base. It is signed: a byte of 128 or more is 256 less. Before the first is 0.
@@ -67,7 +93,7 @@ fn sample_named(t: &[u64], n: SampleNumber, index: u8, offset: u8) -> SampleNumb
 {
     let own = sample_tables::sample_track(t, n);
     let track = tables::reference(t, own, index as usize);
-    let b = base_in(t, n, track);
+    let b = find_base(t, n, track).found;
     if b == 0 {
         return SampleNumber(0);
     }
@@ -76,7 +102,7 @@ fn sample_named(t: &[u64], n: SampleNumber, index: u8, offset: u8) -> SampleNumb
         return SampleNumber(0);
     }
     let range = sample_tables::sample_range(t, track);
-    if range.after - range.before < k {
+    if range_size(range) < k {
         return SampleNumber(0);
     }
     SampleNumber(range.before + k)

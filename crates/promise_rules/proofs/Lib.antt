@@ -8,6 +8,7 @@ pub mod BundleLaws
 pub mod BundleFaultLaws
 pub mod CopyLaws
 pub mod ResolveLaws
+pub mod SearchLaws
 pub mod CallLaws
 pub mod AuditLaws
 pub mod FaultLaws

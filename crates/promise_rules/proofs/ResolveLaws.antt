@@ -40,13 +40,13 @@ module _ (y : Layout) where
 
 -- the sample named
 module _ (y : Layout) (rise : TimesRise y) where
-  sampled : (m k : ℕ) → m ∈ samplesIn y k → Sampled y m k
+  pub sampled : (m k : ℕ) → m ∈ samplesIn y k → Sampled y m k
   sampled m k h = let w = in-track y 0 k m h in record { some = w .0; there = w .1; track = w .2 }
 
-  in-samples : (m k : ℕ) → Sampled y m k → m ∈ samplesIn y k
+  pub in-samples : (m k : ℕ) → Sampled y m k → m ∈ samplesIn y k
   in-samples m k s = track-in y 0 k m (s .some) (s .there) (s .track)
 
-  base-of : (n k : ℕ) → 0 < base y n k → BaseOf y n k (baseSample y n k)
+  pub base-of : (n k : ℕ) → 0 < base y n k → BaseOf y n k (baseSample y n k)
   base-of n k h =
       let b = base-last y rise n k h in
       let t = base-times y rise n k h in

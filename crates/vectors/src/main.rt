@@ -1,5 +1,6 @@
 // Answers requests from standard input, one line each. The form of a request is in tests/vectors/README.md.
 mod audited;
+mod base;
 mod bundle;
 mod check;
 mod entries;
@@ -44,6 +45,7 @@ fn answer(buffer: &[u8; 65536], n: usize) {
         16 => named::answer(fields),
         17 => resolve::stream(fields),
         18 => from_stream::answer(fields),
+        19 => base::answer(fields),
         _ => print::line(b"unknown request"),
     }
 }

@@ -4,7 +4,7 @@ use mathlib.Core.Path.{sym}
 use Rattle.links.proofs.link_fault.Statement.{statement}
 use Rattle.tables.specs.Tables.{layoutIn}
 use Rattle.links.proofs.Links.{link-good}
-use Rattle.links.proofs.Search.{link-zero, link-past}
+use Rattle.links.proofs.Cases.{link-zero, link-past}
 use native.Mathlib.Nat.{pos-of-ne-zero}
 use Rattle.links.proofs.link_fault.Tie as tie
 

@@ -3,7 +3,7 @@ use borrow.Author.Needs.{needs}
 use mathlib.Core.Path.{_≡_, sym, _∙_}
 use Rattle.links.proofs.name.Statement.{statement}
 use Rattle.tables.specs.Tables.{layoutIn}
-use Rattle.links.proofs.Search.{name-link, name-nothing, name-sample}
+use Rattle.links.proofs.Cases.{name-link, name-nothing, name-sample}
 use Rattle.links.specs.Links.{linkFault}
 use Rattle.links.proofs.name.Tie as tie
 

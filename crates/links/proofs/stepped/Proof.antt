@@ -2,7 +2,7 @@
 use borrow.Author.Needs.{needs}
 use native.Mathlib.Omega.{arith}
 use Rattle.links.proofs.stepped.Statement.{statement}
-use Rattle.links.proofs.Search.{steps-ahead, steps-before, steps-back}
+use Rattle.links.proofs.Cases.{steps-ahead, steps-before, steps-back}
 use Rattle.links.proofs.stepped.Tie as tie
 
 add-forward : tie.Need-add-forward

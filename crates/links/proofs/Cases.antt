@@ -3,9 +3,8 @@
 --
 --   range-most                                the samples of a track end within the limit
 --   range-at, range-past                      the sample of a number within a track, and of one that none has
---   searched                                  the last of the first samples of a range that passes a test
---   searched-none, searched-here, searched-on    no sample yet; one more, which passes; one more, which does not
---   base-searched, base-most                  the base is the one among all of them; its number is at most how many they are
+--   Searching                                 the search after some rounds; begun, one round more, done
+--   base-searched, base-most                  the search for the base, in the table's times; the base is at most how many samples there are
 --   base-track                                where there is a base there is a track
 --   steps-ahead, steps-before, steps-back     signed steps from the base
 --   link-zero, link-past                      23
@@ -13,31 +12,30 @@
 --   named-no-base, named-at                   the sample named, by the base
 --   name-link, name-nothing, name-sample      the answer, by its parts
 use Prim.Native.Nat.{ℕ, _+_, _-_, _≤_, _<_}
-use mathlib.Core.Path.{_≡_, refl, ap, sym, _∙_}
+use mathlib.Core.Path.{_≡_, refl, ap, _∙_}
 use mathlib.Core.Bool.{Bool, true, false}
-use mathlib.Core.List.{List, [], _∷_, map}
+use mathlib.Core.List.{List}
 use native.Mathlib.Omega.{arith}
-use native.Mathlib.Numerals.{add-one}
 use native.Mathlib.Nat.{pos-of-ne-zero}
 use borrow.Author.Tests.{lt-ltb, le-ltb, ltb-true, ltb-false, leb-true, eq-eqb, ne-eqb, eqb-true, eqb-false}
 use lib.Dec.{ltb, leb, eqb, eqb·suc-zero}
 use lib.ListN.{length, length-map}
-use Rattle.words.specs.Tests.{pick}
+use Rattle.words.specs.Tests.{_≤?_}
 use Rattle.words.specs.RefusalNumbers.{badTrackRefIndex, noSampleNamed}
-use Rattle.words.specs.Lists.{nth, upto, lastThat}
+use Rattle.words.specs.Lists.{nth, upto}
 use Rattle.words.proofs.Tests.{by-bool, by-number}
-use Rattle.words.proofs.Lists.{lastThat-snoc}
-use Rattle.words.proofs.Entries.{map-append}
-use Rattle.words.proofs.Rows.{upto-length, upto-more, nth-upto, nth-past}
+use Rattle.words.proofs.Rows.{upto-length, nth-upto, nth-past}
 use Rattle.numbers.specs.declared.SampleNumber.{SampleNumber}
 use Rattle.bundles.specs.Limits.{sampleMost}
-use Rattle.bundles.specs.Recordings.{Layout, noReference, trackOf, referencesFrom, samplesIn}
+use Rattle.bundles.specs.Recordings.{Layout, noReference, trackOf, timeOf, referencesFrom, samplesIn}
 use Rattle.tables.specs.Tables.{atMost, cell, countsRow, samplesColumn, sampleTotal, trackTotal, layoutIn, rangeIn}
 use Rattle.tables.proofs.Ranges.{after-most, range-samples}
 use Rattle.links.specs.declared.Named.the-variants.{Refused, Sample}
-use Rattle.links.specs.Links.{linkFault, linkedTrack, atOrBefore, base, signed, stepped, sampleNamed, nameFault}
+use Rattle.links.specs.Halving.{middle, search, halving}
+use Rattle.links.specs.Links.{linkFault, linkedTrack, baseSearch, base, signed, stepped, sampleNamed, nameFault}
 use Rattle.links.specs.Named.{naming}
-use Rattle.links.proofs.Words.{last-most}
+use Rattle.links.proofs.Halving.{middle-within, none-left, round-after, round-before, search-same, ends}
+use Rattle.links.proofs.Links.{search-untracked, search-track, base-found}
 
 -- the samples of a track
 total-below : (most n : ℕ) → atMost most n ≤ most
@@ -60,68 +58,72 @@ module _ (t : List ℕ) (k : ℕ) (some : 0 < k) where
   pub range-past : (j : ℕ) → rangeIn t k .after - rangeIn t k .before < j → nth (samplesIn (layoutIn t) k) j 0 ≡ 0
   range-past j h = rw (range-samples t k some) (nth-past (λ i. rangeIn t k .before + i) (rangeIn t k .after - rangeIn t k .before) j 0 h)
 
--- the number of the last of the i samples after sample a that pass a test
-module _ (passes : ℕ → Bool) (a : ℕ) where
-  unfoldable pub searched : ℕ → ℕ
-  searched i = lastThat passes (map (λ j. a + j) (upto i))
+-- the search after some rounds: the numbers left, and what was counted
+module _ (passes : ℕ → Bool) (n : ℕ) where
+  pub record Searching (low high rounds : ℕ) : Type 0 where
+    pub left : low ≤ high
+    pub most : high ≤ n
+    pub counted : rounds + (high - low) ≤ n
+    pub found : search passes low high .found ≡ halving passes n .found
+    pub rounds-left : rounds + search passes low high .rounds ≡ halving passes n .rounds
 
-  searched-zero : searched 0 ≡ 0
-  unfolding searched upto lastThat
-  searched-zero = refl
+  pub searching-begun : {size : ℕ} → size ≡ n → Searching 0 size 0
+  searching-begun e = rw e (record { left = omega arith; most = omega arith; counted = omega arith; found = refl; rounds-left = omega arith })
 
-  searched-more : (i : ℕ) → searched (i + 1) ≡ pick (passes (a + (i + 1))) (i + 1) (searched i)
-  unfolding searched
-  searched-more i =
-      rw (upto-more i, map-append (λ j. a + j) (upto i) ((i + 1) ∷ []), lastThat-snoc passes (map (λ j. a + j) (upto i)) (a + (i + 1)), length-map (upto i) (λ j. a + j), upto-length i, add-one i)
+  module _ {low high rounds : ℕ} (s : Searching low high rounds) where
+    module _ (some : low < high) where
+      pub searching-after : passes (middle low high) ≡ true → Searching (middle low high) high (rounds + 1)
+      searching-after t =
+          let w = middle-within low high some in
+          let c = s .counted in
+          let r = round-after passes low high some t in
+          let f = rw r at (s .found) in
+          let k : rounds + (search passes (middle low high) high .rounds + 1) ≡ halving passes n .rounds = rw r at (s .rounds-left) in
+          record { left = w .1; most = s .most; counted = omega arith; found = f; rounds-left = omega arith }
 
-  pub searched-most : (i : ℕ) → searched i ≤ i
-  unfolding searched
-  searched-most i =
-      let h = last-most passes (map (λ j. a + j) (upto i)) in
-      let l : length (map (λ j. a + j) (upto i)) ≡ i = length-map (upto i) (λ j. a + j) ∙ upto-length i in
-      omega arith
+      pub searching-before : passes (middle low high) ≡ false → Searching low (middle low high - 1) (rounds + 1)
+      searching-before t =
+          let w = middle-within low high some in
+          let c = s .counted in
+          let m = s .most in
+          let r = round-before passes low high some t in
+          let f = rw r at (s .found) in
+          let k : rounds + (search passes low (middle low high - 1) .rounds + 1) ≡ halving passes n .rounds = rw r at (s .rounds-left) in
+          record { left = omega arith; most = omega arith; counted = omega arith; found = f; rounds-left = omega arith }
 
-  pub searched-none : 0 ≡ searched (a - a)
-  searched-none = let e : a - a ≡ 0 = omega arith in rw e (sym searched-zero)
-
-  -- sample m + 1 comes next
-  module _ (m : ℕ) (from : a ≤ m) where
-    pub searched-here : passes (m + 1) ≡ true → m + 1 - a ≡ searched (m + 1 - a)
-    searched-here h =
-        let e : m + 1 - a ≡ m - a + 1 = omega arith in
-        let x : a + (m - a + 1) ≡ m + 1 = omega arith in
-        rw (e, searched-more (m - a), x, h)
-
-    pub searched-on : {b : ℕ} → passes (m + 1) ≡ false → b ≡ searched (m - a) → b ≡ searched (m + 1 - a)
-    searched-on h f =
-        let e : m + 1 - a ≡ m - a + 1 = omega arith in
-        let x : a + (m - a + 1) ≡ m + 1 = omega arith in
-        rw (e, searched-more (m - a), x, h) f
+    pub searching-done : high ≤ low → record { found = low; rounds = rounds } ≡ halving passes n
+    searching-done h =
+        let e = none-left passes (high - low) low high h in
+        let f : low ≡ halving passes n .found = rw e at (s .found) in
+        let k : rounds + 0 ≡ halving passes n .rounds = rw e at (s .rounds-left) in
+        let g : rounds ≡ halving passes n .rounds = omega arith in
+        rw (f, g)
 
 module _ (t : List ℕ) (n k : ℕ) where
-  base-zero : k ≡ 0 → base (layoutIn t) n k ≡ 0
-  unfolding base
-  base-zero z = rw z
-
   range-zero : k ≡ 0 → rangeIn t k .after - rangeIn t k .before ≡ 0
   unfolding rangeIn
   range-zero z = rw z
 
-  base-within : (k ≡ 0 → ⊥) → base (layoutIn t) n k ≡ searched (λ m. atOrBefore (layoutIn t) m n) (rangeIn t k .before) (rangeIn t k .after - rangeIn t k .before)
-  unfolding base searched
-  base-within h = rw (ne-eqb k 0 h, range-samples t k (pos-of-ne-zero h))
+  range-length : (k ≡ 0 → ⊥) → length (samplesIn (layoutIn t) k) ≡ rangeIn t k .after - rangeIn t k .before
+  range-length h =
+      let size = rangeIn t k .after - rangeIn t k .before in
+      rw (range-samples t k (pos-of-ne-zero h)) (length-map (upto size) (λ i. rangeIn t k .before + i) ∙ upto-length size)
 
-  pub base-searched : base (layoutIn t) n k ≡ searched (λ m. atOrBefore (layoutIn t) m n) (rangeIn t k .before) (rangeIn t k .after - rangeIn t k .before)
+  -- the search in the table's times
+  pub base-searched : halving (λ i. timeOf (layoutIn t) (rangeIn t k .before + i) ≤? timeOf (layoutIn t) n) (rangeIn t k .after - rangeIn t k .before) ≡ baseSearch (layoutIn t) n k
   base-searched = by-bool (eqb k 0)
-      (λ q. let z = eqb-true k 0 q in rw (base-zero z, range-zero z) (sym (searched-zero (λ m. atOrBefore (layoutIn t) m n) (rangeIn t k .before))))
-      (λ q. base-within (eqb-false k 0 q))
+      (λ q. let z = eqb-true k 0 q in rw (search-untracked (layoutIn t) n z, range-zero z) (none-left _ 0 0 0 (omega arith)))
+      (λ q.
+      let h = eqb-false k 0 q in
+      rw (search-track (layoutIn t) n h, range-length h)
+      (search-same _ _ 0 _ (λ i u v. rw (range-at t k (pos-of-ne-zero h) i u v))))
 
   pub base-most : base (layoutIn t) n k ≤ rangeIn t k .after - rangeIn t k .before
-  base-most = rw base-searched (searched-most (λ m. atOrBefore (layoutIn t) m n) (rangeIn t k .before) (rangeIn t k .after - rangeIn t k .before))
+  base-most = rw (base-found (layoutIn t) n k, ← base-searched) (ends _ (rangeIn t k .after - rangeIn t k .before) .most)
 
   -- where there is a base there is a track
   pub base-track : (base (layoutIn t) n k ≡ 0 → ⊥) → 0 < k
-  base-track h = pos-of-ne-zero (λ z. h (base-zero z))
+  base-track h = pos-of-ne-zero (λ z. h (rw (base-found (layoutIn t) n k, search-untracked (layoutIn t) n z)))
 
 -- signed steps, as the code takes them
 module _ (b offset : ℕ) where
