@@ -31,10 +31,10 @@ use Rattle.bundles.specs.Recordings.{Layout, noReference, trackOf, timeOf, refe
 use Rattle.tables.specs.Tables.{atMost, cell, countsRow, samplesColumn, sampleTotal, trackTotal, layoutIn, rangeIn}
 use Rattle.tables.proofs.Ranges.{after-most, range-samples}
 use Rattle.links.specs.declared.Named.the-variants.{Refused, Sample}
-use Rattle.links.specs.Halving.{middle, search, halving}
+use Rattle.links.specs.Halving.{middle, halving}
 use Rattle.links.specs.Links.{linkFault, linkedTrack, baseSearch, base, signed, stepped, sampleNamed, nameFault}
 use Rattle.links.specs.Named.{naming}
-use Rattle.links.proofs.Halving.{middle-within, none-left, round-after, round-before, search-same, ends}
+use Rattle.links.proofs.Halving.{middle-within, none-left, round-after, round-before, halving-same, ends}
 use Rattle.links.proofs.Links.{search-untracked, search-track, base-found}
 
 -- the samples of a track
@@ -61,14 +61,13 @@ module _ (t : List ℕ) (k : ℕ) (some : 0 < k) where
 -- the search after some rounds: the numbers left, and what was counted
 module _ (passes : ℕ → Bool) (n : ℕ) where
   pub record Searching (low high rounds : ℕ) : Type 0 where
-    pub left : low ≤ high
     pub most : high ≤ n
     pub counted : rounds + (high - low) ≤ n
-    pub found : search passes low high .found ≡ halving passes n .found
-    pub rounds-left : rounds + search passes low high .rounds ≡ halving passes n .rounds
+    pub found : halving passes low high .found ≡ halving passes 0 n .found
+    pub rounds-left : rounds + halving passes low high .rounds ≡ halving passes 0 n .rounds
 
   pub searching-begun : {size : ℕ} → size ≡ n → Searching 0 size 0
-  searching-begun e = rw e (record { left = omega arith; most = omega arith; counted = omega arith; found = refl; rounds-left = omega arith })
+  searching-begun e = rw e (record { most = omega arith; counted = omega arith; found = refl; rounds-left = omega arith })
 
   module _ {low high rounds : ℕ} (s : Searching low high rounds) where
     module _ (some : low < high) where
@@ -78,8 +77,8 @@ module _ (passes : ℕ → Bool) (n : ℕ) where
           let c = s .counted in
           let r = round-after passes low high some t in
           let f = rw r at (s .found) in
-          let k : rounds + (search passes (middle low high) high .rounds + 1) ≡ halving passes n .rounds = rw r at (s .rounds-left) in
-          record { left = w .1; most = s .most; counted = omega arith; found = f; rounds-left = omega arith }
+          let k : rounds + (halving passes (middle low high) high .rounds + 1) ≡ halving passes 0 n .rounds = rw r at (s .rounds-left) in
+          record { most = s .most; counted = omega arith; found = f; rounds-left = omega arith }
 
       pub searching-before : passes (middle low high) ≡ false → Searching low (middle low high - 1) (rounds + 1)
       searching-before t =
@@ -88,15 +87,15 @@ module _ (passes : ℕ → Bool) (n : ℕ) where
           let m = s .most in
           let r = round-before passes low high some t in
           let f = rw r at (s .found) in
-          let k : rounds + (search passes low (middle low high - 1) .rounds + 1) ≡ halving passes n .rounds = rw r at (s .rounds-left) in
-          record { left = omega arith; most = omega arith; counted = omega arith; found = f; rounds-left = omega arith }
+          let k : rounds + (halving passes low (middle low high - 1) .rounds + 1) ≡ halving passes 0 n .rounds = rw r at (s .rounds-left) in
+          record { most = omega arith; counted = omega arith; found = f; rounds-left = omega arith }
 
-    pub searching-done : high ≤ low → record { found = low; rounds = rounds } ≡ halving passes n
+    pub searching-done : high ≤ low → record { found = low; rounds = rounds } ≡ halving passes 0 n
     searching-done h =
-        let e = none-left passes (high - low) low high h in
-        let f : low ≡ halving passes n .found = rw e at (s .found) in
-        let k : rounds + 0 ≡ halving passes n .rounds = rw e at (s .rounds-left) in
-        let g : rounds ≡ halving passes n .rounds = omega arith in
+        let e = none-left passes low high h in
+        let f : low ≡ halving passes 0 n .found = rw e at (s .found) in
+        let k : rounds + 0 ≡ halving passes 0 n .rounds = rw e at (s .rounds-left) in
+        let g : rounds ≡ halving passes 0 n .rounds = omega arith in
         rw (f, g)
 
 module _ (t : List ℕ) (n k : ℕ) where
@@ -110,13 +109,13 @@ module _ (t : List ℕ) (n k : ℕ) where
       rw (range-samples t k (pos-of-ne-zero h)) (length-map (upto size) (λ i. rangeIn t k .before + i) ∙ upto-length size)
 
   -- the search in the table's times
-  pub base-searched : halving (λ i. timeOf (layoutIn t) (rangeIn t k .before + i) ≤? timeOf (layoutIn t) n) (rangeIn t k .after - rangeIn t k .before) ≡ baseSearch (layoutIn t) n k
+  pub base-searched : halving (λ i. timeOf (layoutIn t) (rangeIn t k .before + i) ≤? timeOf (layoutIn t) n) 0 (rangeIn t k .after - rangeIn t k .before) ≡ baseSearch (layoutIn t) n k
   base-searched = by-bool (eqb k 0)
-      (λ q. let z = eqb-true k 0 q in rw (search-untracked (layoutIn t) n z, range-zero z) (none-left _ 0 0 0 (omega arith)))
+      (λ q. let z = eqb-true k 0 q in rw (search-untracked (layoutIn t) n z, range-zero z) (none-left _ 0 0 (omega arith)))
       (λ q.
       let h = eqb-false k 0 q in
       rw (search-track (layoutIn t) n h, range-length h)
-      (search-same _ _ 0 _ (λ i u v. rw (range-at t k (pos-of-ne-zero h) i u v))))
+      (halving-same _ _ 0 _ (λ i u v. rw (range-at t k (pos-of-ne-zero h) i u v))))
 
   pub base-most : base (layoutIn t) n k ≤ rangeIn t k .after - rangeIn t k .before
   base-most = rw (base-found (layoutIn t) n k, ← base-searched) (ends _ (rangeIn t k .after - rangeIn t k .before) .most)

@@ -1,28 +1,28 @@
--- The search by halving, for any test. Assumes nothing.
+-- The search by halving, for any test, and binary digits. Assumes nothing.
 --
---   digits-above, digits-below, digits-least    n has the least number of binary digits d with n below 2 to the power d
---   middle-within                    the middle is one of the numbers left
---   none-left, round                 what a search finds: when none is left, and by one round
---   round-after, round-before        a round, by whether the middle passes
---   search-same                      tests that agree on the numbers left
---   ends                             what is found passes, and the number after it does not
---   last-found                       where only numbers before one that passes do: it is the last that passes
---   rounds-most, rounds-least        rounds, by powers of two
---   rounds-digits                    at most the binary digits of how many numbers there are
---   rounds-fewest                    at least those of one number more, less one
---   rounds-reached                   exactly so many where every number passes
+--   digits-above, digits-below, digits-exactly    binaryDigits n is the least d with n below 2 to the power d
+--   middle-within, middle-earlier    the middle is one of the numbers left; as many stand before it as after it, or one fewer
+--   none-left                        when none is left
+--   round-after, round-before        one round, by whether the middle passes
+--   halving-same                     tests that agree on the numbers left
+--   Ends, ends                       what is found passes unless it is 0, and the number after it does not unless that is the last
+--   last-found                       where every number before one that passes does too: the last that passes
+--   rounds-digits                    the rounds are at most the binary digits of how many numbers there are
+--   rounds-fewest                    and at least those of one number more, less one
+--   rounds-reached                   where every number passes they are as many as the binary digits
 use Prim.Native.Nat.{ℕ, zero, suc, _+_, _-_, _^_, _≤_, _<_}
-use mathlib.Core.Path.{_≡_, refl, sym, _∙_}
+use mathlib.Core.Path.{_≡_, refl, sym, _∙_, subst}
 use mathlib.Core.Bool.{Bool, true, false}
+use mathlib.Core.List.{List}
+use mathlib.Core.Logic.{_⊎_, inl, inr, _↔_}
 use native.Mathlib.Omega.{arith}
 use borrow.Author.Tests.{lt-ltb, le-ltb, ltb-true, ltb-false, eq-eqb, ne-eqb, eqb-true, eqb-false}
-use mathlib.Core.List.{List}
 use lib.Dec.{ltb, eqb}
 use lib.ListN.{length}
 use Rattle.words.specs.Tests.{pick}
 use Rattle.words.specs.Lists.{nth, lastThat}
 use Rattle.words.proofs.Tests.{by-bool, by-number, true-false}
-use Rattle.links.specs.Halving.{middle, ended, oneRoundMore, searchFrom, search, halving, binaryDigits}
+use Rattle.links.specs.Halving.{middle, ended, oneRoundMore, halvingIn, halving, binaryDigits}
 use Rattle.links.proofs.Words.{last-most, last-passes, last-later}
 
 -- binary digits
@@ -59,10 +59,19 @@ digits-below (suc n) d h =
     (λ r. let f = eqb-false d (binaryDigits n) r in let g = below (omega arith) in omega arith))
     (λ q. let l = digits-same n (eqb-false (suc n) (2 ^ binaryDigits n) q) in let g = below (omega arith) in omega arith)
 
-pub digits-least : (n d : ℕ) → n < 2 ^ d → binaryDigits n ≤ d
-digits-least n d h = by-bool (ltb d (binaryDigits n))
-    (λ q. let g = digits-below n d (ltb-true d (binaryDigits n) q) in absurd (omega arith))
-    (λ q. ltb-false d (binaryDigits n) q)
+pub digits-exactly : (n d : ℕ) → (binaryDigits n ≡ d) ↔ ((n < 2 ^ d) × ((e : ℕ) → e < d → 2 ^ e ≤ n))
+digits-exactly n d = (
+  (λ q. (subst (λ (k : ℕ). n < 2 ^ k) q (digits-above n), λ e h. digits-below n e (omega arith))),
+  (λ w.
+      let above = digits-above n in
+      by-bool (ltb d (binaryDigits n))
+      (λ q. let g = digits-below n d (ltb-true d (binaryDigits n) q) in let h = w .0 in absurd (omega arith))
+      (λ q.
+      let most = ltb-false d (binaryDigits n) q in
+      by-bool (ltb (binaryDigits n) d)
+      (λ r. let g = w .1 (binaryDigits n) (ltb-true (binaryDigits n) d r) in absurd (omega arith))
+      (λ r. let least = ltb-false (binaryDigits n) d r in omega arith))),
+)
 
 power-some : (d : ℕ) → 0 < 2 ^ d
 power-some zero = omega arith
@@ -72,17 +81,25 @@ power-some (suc d) = let below = power-some d in omega arith
 pub middle-within : (low high : ℕ) → low < high → (low < middle low high) × (middle low high ≤ high)
 middle-within low high h = (omega arith, omega arith)
 
+pub middle-earlier : (low high : ℕ) → low < high → (middle low high - (low + 1) ≡ high - middle low high) ⊎ (middle low high - (low + 1) + 1 ≡ high - middle low high)
+middle-earlier low high h = by-bool (eqb (middle low high - (low + 1)) (high - middle low high))
+    (λ q. inl (eqb-true _ _ q))
+    (λ q. let e = eqb-false (middle low high - (low + 1)) (high - middle low high) q in inr (omega arith))
+
 module _ (passes : ℕ → Bool) where
-  pub none-left : (n low high : ℕ) → high ≤ low → searchFrom passes n low high ≡ ended low
-  unfolding searchFrom
-  none-left zero low high h = refl
-  none-left (suc n) low high h = rw (le-ltb low high h)
+  none-left-in : (n low high : ℕ) → high ≤ low → halvingIn passes n low high ≡ ended low
+  unfolding halvingIn
+  none-left-in zero low high h = refl
+  none-left-in (suc n) low high h = rw (le-ltb low high h)
+
+  pub none-left : (low high : ℕ) → high ≤ low → halving passes low high ≡ ended low
+  none-left low high h = none-left-in (high - low) low high h
 
   -- any number of rounds that suffices is as good
-  enough : (n k low high : ℕ) → high - low ≤ n → high - low ≤ k → searchFrom passes n low high ≡ searchFrom passes k low high
-  unfolding searchFrom
-  enough zero k low high h g = sym (none-left k low high (omega arith))
-  enough (suc n) zero low high h g = none-left (suc n) low high (omega arith)
+  enough : (n k low high : ℕ) → high - low ≤ n → high - low ≤ k → halvingIn passes n low high ≡ halvingIn passes k low high
+  unfolding halvingIn
+  enough zero k low high h g = sym (none-left-in k low high (omega arith))
+  enough (suc n) zero low high h g = none-left-in (suc n) low high (omega arith)
   enough (suc n) (suc k) low high h g =
       by-bool (ltb low high)
       (λ q.
@@ -90,8 +107,8 @@ module _ (passes : ℕ → Bool) where
       rw (enough n k (middle low high) high (omega arith) (omega arith), enough n k low (middle low high - 1) (omega arith) (omega arith)))
       (λ q. rw q)
 
-  pub round : (low high : ℕ) → low < high → search passes low high ≡ oneRoundMore (pick (passes (middle low high)) (search passes (middle low high) high) (search passes low (middle low high - 1)))
-  unfolding searchFrom
+  round : (low high : ℕ) → low < high → halving passes low high ≡ oneRoundMore (pick (passes (middle low high)) (halving passes (middle low high) high) (halving passes low (middle low high - 1)))
+  unfolding halvingIn
   round low high h =
       let w = middle-within low high h in
       by-number (high - low)
@@ -100,27 +117,27 @@ module _ (passes : ℕ → Bool) where
       rw (z, lt-ltb low high h, enough n (high - middle low high) (middle low high) high (omega arith) (omega arith), enough n (middle low high - 1 - low) low (middle low high - 1) (omega arith) (omega arith)))
 
   module _ (low high : ℕ) (some : low < high) where
-    pub round-after : passes (middle low high) ≡ true → search passes low high ≡ oneRoundMore (search passes (middle low high) high)
+    pub round-after : passes (middle low high) ≡ true → halving passes low high ≡ oneRoundMore (halving passes (middle low high) high)
     round-after e = round low high some ∙ rw e
 
-    pub round-before : passes (middle low high) ≡ false → search passes low high ≡ oneRoundMore (search passes low (middle low high - 1))
+    pub round-before : passes (middle low high) ≡ false → halving passes low high ≡ oneRoundMore (halving passes low (middle low high - 1))
     round-before e = round low high some ∙ rw e
 
   -- tests that agree on the numbers left
-  search-same-from : (other : ℕ → Bool) (n low high : ℕ) → ((i : ℕ) → low < i → i ≤ high → passes i ≡ other i) → searchFrom passes n low high ≡ searchFrom other n low high
-  unfolding searchFrom
-  search-same-from other zero low high e = refl
-  search-same-from other (suc n) low high e = by-bool (ltb low high)
+  halving-same-in : (other : ℕ → Bool) (n low high : ℕ) → ((i : ℕ) → low < i → i ≤ high → passes i ≡ other i) → halvingIn passes n low high ≡ halvingIn other n low high
+  unfolding halvingIn
+  halving-same-in other zero low high e = refl
+  halving-same-in other (suc n) low high e = by-bool (ltb low high)
       (λ q.
       let m = middle low high in
       let w = middle-within low high (ltb-true low high q) in
-      let a = search-same-from other n m high (λ i u v. e i (omega arith) v) in
-      let b = search-same-from other n low (m - 1) (λ i u v. e i u (omega arith)) in
+      let a = halving-same-in other n m high (λ i u v. e i (omega arith) v) in
+      let b = halving-same-in other n low (m - 1) (λ i u v. e i u (omega arith)) in
       rw (q, e m (w .0) (w .1), a, b))
       (λ q. rw q)
 
-  pub search-same : (other : ℕ → Bool) (low high : ℕ) → ((i : ℕ) → low < i → i ≤ high → passes i ≡ other i) → search passes low high ≡ search other low high
-  search-same other low high = search-same-from other (high - low) low high
+  pub halving-same : (other : ℕ → Bool) (low high : ℕ) → ((i : ℕ) → low < i → i ≤ high → passes i ≡ other i) → halving passes low high ≡ halving other low high
+  halving-same other low high = halving-same-in other (high - low) low high
 
   -- What is found lies between. It passes unless it is low, and the number after it does not unless it is high.
   pub record Ends (low high b : ℕ) : Type 0 where
@@ -153,8 +170,8 @@ module _ (passes : ℕ → Bool) where
           (λ q. let a = e .most in let c = eqb-false (b + 1) m q in e .next (omega arith));
     }
 
-  ends-within : (n low high : ℕ) → high - low ≤ n → low ≤ high → Ends low high (search passes low high .found)
-  ends-within zero low high h l = rw (none-left (high - low) low high (omega arith)) (ends-none low high (omega arith))
+  ends-within : (n low high : ℕ) → high - low ≤ n → low ≤ high → Ends low high (halving passes low high .found)
+  ends-within zero low high h l = rw (none-left low high (omega arith)) (ends-none low high (omega arith))
   ends-within (suc n) low high h l = by-bool (ltb low high)
       (λ q.
       let o = ltb-true low high q in
@@ -163,14 +180,14 @@ module _ (passes : ℕ → Bool) where
       by-bool (passes m)
       (λ t. rw (round-after low high o t) (ends-after low high m _ (w .0) t (ends-within n m high (omega arith) (w .1))))
       (λ t. rw (round-before low high o t) (ends-before low high m _ (w .0) (w .1) t (ends-within n low (m - 1) (omega arith) (omega arith)))))
-      (λ q. let o = ltb-false low high q in rw (none-left (high - low) low high o) (ends-none low high (omega arith)))
+      (λ q. let o = ltb-false low high q in rw (none-left low high o) (ends-none low high (omega arith)))
 
-  pub ends : (n : ℕ) → Ends 0 n (halving passes n .found)
+  pub ends : (n : ℕ) → Ends 0 n (halving passes 0 n .found)
   ends n = ends-within n 0 n (omega arith) (omega arith)
 
   -- rounds, by powers of two
-  rounds-most : (d low high : ℕ) → high - low < 2 ^ d → search passes low high .rounds ≤ d
-  rounds-most zero low high h = rw (none-left (high - low) low high (omega arith)) (omega arith)
+  rounds-most : (d low high : ℕ) → high - low < 2 ^ d → halving passes low high .rounds ≤ d
+  rounds-most zero low high h = rw (none-left low high (omega arith)) (omega arith)
   rounds-most (suc d) low high h = by-bool (ltb low high)
       (λ q.
       let o = ltb-true low high q in
@@ -178,9 +195,9 @@ module _ (passes : ℕ → Bool) where
       by-bool (passes m)
       (λ t. let below = rounds-most d m high (omega arith) in rw (round-after low high o t) (omega arith))
       (λ t. let below = rounds-most d low (m - 1) (omega arith) in rw (round-before low high o t) (omega arith)))
-      (λ q. rw (none-left (high - low) low high (ltb-false low high q)) (omega arith))
+      (λ q. rw (none-left low high (ltb-false low high q)) (omega arith))
 
-  rounds-least : (d low high : ℕ) → 2 ^ d ≤ high - low + 1 → d ≤ search passes low high .rounds
+  rounds-least : (d low high : ℕ) → 2 ^ d ≤ high - low + 1 → d ≤ halving passes low high .rounds
   rounds-least zero low high h = omega arith
   rounds-least (suc d) low high h =
       let p = power-some d in
@@ -191,7 +208,7 @@ module _ (passes : ℕ → Bool) where
       (λ t. let below = rounds-least d low (m - 1) (omega arith) in rw (round-before low high o t) (omega arith))
 
   -- where all pass, those after the middle are left in every round
-  rounds-full : (d low high : ℕ) → ((i : ℕ) → low < i → i ≤ high → passes i ≡ true) → 2 ^ d ≤ high - low → d < search passes low high .rounds
+  rounds-full : (d low high : ℕ) → ((i : ℕ) → low < i → i ≤ high → passes i ≡ true) → 2 ^ d ≤ high - low → d < halving passes low high .rounds
   rounds-full zero low high all h =
       let o : low < high = omega arith in
       let w = middle-within low high o in
@@ -205,15 +222,15 @@ module _ (passes : ℕ → Bool) where
       rw (round-after low high o (all m (w .0) (w .1))) (omega arith)
 
   module _ (n : ℕ) where
-    pub rounds-digits : halving passes n .rounds ≤ binaryDigits n
+    pub rounds-digits : halving passes 0 n .rounds ≤ binaryDigits n
     rounds-digits = let h = digits-above n in rounds-most (binaryDigits n) 0 n (omega arith)
 
-    pub rounds-fewest : binaryDigits (n + 1) ≤ halving passes n .rounds + 1
+    pub rounds-fewest : binaryDigits (n + 1) ≤ halving passes 0 n .rounds + 1
     rounds-fewest = by-number (binaryDigits (n + 1))
         (λ z. omega arith)
         (λ d z. let a = rounds-least d 0 n (let h = digits-below (n + 1) d (omega arith) in omega arith) in omega arith)
 
-    pub rounds-reached : ((i : ℕ) → 0 < i → i ≤ n → passes i ≡ true) → halving passes n .rounds ≡ binaryDigits n
+    pub rounds-reached : ((i : ℕ) → 0 < i → i ≤ n → passes i ≡ true) → halving passes 0 n .rounds ≡ binaryDigits n
     rounds-reached all =
         let most = rounds-digits in
         by-number (binaryDigits n)
@@ -226,7 +243,7 @@ module _
     (down : (i j : ℕ) → 0 < i → i < j → j ≤ length xs → t (nth xs j d) ≡ true → t (nth xs i d) ≡ true)
   where
     abbrev b : ℕ
-    b = halving (λ i. t (nth xs i d)) (length xs) .found
+    b = halving (λ i. t (nth xs i d)) 0 (length xs) .found
 
     -- the one after it fails, so every later one does
     later-fails : (i : ℕ) → b < i → i ≤ length xs → t (nth xs i d) ≡ false

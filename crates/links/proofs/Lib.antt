@@ -1,5 +1,6 @@
 -- Laws of which sample is named.
 --
+--   Halving  the search by halving, binary digits
 --   Links    what 23 and 24 say, the sample named, in any layout
 --   Order    where the samples of a track are neighbours and times rise: the base, signed steps from it
 --   Naming   what the code's answer says

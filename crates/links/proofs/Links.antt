@@ -1,13 +1,13 @@
--- Which sample is named, in any layout: what does not go by where the base is. Assumes nothing.
+-- Which sample is named, in any layout, whether its times rise or not. Assumes nothing.
 --
 --   link-none, link-good      no 23 exactly if track_ref_index is from 1 to the last
 --   linked-reference          then the linked track is that of a reference of the own track
---   linked-none               else there is no linked track, and no sample is named
 --   in-track, track-in        the samples of a track: those that there are, of that track
 --   track-rise                they rise
 --   search-untracked, search-track    the search for the base, without a track and in one
 --   search-rounds             its rounds are at most the binary digits of how many samples the track has
 --   base-found                the base is what it finds
+--   linked-none               with 23 there is no linked track, and no sample is named
 --   named-there               a sample that is named is there, in the linked track
 --   name-none, name-good      no 23, no 24, both ways
 --   name-refusal              a refusal is 23 or 24
@@ -59,19 +59,6 @@ module _ (y : Layout) (n : ℕ) where
   unfolding linkedTrack
   linked-default index e = ap (λ (f : Reference). f .to) e
 
-  named-default : (index offset : ℕ) → linkedTrack y n index ≡ 0 → sampleNamed y n index offset ≡ 0
-  unfolding sampleNamed base baseSearch
-  named-default index offset e = rw e
-
-  pub linked-none : (index offset : ℕ) → (linkFault y n index ≡ 0 → ⊥) → (linkedTrack y n index ≡ 0) × (sampleNamed y n index offset ≡ 0)
-  linked-none index offset h =
-      let t : linkedTrack y n index ≡ 0 = by-bool (eqb index 0)
-      (λ q. let z = eqb-true index 0 q in linked-default index (rw z (nth-none (referencesFrom y (trackOf y n)) noReference)))
-      (λ q. by-bool (ltb (length (referencesFrom y (trackOf y n))) index)
-      (λ r. linked-default index (nth-beyond (referencesFrom y (trackOf y n)) index noReference (ltb-true _ _ r)))
-      (λ r. absurd (h (link-good index (pos-of-ne-zero (eqb-false _ _ q)) (ltb-false _ _ r))))) in
-      (t, named-default index offset t)
-
   -- the samples of a track
   pub in-track : (k m : ℕ) → List·Memᴰ m (samplesIn y k) → (0 < m) × (m ≤ sampleCount y) × (trackOf y m ≡ k)
   unfolding samplesIn
@@ -93,7 +80,7 @@ module _ (y : Layout) (n : ℕ) where
   unfolding baseSearch
   search-untracked z = rw z
 
-  pub search-track : {k : ℕ} → (k ≡ 0 → ⊥) → baseSearch y n k ≡ halving (λ i. atOrBefore y (nth (samplesIn y k) i 0) n) (length (samplesIn y k))
+  pub search-track : {k : ℕ} → (k ≡ 0 → ⊥) → baseSearch y n k ≡ halving (λ i. atOrBefore y (nth (samplesIn y k) i 0) n) 0 (length (samplesIn y k))
   unfolding baseSearch
   search-track {k} h = rw (ne-eqb k 0 h)
 
@@ -105,6 +92,20 @@ module _ (y : Layout) (n : ℕ) where
   pub base-found : (k : ℕ) → base y n k ≡ baseSearch y n k .found
   unfolding base
   base-found k = refl
+
+  -- no linked track
+  named-default : (index offset : ℕ) → linkedTrack y n index ≡ 0 → sampleNamed y n index offset ≡ 0
+  unfolding sampleNamed
+  named-default index offset e = rw (base-found (linkedTrack y n index), search-untracked e)
+
+  pub linked-none : (index offset : ℕ) → (linkFault y n index ≡ 0 → ⊥) → (linkedTrack y n index ≡ 0) × (sampleNamed y n index offset ≡ 0)
+  linked-none index offset h =
+      let t : linkedTrack y n index ≡ 0 = by-bool (eqb index 0)
+      (λ q. let z = eqb-true index 0 q in linked-default index (rw z (nth-none (referencesFrom y (trackOf y n)) noReference)))
+      (λ q. by-bool (ltb (length (referencesFrom y (trackOf y n))) index)
+      (λ r. linked-default index (nth-beyond (referencesFrom y (trackOf y n)) index noReference (ltb-true _ _ r)))
+      (λ r. absurd (h (link-good index (pos-of-ne-zero (eqb-false _ _ q)) (ltb-false _ _ r))))) in
+      (t, named-default index offset t)
 
   -- the sample named
   pub named-there : (index offset : ℕ) → 0 < sampleNamed y n index offset → List·Memᴰ (sampleNamed y n index offset) (samplesIn y (linkedTrack y n index))

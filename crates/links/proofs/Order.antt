@@ -4,13 +4,16 @@
 --   ordered-rise, bundle-rise    the samples of an accepted bundle are so
 --   before-test, upTo-test       which samples stand in tracks before k, and up to k
 --   samples-range                the samples of track k are those after `before`, up to `upTo`
--- Where besides times rise, as in every accepted bundle:
---   earlier-passes               with a sample of a track every earlier one of it is at or before
---   base-is                      the base is the last sample of the linked track at or before, by its number there
---   base-none                    no base: no sample of the linked track is at or before
---   base-last                    the base is at or before, and no later sample of the linked track is
+-- In any layout:
+--   base-rising                  where the track's times rise, the base is the last sample of the track at or before, by its number there
+-- and where it is that:
+--   base-none                    no base: no sample of the track is at or before
+--   base-last                    the base is at or before, and no later sample of the track is
 --   base-times, later-without    the same in times
+-- Where besides times rise, as in every accepted bundle:
+--   base-is                      the base is the last sample of the track at or before, by its number there
 --   base-number                  the base by its number in the recording
+--   named-by-scan, fault-by-scan    the sample named, and 23 and 24, by the last sample at or before
 --   named-baseless               without a base no sample is named
 --   named-up, named-past         sample_offset 0 to 127: that many samples after the base, or none
 --   named-down, named-short      sample_offset 128 to 255, which is less by 256: that many samples before the base, or none
@@ -23,8 +26,9 @@ use native.Mathlib.Omega.{arith}
 use borrow.Author.Tests.{le-leb, leb-true, leb-false, lt-ltb, le-ltb, ltb-true, ltb-false, eq-eqb, ne-eqb, eqb-true, eqb-false}
 use lib.Dec.{leb, ltb, eqb}
 use lib.ListN.{length, length-map}
-use Rattle.words.specs.Tests.{_<?_, _≤?_, _≡?_}
-use Rattle.words.specs.Refusals.{ok}
+use Rattle.words.specs.Tests.{_<?_, _≤?_, _≡?_, _when_else_}
+use Rattle.words.specs.Refusals.{ok, _if_, _orElse_}
+use Rattle.words.specs.RefusalNumbers.{noSampleNamed}
 use Rattle.words.specs.Lists.{nth, upto, lastThat}
 use Rattle.words.proofs.Tests.{by-bool, by-number}
 use Rattle.words.proofs.Lists.{keep-nothing, upto-from, nth-mem}
@@ -35,8 +39,8 @@ use Rattle.bundles.specs.Bundles.{meaning}
 use Rattle.bundles.proofs.Order.{InOrder}
 use Rattle.bundles.proofs.Promises.{Ordered, samples-ordered}
 use Rattle.tables.proofs.Ranges.{keep-range}
-use Rattle.links.specs.Links.{signed, stepped, linkedTrack, atOrBefore, base, sampleNamed}
-use Rattle.links.specs.Order.{TracksRise, TimesRise, before, upTo, baseSample, Base, Steps}
+use Rattle.links.specs.Links.{signed, stepped, linkFault, linkedTrack, atOrBefore, base, sampleNamed, nameFault}
+use Rattle.links.specs.Order.{TracksRise, TrackRises, TimesRise, before, upTo, baseSample, Base, Steps}
 use Rattle.links.proofs.Words.{mem-nth, rising-nth, last-most, last-passes, last-later, last-count, last-down}
 use Rattle.links.proofs.Halving.{last-found}
 use Rattle.links.proofs.Links.{in-track, track-rise, search-untracked, search-track, base-found}
@@ -117,45 +121,29 @@ module _ (y : Layout) (rise : TracksRise y) where
   pub sample-past : (k i : ℕ) → upTo y k < before y k + i → nth (samplesIn y k) i 0 ≡ 0
   sample-past k i l = let a = range-length k in let b = before-upTo k in nth-beyond (samplesIn y k) i 0 (omega arith)
 
--- where besides times rise: the base, and signed steps from it
-module _ (y : Layout) (rise : TimesRise y) where
-  -- there is no track 0
-  no-samples : samplesIn y 0 ≡ []
-  unfolding samplesIn
-  no-samples = keep-nothing (λ m. trackOf y m ≡? 0) (upto (sampleCount y)) (λ m h.
-      let u = upto-from (sampleCount y) m h in
-      let s = rise .numbered m (u .0) (u .1) in
-      ne-eqb (trackOf y m) 0 (λ z. absurd (omega arith)))
-
-  -- the base, by its number within the linked track
-  module _ (n k : ℕ) where
-    pub earlier-passes : (i j : ℕ) → List·Memᴰ i (samplesIn y k) → List·Memᴰ j (samplesIn y k) → i < j → atOrBefore y j n ≡ true → atOrBefore y i n ≡ true
-    earlier-passes i j a c l t =
-        let p = in-track y n k i a in
-        let q = in-track y n k j c in
-        let u = rise .times i j (p .0) l (q .1) (p .2 ∙ sym (q .2)) in
-        let v = leb-true (timeOf y j) (timeOf y n) t in
-        le-leb (timeOf y i) (timeOf y n) (omega arith)
-
-    -- by their numbers within the track
+-- the base in track k, by its number there
+module _ (y : Layout) (n k : ℕ) where
+  -- where the track's times rise, every sample before one that is at or before is so too
+  module _ (some : k ≡ 0 → ⊥) (rises : TrackRises y k) where
     earlier-too : (i j : ℕ) → 0 < i → i < j → j ≤ length (samplesIn y k) → atOrBefore y (nth (samplesIn y k) j 0) n ≡ true → atOrBefore y (nth (samplesIn y k) i 0) n ≡ true
-    earlier-too i j h l g =
-        earlier-passes (nth (samplesIn y k) i 0) (nth (samplesIn y k) j 0)
-        (nth-mem (samplesIn y k) i 0 h (omega arith))
-        (nth-mem (samplesIn y k) j 0 (omega arith) g)
-        (rising-nth _<_ (samplesIn y k) (track-rise y n k) i j 0 h l g)
+    earlier-too i j h l g t =
+        let p = in-track y n k _ (nth-mem (samplesIn y k) i 0 h (omega arith)) in
+        let q = in-track y n k _ (nth-mem (samplesIn y k) j 0 (omega arith) g) in
+        let r = rising-nth _<_ (samplesIn y k) (track-rise y n k) i j 0 h l g in
+        let u = rises (nth (samplesIn y k) i 0) (nth (samplesIn y k) j 0) (p .0) r (q .1) (p .2) (q .2) in
+        let v = leb-true (timeOf y (nth (samplesIn y k) j 0)) (timeOf y n) t in
+        le-leb (timeOf y (nth (samplesIn y k) i 0)) (timeOf y n) (omega arith)
 
-    pub base-is : base y n k ≡ lastThat (λ m. atOrBefore y m n) (samplesIn y k)
-    unfolding lastThat
-    base-is = base-found y n k ∙ by-bool (k ≡? 0)
-        (λ q. let z : k ≡ 0 = eqb-true k 0 q in rw (search-untracked y n z, z, no-samples))
-        (λ q. rw (search-track y n (eqb-false k 0 q)) (last-found (λ m. atOrBefore y m n) (samplesIn y k) 0 earlier-too))
+    pub base-rising : base y n k ≡ lastThat (λ m. atOrBefore y m n) (samplesIn y k)
+    base-rising = base-found y n k ∙ rw (search-track y n some) (last-found (λ m. atOrBefore y m n) (samplesIn y k) 0 earlier-too)
 
+  -- where it is the last sample of the track at or before
+  module _ (is : base y n k ≡ lastThat (λ m. atOrBefore y m n) (samplesIn y k)) where
     base-most : base y n k ≤ length (samplesIn y k)
-    base-most = rw base-is (last-most (λ m. atOrBefore y m n) (samplesIn y k))
+    base-most = rw is (last-most (λ m. atOrBefore y m n) (samplesIn y k))
 
     base-later : (i : ℕ) → base y n k < i → i ≤ length (samplesIn y k) → atOrBefore y (nth (samplesIn y k) i 0) n ≡ false
-    base-later i h l = last-later (λ m. atOrBefore y m n) (samplesIn y k) 0 i (rw base-is at h) l
+    base-later i h l = last-later (λ m. atOrBefore y m n) (samplesIn y k) 0 i (rw is at h) l
 
     pub base-none : base y n k ≡ 0 → (m : ℕ) → List·Memᴰ m (samplesIn y k) → atOrBefore y m n ≡ false
     base-none e m h =
@@ -165,7 +153,7 @@ module _ (y : Layout) (rise : TimesRise y) where
     pub base-last : 0 < base y n k → Base y n k
     base-last h = record {
       there = nth-mem (samplesIn y k) (base y n k) 0 h base-most;
-      passes = rw base-is (last-passes (λ m. atOrBefore y m n) (samplesIn y k) 0 (rw base-is at h));
+      passes = rw is (last-passes (λ m. atOrBefore y m n) (samplesIn y k) 0 (rw is at h));
       last = λ m j u.
           let w = mem-nth (samplesIn y k) m 0 j in
           by-bool (ltb (base y n k) (w .0))
@@ -186,12 +174,48 @@ module _ (y : Layout) (rise : TimesRise y) where
     pub later-without : base y n k ≡ 0 → (m : ℕ) → List·Memᴰ m (samplesIn y k) → timeOf y n < timeOf y m
     later-without e m j = leb-false _ _ (base-none e m j)
 
+-- where besides times rise: the base, and signed steps from it
+module _ (y : Layout) (rise : TimesRise y) where
+  -- there is no track 0
+  no-samples : samplesIn y 0 ≡ []
+  unfolding samplesIn
+  no-samples = keep-nothing (λ m. trackOf y m ≡? 0) (upto (sampleCount y)) (λ m h.
+      let u = upto-from (sampleCount y) m h in
+      let s = rise .numbered m (u .0) (u .1) in
+      ne-eqb (trackOf y m) 0 (λ z. absurd (omega arith)))
+
+  module _ (n k : ℕ) where
+    pub base-is : base y n k ≡ lastThat (λ m. atOrBefore y m n) (samplesIn y k)
+    unfolding lastThat
+    base-is = by-bool (k ≡? 0)
+        (λ q. let z : k ≡ 0 = eqb-true k 0 q in base-found y n k ∙ rw (search-untracked y n z, z, no-samples))
+        (λ q. base-rising y n k (eqb-false k 0 q) (λ i j h l u e f. rise .times i j h l u (e ∙ sym f)))
+
     -- by its number in the recording
     base-fits : before y k + base y n k ≤ upTo y k
-    base-fits = let a = base-most in let b = range-length y (rise .tracks) k in let c = before-upTo y (rise .tracks) k in omega arith
+    base-fits = let a = base-most y n k base-is in let b = range-length y (rise .tracks) k in let c = before-upTo y (rise .tracks) k in omega arith
 
     pub base-number : 0 < base y n k → baseSample y n k ≡ before y k + base y n k
     base-number h = sample-number y (rise .tracks) k (base y n k) h base-fits
+
+  -- by a scan of the linked track
+  module _ (n index offset : ℕ) where
+    abbrev linked : List ℕ
+    linked = samplesIn y (linkedTrack y n index)
+
+    abbrev last : ℕ
+    last = lastThat (λ m. atOrBefore y m n) linked
+
+    abbrev scanned : ℕ
+    scanned = 0 when last ≡? 0 else nth linked (stepped last (signed offset)) 0
+
+    pub named-by-scan : sampleNamed y n index offset ≡ scanned
+    unfolding sampleNamed
+    named-by-scan = rw (base-is n (linkedTrack y n index))
+
+    pub fault-by-scan : nameFault y n index offset ≡ (linkFault y n index orElse noSampleNamed if scanned ≡? 0)
+    unfolding nameFault
+    fault-by-scan = rw named-by-scan
 
   pub named-baseless : (n index offset : ℕ) → base y n (linkedTrack y n index) ≡ 0 → sampleNamed y n index offset ≡ 0
   unfolding sampleNamed

@@ -1,39 +1,37 @@
--- The search by halving (02, [5]), among the numbers 1 to n, of which each passes a test or does not.
+-- The search by halving (02, [5]), among numbers of which each passes a test or does not.
 --
---   middle low high            of the numbers after low, up to high: the middle one, of two the earlier
---   search passes low high     the search when those numbers are left: what it finds, and its rounds
---   halving passes n           the search among 1 to n
---   binaryDigits n             how many binary digits n has; 0 has none
+--   middle low high             of the numbers after low, up to high: the middle one, of two the earlier
+--   ended low, oneRoundMore r   the result when none is left; a result with one round more
+--   halving passes low high     the search when the numbers after low, up to high, are left: what it finds, and its rounds
+--   halvingIn n ..              the same, in at most n rounds
+--   binaryDigits n              how many binary digits n has; 0 has none
 use Prim.Native.Nat.{ℕ, zero, suc, _+_, _-_, _/_, _^_}
 use mathlib.Core.Bool.{Bool}
 use Rattle.words.specs.Tests.{_<?_, _≡?_, pick, _when_else_}
-use Rattle.links.specs.declared.Search.{Search}
+use Rattle.links.specs.declared.SearchResult.{SearchResult}
 
 abbrev pub middle : ℕ → ℕ → ℕ
 middle low high = (low + high + 1) / 2
 
--- none is left: low is what was found
-abbrev pub ended : ℕ → Search
+abbrev pub ended : ℕ → SearchResult
 ended low = record { found = low; rounds = 0 }
 
-abbrev pub oneRoundMore : Search → Search
-oneRoundMore s = record { found = s .found; rounds = s .rounds + 1 }
+abbrev pub oneRoundMore : SearchResult → SearchResult
+oneRoundMore r = record { found = r .found; rounds = r .rounds + 1 }
 
 module _ (passes : ℕ → Bool) where
-  -- A round looks at the middle number: if it passes, those after it are left, else those before it. It ends when none is left, not
-  -- before. There are at most n rounds: `search` gives as many as there are numbers, and each round takes one away at least.
-  unfoldable pub searchFrom : ℕ → ℕ → ℕ → Search
-  searchFrom zero low high = ended low
-  searchFrom (suc n) low high =
+  -- A round looks at the middle number: if it passes, those after it are left, else those before it. When none is left, low is what
+  -- was found; the search does not end before.
+  unfoldable pub halvingIn : ℕ → ℕ → ℕ → SearchResult
+  halvingIn zero low high = ended low
+  halvingIn (suc n) low high =
       let m = middle low high in
-      let left = pick (passes m) (searchFrom n m high) (searchFrom n low (m - 1)) in
+      let left = pick (passes m) (halvingIn n m high) (halvingIn n low (m - 1)) in
       pick (low <? high) (oneRoundMore left) (ended low)
 
-  abbrev pub search : ℕ → ℕ → Search
-  search low high = searchFrom (high - low) low high
-
-  abbrev pub halving : ℕ → Search
-  halving n = search 0 n
+  -- Each round takes away one number at least, so there are at most as many rounds as numbers.
+  abbrev pub halving : ℕ → ℕ → SearchResult
+  halving low high = halvingIn (high - low) low high
 
 -- A number has one binary digit more than the number before it exactly if it is a power of two: 1, 2, 4, 8, ...
 unfoldable pub binaryDigits : ℕ → ℕ

@@ -18,7 +18,7 @@ use Rattle.words.specs.Refusals.{_if_, _orElse_}
 use Rattle.words.specs.RefusalNumbers.{badTrackRefIndex, noSampleNamed}
 use Rattle.words.specs.Lists.{nth}
 use Rattle.bundles.specs.Recordings.{Layout, noReference, trackOf, timeOf, referencesFrom, samplesIn}
-use Rattle.links.specs.declared.Search.{Search}
+use Rattle.links.specs.declared.SearchResult.{SearchResult}
 use Rattle.links.specs.Halving.{ended, halving}
 
 -- sample_offset is signed: so many samples ahead, or back.
@@ -48,14 +48,15 @@ module _ (y : Layout) where
   abbrev pub atOrBefore : ℕ → ℕ → Bool
   atOrBefore m n = timeOf y m ≤? timeOf y n
 
-  -- The samples of the linked track are halved (02, [5]). Without a track there are none.
-  unfoldable pub baseSearch : ℕ → ℕ → Search
+  -- The search for the base: the samples of the linked track are halved, by their numbers within the track (02, [5]). Without a track
+  -- there are none.
+  unfoldable pub baseSearch : ℕ → ℕ → SearchResult
   baseSearch n track =
       let samples = samplesIn y track in
-      pick (track ≡? 0) (ended 0) (halving (λ i. atOrBefore (nth samples i 0) n) (length samples))
+      pick (track ≡? 0) (ended 0) (halving (λ i. atOrBefore (nth samples i 0) n) 0 (length samples))
 
-  -- The base: what the search finds. Where times rise, as in every accepted bundle, it is the last sample of the linked track with
-  -- decode time at or before the own sample's (proofs/Order: base-is).
+  -- The base: what the search finds. Where the track's times rise, as in every accepted bundle, that is its last sample with decode
+  -- time at or before the own sample's (proofs/Order: base-rising, base-is).
   unfoldable pub base : ℕ → ℕ → ℕ
   base n track = baseSearch n track .found
 

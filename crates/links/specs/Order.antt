@@ -2,6 +2,7 @@
 -- has it (6).
 --
 --   TracksRise y     track numbers never fall
+--   TrackRises y k   within track k times strictly rise
 --   TimesRise y      besides, tracks are numbered from 1, and within a track times strictly rise
 --   before y k       the last sample of the tracks before track k; 0 is none
 --   upTo y k         the last sample of the tracks up to track k
@@ -20,6 +21,9 @@ use Rattle.links.specs.Links.{linkedTrack, atOrBefore, base, sampleNamed
 module _ (y : Layout) where
   abbrev pub TracksRise : Type 0
   TracksRise = (i j : ℕ) → 0 < i → i < j → j ≤ sampleCount y → trackOf y i ≤ trackOf y j
+
+  abbrev pub TrackRises : ℕ → Type 0
+  TrackRises k = (i j : ℕ) → 0 < i → i < j → j ≤ sampleCount y → trackOf y i ≡ k → trackOf y j ≡ k → timeOf y i < timeOf y j
 
   pub record TimesRise : Type 0 where
     pub tracks : TracksRise

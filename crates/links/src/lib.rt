@@ -19,7 +19,7 @@ pub enum Named {
 }
 
 // What a search for the base found, by its number within the track, 0 for none; and how many rounds it took.
-pub struct Search {
+pub struct SearchResult {
     pub found: usize,
     pub rounds: usize,
 }
@@ -51,7 +51,7 @@ fn range_size(range: SampleRange) -> usize
 
 // The base, searched by halving: the last sample of a track at or before sample n, where the track's times rise. Those left are the
 // samples after `low`, up to `high`, by their numbers within the track. Track 0 has none.
-pub fn find_base(t: &[u64], n: SampleNumber, track: TrackNumber) -> Search
+pub fn find_base(t: &[u64], n: SampleNumber, track: TrackNumber) -> SearchResult
     ensures { λ r. ⌜ (r ≡ baseSearch (layoutIn (now (t .entry))) (n .0) (track .0)) × (r .rounds ≤ binaryDigits (length (samplesIn (layoutIn (now (t .entry))) (track .0)))) ⌝ }
 {
     let own = sample_tables::sample_time(t, n);
@@ -69,7 +69,7 @@ pub fn find_base(t: &[u64], n: SampleNumber, track: TrackNumber) -> Search
             high = middle - 1;
         }
     }
-    Search { found: low, rounds }
+    SearchResult { found: low, rounds }
 }
 
 // sample_offset steps from the base. It is signed: a byte of 128 or more is 256 less. Before the first is 0.

@@ -8,17 +8,17 @@ use borrow.Author.Tests.{ltb-true, ltb-false, le-ltb, eqb-true, eqb-false, eq-eq
 use lib.ListN.{length}
 use Rattle.words.specs.Tests.{_≤?_, _<?_, _≡?_}
 use Rattle.words.specs.Refusals.{ok}
-use Rattle.words.specs.Lists.{_∈_, keep, nth}
+use Rattle.words.specs.Lists.{_∈_, keep, nth, lastThat}
 use Rattle.words.proofs.Tests.{by-bool, by-number}
 use Rattle.words.proofs.Lists.{keep-from}
 use Rattle.units.specs.Units.{isExtractor}
 use Rattle.units.specs.Extractors.{trackRefIndex, sampleOffset, dataOffset, dataLength}
 use Rattle.units.specs.Aggregators.{units, extractors}
 use Rattle.bundles.specs.Recordings.{Layout, Recording, noReference, trackOf, referencesFrom, samplesIn}
-use Rattle.links.specs.Links.{linkFault, linkedTrack, base, sampleNamed, nameFault}
+use Rattle.links.specs.Links.{linkFault, linkedTrack, atOrBefore, base, sampleNamed, nameFault}
 use Rattle.links.specs.Order.{TimesRise, baseSample, before, upTo}
 use Rattle.links.proofs.Links.{link-none, link-good, in-track, track-in, named-there, name-none, name-good}
-use Rattle.links.proofs.Order.{named-steps, named-baseless, base-times, base-last, later-without, before-test, upTo-test}
+use Rattle.links.proofs.Order.{base-times, base-last, later-without, base-is, named-steps, named-baseless, before-test, upTo-test}
 use Rattle.copies.specs.Copies.{copied}
 use Rattle.copies.proofs.Copied.{copy-rules, rules-copy}
 use Rattle.resolution_rules.specs.Resolving.{sampleOf, own, named, linked, judged}
@@ -38,20 +38,29 @@ module _ (y : Layout) where
       (λ l. let l' : c < d = ltb-true _ _ l in let e = u .last d (v .sample) l' in let f = v .before in absurd (omega arith))
       (λ l. let l' : d ≤ c = ltb-false _ _ l in let e = v .last c (u .sample) (omega arith) in let f = u .before in absurd (omega arith)))
 
--- the sample named
-module _ (y : Layout) (rise : TimesRise y) where
-  pub sampled : (m k : ℕ) → m ∈ samplesIn y k → Sampled y m k
+  sampled : (m k : ℕ) → m ∈ samplesIn y k → Sampled y m k
   sampled m k h = let w = in-track y 0 k m h in record { some = w .0; there = w .1; track = w .2 }
 
   pub in-samples : (m k : ℕ) → Sampled y m k → m ∈ samplesIn y k
   in-samples m k s = track-in y 0 k m (s .some) (s .there) (s .track)
 
-  pub base-of : (n k : ℕ) → 0 < base y n k → BaseOf y n k (baseSample y n k)
-  base-of n k h =
-      let b = base-last y rise n k h in
-      let t = base-times y rise n k h in
-      record { sample = sampled (baseSample y n k) k (b .there); before = t .0; last = λ m s l. t .1 m (in-samples m k s) l }
+  -- where the base is the last sample of the track at or before
+  module _ (n k : ℕ) (is : base y n k ≡ lastThat (λ m. atOrBefore y m n) (samplesIn y k)) where
+    pub base-of : 0 < base y n k → BaseOf y n k (baseSample y n k)
+    base-of h =
+        let b = base-last y n k is h in
+        let t = base-times y n k is h in
+        record { sample = sampled (baseSample y n k) k (b .there); before = t .0; last = λ m s l. t .1 m (in-samples m k s) l }
 
+    pub of-base : (c : ℕ) → BaseOf y n k c → (0 < base y n k) × (baseSample y n k ≡ c)
+    of-base c w =
+        let h : 0 < base y n k = by-number (base y n k)
+        (λ z. let q = later-without y n k is z c (in-samples c k (w .sample)) in let f = w .before in absurd (omega arith))
+        (λ j z. omega arith) in
+        (h, base-one n k (baseSample y n k) c (base-of h) w)
+
+-- the sample named
+module _ (y : Layout) (rise : TimesRise y) where
   in-range : (m k : ℕ) → Sampled y m k → (before y k < m) × (m ≤ upTo y k)
   in-range m k s =
       let a = before-test y (rise .tracks) k m (s .some) (s .there) in
@@ -101,9 +110,9 @@ module _ (y : Layout) (rise : TimesRise y) where
           there = link-there (a .0);
           reference = linked-is;
           base = baseSample y n track;
-          is-base = base-of n track h;
+          is-base = base-of y n track (base-is y rise n track) h;
           steps = on-steps h (a .1);
-          sample = sampled (sampleNamed y n index offset) track (named-there y n index offset (a .1));
+          sample = sampled y (sampleNamed y n index offset) track (named-there y n index offset (a .1));
         }
 
     steps-on : 0 < base y n track → (m : ℕ) → Sampled y m track → On offset (baseSample y n track) m → sampleNamed y n index offset ≡ m
@@ -123,11 +132,8 @@ module _ (y : Layout) (rise : TimesRise y) where
         let k : w .track ≡ track = sym (w .reference) ∙ linked-is in
         let c : BaseOf y n track (w .base) = subst (λ (j : ℕ). BaseOf y n j (w .base)) k (w .is-base) in
         let s : Sampled y m track = subst (Sampled y m) k (w .sample) in
-        let h : 0 < base y n track = by-number (base y n track)
-        (λ z. let q = later-without y rise n track z (w .base) (in-samples (w .base) track (c .sample)) in let f = c .before in absurd (omega arith))
-        (λ j z. omega arith) in
-        let d : w .base ≡ baseSample y n track = base-one y n track (w .base) (baseSample y n track) c (base-of n track h) in
-        let e = steps-on h m s (subst (λ (j : ℕ). On offset j m) d (w .steps)) in
+        let d = of-base y n track (base-is y rise n track) (w .base) c in
+        let e = steps-on (d .0) m s (subst (λ (j : ℕ). On offset j m) (sym (d .1)) (w .steps)) in
         let t = s .some in
         (name-good y n index offset (omega arith), e)
 

@@ -1,16 +1,18 @@
 -- Request [5] of document 02, 'Finding the base sample by halving', nearly in its words, as theorems in plain facts. The proofs
--- stand in crates/links/proofs/Halving and crates/promise_rules/proofs/SearchLaws. Assumes nothing.
+-- stand in crates/links/proofs (Halving, Links, Order) and in crates/promise_rules/proofs/SearchLaws. Assumes nothing.
 --
---   search passes low high    the search when the numbers after low, up to high, are left: what it finds, and its rounds
---   halving passes n          the search among 1 to n (both crates/links/specs/Halving)
---   baseSearch y n k          the search for the base of sample n among the samples of track k (the same, Links). The public
---                             function that searches, find_base of crates/links, answers with it, for any table
---   binaryDigits d            how many binary digits d has (the same, Halving)
---   BaseOf y n k c            c is the last sample of track k at or before sample n (promise_rules/specs/Resolving)
+--   halving passes low high    the search when the numbers after low, up to high, are left: what it finds, and its rounds
+--   binaryDigits n             how many binary digits n has (both crates/links/specs/Halving)
+--   baseSearch y n k           the search for the base of sample n in track k (the same, Links); the public function that
+--                              searches, `find_base` of crates/links, answers with it, for any table
+--   Sampled y m k              m is a sample of track k (promise_rules/specs/Resolving)
+--   BaseOf y n k c             c is the last sample of track k at or before sample n (the same)
+--   TrackRises y k             within track k times strictly rise (the same)
 --
--- No other answer changes. In an accepted bundle the sample named, 23 and 24 are what a scan of the linked track gives, as they were
--- before (`named-as-before`, `fault-as-before`), and nothing else asks for the base. Demands stays by text, all of it: `good-exactly`,
--- `resolved-exactly`, `resolve-refused`, `line-each`, `listed-exactly` say by `BaseOf` which answer each call gives.
+-- No other answer on a bundle changes. A refused bundle has no base. In an accepted one the sample named, 23 and 24 are what a
+-- scan of the linked track gives, as they were (`named-by-scan`, `fault-by-scan`), and no other definition of an answer uses the
+-- base. Demands, Contents and Request01 to Request04 stay by text: what they say of the calls goes by `BaseOf`. Of a table whose
+-- times do not rise, which no accepted bundle gives, another sample may be named than before.
 use Prim.Native.Nat.{ℕ, _+_, _-_, _^_, _≤_, _<_}
 use mathlib.Core.Path.{_≡_, refl}
 use mathlib.Core.Bool.{Bool, true, false}
@@ -23,83 +25,92 @@ use Rattle.words.specs.Refusals.{ok, _if_, _orElse_}
 use Rattle.words.specs.Lists.{nth, lastThat}
 use Rattle.bundles.specs.Recordings.{Layout, Recording, timeOf, samplesIn}
 use Rattle.bundles.specs.Readers.{firstLayout}
-use Rattle.links.specs.declared.Search.{Search}
-use Rattle.links.specs.Halving.{middle, searchFrom, search, halving, binaryDigits}
+use Rattle.links.specs.declared.SearchResult.{SearchResult}
+use Rattle.links.specs.Halving.{middle, halvingIn, halving, binaryDigits}
 use Rattle.links.specs.Links.{signed, stepped, linkFault, linkedTrack, baseSearch, sampleNamed, nameFault}
-use Rattle.links.proofs.Halving as halved
+use Rattle.links.proofs.Halving as search
 use Rattle.links.proofs.Links as links
-use Rattle.promise_rules.specs.Resolving.{Sampled, BaseOf}
+use Rattle.links.proofs.Order as order
+use Rattle.resolution_rules.proofs.Readers.{firstLayout-sound}
+use Rattle.promise_rules.specs.Resolving.{Sampled, BaseOf, TrackRises}
 use Rattle.promise_rules.proofs.SearchLaws as laws
 
 -- Each round compares the middle of those left, the earlier of two: as many stand before it as after it, or one fewer
 module _ (low high : ℕ) (some : low < high) where
-  pub middle-left : (low < middle low high) × (middle low high ≤ high)
-  middle-left = halved.middle-within low high some
+  pub middle-among : (low < middle low high) × (middle low high ≤ high)
+  middle-among = search.middle-within low high some
 
   pub middle-earlier :
       (middle low high - (low + 1) ≡ high - middle low high) ⊎ (middle low high - (low + 1) + 1 ≡ high - middle low high)
-  middle-earlier = laws.middle-earlier low high some
+  middle-earlier = search.middle-earlier low high some
 
 module _ (passes : ℕ → Bool) where
-  -- till none is left: these three say what every search finds, and its rounds. Whether a time is equal plays no part
-  pub none-left : (low : ℕ) → search passes low low ≡ record { found = low; rounds = 0 }
-  none-left = laws.none-left passes
+  -- till none is left. These three say what every search finds, and its rounds: whether a time is equal plays no part
+  pub none-left : (low high : ℕ) → high ≤ low → halving passes low high ≡ record { found = low; rounds = 0 }
+  none-left = search.none-left passes
 
   module _ (low high : ℕ) (some : low < high) where
     pub those-after :
-        passes (middle low high) ≡ true → let left = search passes (middle low high) high in
-        search passes low high ≡ record { found = left .found; rounds = left .rounds + 1 }
-    those-after = halved.round-after passes low high some
+        passes (middle low high) ≡ true → let left = halving passes (middle low high) high in
+        halving passes low high ≡ record { found = left .found; rounds = left .rounds + 1 }
+    those-after = search.round-after passes low high some
 
     pub those-before :
-        passes (middle low high) ≡ false → let left = search passes low (middle low high - 1) in
-        search passes low high ≡ record { found = left .found; rounds = left .rounds + 1 }
-    those-before = halved.round-before passes low high some
+        passes (middle low high) ≡ false → let left = halving passes low (middle low high - 1) in
+        halving passes low high ≡ record { found = left .found; rounds = left .rounds + 1 }
+    those-before = search.round-before passes low high some
 
+  -- the rounds of a search among 1 to n: at most the binary digits of n, and just so many where every number passes; at least the
+  -- binary digits of n + 1, less one
   module _ (n : ℕ) where
-    -- at most the binary digits of how many there are
-    pub rounds-at-most : halving passes n .rounds ≤ binaryDigits n
-    rounds-at-most = halved.rounds-digits passes n
+    pub rounds-at-most : halving passes 0 n .rounds ≤ binaryDigits n
+    rounds-at-most = search.rounds-digits passes n
 
-    -- which is reached; and no stop comes before that many rounds less one, or less none if a digit more is one number away
-    pub rounds-reached : ((i : ℕ) → 0 < i → i ≤ n → passes i ≡ true) → halving passes n .rounds ≡ binaryDigits n
-    rounds-reached = halved.rounds-reached passes n
+    pub rounds-reached : ((i : ℕ) → 0 < i → i ≤ n → passes i ≡ true) → halving passes 0 n .rounds ≡ binaryDigits n
+    rounds-reached = search.rounds-reached passes n
 
-    pub rounds-at-least : binaryDigits (n + 1) ≤ halving passes n .rounds + 1
-    rounds-at-least = halved.rounds-fewest passes n
+    pub rounds-at-least : binaryDigits (n + 1) ≤ halving passes 0 n .rounds + 1
+    rounds-at-least = search.rounds-fewest passes n
 
--- d binary digits are the fewest with which n can be written
+-- binaryDigits n is the least d with n below 2 to the power d
 pub digits-exactly : (n d : ℕ) → (binaryDigits n ≡ d) ↔ ((n < 2 ^ d) × ((e : ℕ) → e < d → 2 ^ e ≤ n))
-digits-exactly = laws.digits-exactly
+digits-exactly = search.digits-exactly
 
 pub digits-given : (binaryDigits 0 ≡ 0) × (binaryDigits 4095 ≡ 12) × (binaryDigits 4096 ≡ 13)
 unfolding binaryDigits
 digits-given = (refl, refl, refl)
 
--- Of any table: the search compares the times of the track's samples with the own one, by their numbers within the track; its
--- rounds are at most the binary digits of how many they are
-module _ (y : Layout) (n k : ℕ) where
+-- Of any table: the search compares the times of the track's samples with the own one, by their numbers within the track; without
+-- a track there are none. Its rounds are at most the binary digits of how many samples the track has
+module _ (y : Layout) (n : ℕ) where
   pub searched :
-      (k ≡ 0 → ⊥) →
-      baseSearch y n k ≡ halving (λ i. timeOf y (nth (samplesIn y k) i 0) ≤? timeOf y n) (length (samplesIn y k))
+      {k : ℕ} → (k ≡ 0 → ⊥) →
+      baseSearch y n k ≡ halving (λ i. timeOf y (nth (samplesIn y k) i 0) ≤? timeOf y n) 0 (length (samplesIn y k))
   searched = links.search-track y n
 
-  pub search-rounds : baseSearch y n k .rounds ≤ binaryDigits (length (samplesIn y k))
-  search-rounds = links.search-rounds y n k
+  pub untracked : baseSearch y n 0 ≡ record { found = 0; rounds = 0 }
+  untracked = links.search-untracked y n refl
 
--- In every accepted bundle what is found is the last sample at or before, by its number within the track; 0 is none
+  pub search-rounds : (k : ℕ) → baseSearch y n k .rounds ≤ binaryDigits (length (samplesIn y k))
+  search-rounds = links.search-rounds y n
+
+-- Where the times of a track rise, what is found is its last sample at or before, by its number within the track; 0 is none
+module _ (y : Layout) (n k : ℕ) (some : k ≡ 0 → ⊥) (rises : TrackRises y k) where
+  abbrev found : ℕ
+  found = baseSearch y n k .found
+
+  pub base-exactly : (c : ℕ) → ((0 < found) × (nth (samplesIn y k) found 0 ≡ c)) ↔ BaseOf y n k c
+  base-exactly = laws.base-exactly y n k some rises
+
+  pub base-missing : (found ≡ 0) ↔ ((m : ℕ) → Sampled y m k → timeOf y n < timeOf y m)
+  base-missing = laws.base-missing y n k some rises
+
+-- which they do in every accepted bundle
 module _ (b : List ℕ) (r : Recording) (accepted : firstLayout .means b ≡ ok r) where
-  module _ (n k : ℕ) where
-    abbrev found : ℕ
-    found = baseSearch (r .layout) n k .found
+  pub track-rises : (k : ℕ) → TrackRises (r .layout) k
+  track-rises = laws.track-rises b r accepted
 
-    pub base-exactly : (c : ℕ) → ((0 < found) × (nth (samplesIn (r .layout) k) found 0 ≡ c)) ↔ BaseOf (r .layout) n k c
-    base-exactly = laws.base-exactly b r accepted n k
-
-    pub base-missing : (found ≡ 0) ↔ ((m : ℕ) → Sampled (r .layout) m k → timeOf (r .layout) n < timeOf (r .layout) m)
-    base-missing = laws.base-missing b r accepted n k
-
-  -- as before: the last of all samples of the linked track that passes, by a scan; then as many samples on as sample_offset says
+  -- and there an extractor names what it named: sample_offset steps from the last sample at or before, found by a scan
   module _ (n index offset : ℕ) where
     abbrev linked : List ℕ
     linked = samplesIn (r .layout) (linkedTrack (r .layout) n index)
@@ -107,22 +118,22 @@ module _ (b : List ℕ) (r : Recording) (accepted : firstLayout .means b ≡ ok 
     abbrev last : ℕ
     last = lastThat (λ m. timeOf (r .layout) m ≤? timeOf (r .layout) n) linked
 
-    abbrev before : ℕ
-    before = 0 when last ≡? 0 else nth linked (stepped last (signed offset)) 0
+    abbrev scanned : ℕ
+    scanned = 0 when last ≡? 0 else nth linked (stepped last (signed offset)) 0
 
-    pub named-as-before : sampleNamed (r .layout) n index offset ≡ before
-    named-as-before = laws.named-as-before b r accepted n index offset
+    pub named-by-scan : sampleNamed (r .layout) n index offset ≡ scanned
+    named-by-scan = order.named-by-scan (r .layout) (firstLayout-sound .rise b r accepted) n index offset
 
-    pub fault-as-before :
-        nameFault (r .layout) n index offset ≡ (linkFault (r .layout) n index orElse noSampleNamed if before ≡? 0)
-    fault-as-before = laws.fault-as-before b r accepted n index offset
+    pub fault-by-scan :
+        nameFault (r .layout) n index offset ≡ (linkFault (r .layout) n index orElse noSampleNamed if scanned ≡? 0)
+    fault-by-scan = order.fault-by-scan (r .layout) (firstLayout-sound .rise b r accepted) n index offset
 
--- In numbers, of the answers given with the request: among samples of these times, for an own time, the number found and the
--- rounds
-abbrev among : List ℕ → ℕ → Search
-among times own = halving (λ i. nth times i 0 ≤? own) (length times)
+-- In numbers, of the answers given with the request (vectors/request-5.txt, where indexes count from 0): among samples of these
+-- times, for an own time, the number found, from 1, 0 for none, and the rounds
+abbrev among : List ℕ → ℕ → SearchResult
+among times own = halving (λ i. nth times i 0 ≤? own) 0 (length times)
 
-abbrev gives : ℕ → ℕ → Search
+abbrev gives : ℕ → ℕ → SearchResult
 gives found rounds = record { found = found; rounds = rounds }
 
 pub in-numbers :
@@ -138,5 +149,5 @@ pub in-numbers :
     × (among (0 ∷ 1 ∷ 2 ∷ 3 ∷ 4 ∷ 5 ∷ 12 ∷ 19 ∷ 26 ∷ 33 ∷ 34 ∷ 35 ∷ 36 ∷ 38 ∷ 39 ∷ []) 1 ≡ gives 2 4)
     × (among (5 ∷ 7 ∷ 8 ∷ 10 ∷ 12 ∷ 14 ∷ 15 ∷ 22 ∷ 23 ∷ 24 ∷ 31 ∷ 32 ∷ 34 ∷ 41 ∷ 42 ∷ 43 ∷ []) 15 ≡ gives 7 4)
     × (among (0 ∷ 1 ∷ 8 ∷ 9 ∷ 10 ∷ 17 ∷ 19 ∷ 20 ∷ 27 ∷ 29 ∷ 36 ∷ 43 ∷ 44 ∷ 51 ∷ 52 ∷ 54 ∷ []) 0 ≡ gives 1 4)
-unfolding searchFrom nth
+unfolding halvingIn nth
 in-numbers = (refl, refl, refl, refl, refl, refl, refl, refl, refl, refl, refl, refl, refl, refl, refl, refl, refl, refl, refl)

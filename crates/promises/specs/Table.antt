@@ -23,7 +23,7 @@ use Rattle.bundles.specs.References.{noSuchTrack, referenceFault, referencesVer
 use Rattle.bundles.specs.Samples.{orderFault, entryFault, samplesVerdict, sampleEntries, lengths, byteCountAt}
 use Rattle.bundles.specs.Bundles.{byteCountFault, bytesVerdict, bundleVerdict, layoutOf, recordingOf, meaning}
 use Rattle.bundles.specs.Readers.{firstLayout}
-use Rattle.links.specs.Halving.{searchFrom}
+use Rattle.links.specs.Halving.{halvingIn}
 use Rattle.links.specs.Links.{linkFault, linkedTrack, baseSearch, base, sampleNamed, nameFault}
 use Rattle.copies.specs.Copies.{copyEnd, copyEnds, copied, borderFault, copyFault}
 use Rattle.resolution_rules.specs.Resolving.{sampleOf, named, nameFaultAt, copyFaultAt, extractFault, judged}
@@ -168,7 +168,7 @@ unfolding table gives passes refuses fails recordVerdict bundle slice extractor 
     countFault referencesFrom samplesIn sizeAt trackFault tracksVerdict tracks referencesAt noSuchTrack referenceFault referencesVerdict
     references samplesAt orderFault entryFault samplesVerdict sampleEntries lengths byteCountAt byteCountFault bytesVerdict bundleVerdict
     layoutOf recordingOf meaning
-    searchFrom linkFault linkedTrack baseSearch base sampleNamed nameFault
+    halvingIn linkFault linkedTrack baseSearch base sampleNamed nameFault
     copyEnd copyEnds copied borderFault copyFault
     sampleOf named nameFaultAt copyFaultAt extractFault copiedAt deliveredAt delivered judged written output numberFault resolve
     resolveCall

@@ -9,7 +9,7 @@ use Rattle.words.specs.Tests.{_≤?_}
 use Rattle.bundles.specs.Limits.{sampleMost}
 use Rattle.bundles.specs.Recordings.{timeOf, samplesIn}
 use Rattle.tables.specs.Tables.{layoutIn}
-use Rattle.links.specs.declared.Search.{Search}
+use Rattle.links.specs.declared.SearchResult.{SearchResult}
 use Rattle.links.specs.Halving.{middle, binaryDigits}
 use Rattle.links.specs.Links.{baseSearch}
 use Rattle.links.proofs.Links.{search-rounds}
@@ -83,7 +83,7 @@ before-again c =
     searching-before _ _ (l .inv) (omega arith) (lt-leb (timeOf y (c .before .before .before .before .before .before .sample-range .result .before + middle (l .low) (l .high))) (c .before .before .before .before .before .before .before .sample-time .result) (omega arith))
 
 -- none is left
-done : (c : tie.After-loop Inv-loop μ-loop) → let a = c .before .before .before .before .before .before .args in _≡_ {A = Search} (record { found = c .before .loop .low; rounds = c .before .loop .rounds }) (baseSearch (layoutIn (a .t .now)) (a .n .0) (a .track .0))
+done : (c : tie.After-loop Inv-loop μ-loop) → let a = c .before .before .before .before .before .before .args in _≡_ {A = SearchResult} (record { found = c .before .loop .low; rounds = c .before .loop .rounds }) (baseSearch (layoutIn (a .t .now)) (a .n .0) (a .track .0))
 done c =
     let a = c .before .before .before .before .before .before .args in
     searching-done _ _ (c .before .loop .inv) (omega arith) ∙ rw (← c .before .before .before .before .sample-time .ensures, ← c .before .before .before .sample-range .ensures .0) at (base-searched (a .t .now) (a .n .0) (a .track .0))
@@ -91,7 +91,7 @@ done c =
 bounded : (c : tie.After-loop Inv-loop μ-loop) → let a = c .before .before .before .before .before .before .args in c .before .loop .rounds ≤ binaryDigits (length (samplesIn (layoutIn (a .t .now)) (a .track .0)))
 bounded c =
     let a = c .before .before .before .before .before .before .args in
-    rw (ap (λ (s : Search). s .rounds) (done c)) (search-rounds (layoutIn (a .t .now)) (a .n .0) (a .track .0))
+    rw (ap (λ (s : SearchResult). s .rounds) (done c)) (search-rounds (layoutIn (a .t .now)) (a .n .0) (a .track .0))
 
 returns : tie.Need-returns Inv-loop μ-loop
 returns c = (done c, bounded c)

@@ -8,7 +8,7 @@ use native.Mathlib.Nat.{pos-of-ne-zero}
 use Rattle.words.specs.Lists.{nth}
 use Rattle.bundles.specs.Recordings.{samplesIn}
 use Rattle.tables.specs.Tables.{layoutIn, rangeIn}
-use Rattle.links.specs.declared.Search.{Search}
+use Rattle.links.specs.declared.SearchResult.{SearchResult}
 use Rattle.links.specs.Links.{linkedTrack, base, sampleNamed}
 use Rattle.links.proofs.Links.{base-found}
 use Rattle.links.proofs.Cases.{range-most, base-most, base-track, named-no-base, named-at, linked-by, range-at, range-past}
@@ -21,7 +21,7 @@ linked c =
     linked-by (layoutIn (a .t .now)) (a .n .0) (a .index) (c .before .sample-track .ensures) (c .reference .ensures)
 
 found : (c : tie.After-find-base) → let a = c .before .before .before .before .args in c .find-base .result .found ≡ base (layoutIn (a .t .now)) (a .n .0) (c .before .reference .result .0)
-found c = let a = c .before .before .before .before .args in ap (λ (s : Search). s .found) (c .find-base .ensures .0) ∙ sym (base-found (layoutIn (a .t .now)) (a .n .0) (c .before .reference .result .0))
+found c = let a = c .before .before .before .before .args in ap (λ (s : SearchResult). s .found) (c .find-base .ensures .0) ∙ sym (base-found (layoutIn (a .t .now)) (a .n .0) (c .before .reference .result .0))
 
 -- the base is a sample of the range
 within : (c : tie.After-find-base) → let r = rangeIn (c .before .before .before .before .args .t .now) (c .before .reference .result .0) in c .find-base .result .found ≤ r .after - r .before
