@@ -1,6 +1,6 @@
 -- The search by halving, for any test, and binary digits. Assumes nothing.
 --
---   digits-above, digits-below, digits-exactly    binaryDigits n is the least d with n below 2 to the power d
+--   digits-above, digits-below, digits-least, digits-exactly    binaryDigits n is the least d with n below 2 to the power d
 --   middle-within, middle-earlier    the middle is one of the numbers left; as many stand before it as after it, or one fewer
 --   none-left                        when none is left
 --   round-after, round-before        one round, by whether the middle passes
@@ -59,18 +59,19 @@ digits-below (suc n) d h =
     (λ r. let f = eqb-false d (binaryDigits n) r in let g = below (omega arith) in omega arith))
     (λ q. let l = digits-same n (eqb-false (suc n) (2 ^ binaryDigits n) q) in let g = below (omega arith) in omega arith)
 
+pub digits-least : (n d : ℕ) → n < 2 ^ d → binaryDigits n ≤ d
+digits-least n d h = by-bool (ltb d (binaryDigits n))
+    (λ q. let g = digits-below n d (ltb-true d (binaryDigits n) q) in absurd (omega arith))
+    (λ q. ltb-false d (binaryDigits n) q)
+
 pub digits-exactly : (n d : ℕ) → (binaryDigits n ≡ d) ↔ ((n < 2 ^ d) × ((e : ℕ) → e < d → 2 ^ e ≤ n))
 digits-exactly n d = (
   (λ q. (subst (λ (k : ℕ). n < 2 ^ k) q (digits-above n), λ e h. digits-below n e (omega arith))),
   (λ w.
-      let above = digits-above n in
-      by-bool (ltb d (binaryDigits n))
-      (λ q. let g = digits-below n d (ltb-true d (binaryDigits n) q) in let h = w .0 in absurd (omega arith))
-      (λ q.
-      let most = ltb-false d (binaryDigits n) q in
+      let most = digits-least n d (w .0) in
       by-bool (ltb (binaryDigits n) d)
-      (λ r. let g = w .1 (binaryDigits n) (ltb-true (binaryDigits n) d r) in absurd (omega arith))
-      (λ r. let least = ltb-false (binaryDigits n) d r in omega arith))),
+      (λ q. let g = w .1 (binaryDigits n) (ltb-true (binaryDigits n) d q) in let h = digits-above n in absurd (omega arith))
+      (λ q. let least = ltb-false (binaryDigits n) d q in omega arith)),
 )
 
 power-some : (d : ℕ) → 0 < 2 ^ d

@@ -4,6 +4,7 @@
 --   linked-reference          then the linked track is that of a reference of the own track
 --   in-track, track-in        the samples of a track: those that there are, of that track
 --   track-rise                they rise
+--   track-fewer               fewer than there are where one is of another track
 --   search-untracked, search-track    the search for the base, without a track and in one
 --   search-rounds             its rounds are at most the binary digits of how many samples the track has
 --   base-found                the base is what it finds
@@ -25,10 +26,11 @@ use Rattle.words.specs.Lists.{some, nth, upto}
 use Rattle.words.proofs.Tests.{by-bool, count-within, within-count}
 use Rattle.words.proofs.Refusals.{if-none, orElse-none, NoneOr, none-or-if, none-or-orElse}
 use Rattle.words.proofs.Lists.{keep-mem, keep-from, upto-mem, upto-from, nth-mem, nth-found, has-from, Rising, rising-keep, rising-upto}
-use Rattle.words.proofs.Rows.{nth-none, nth-beyond}
+use Rattle.words.proofs.Rows.{upto-length, nth-none, nth-beyond}
 use Rattle.bundles.specs.Recordings.{Layout, Reference, noReference, sampleCount, trackOf, referencesFrom, samplesIn}
 use Rattle.links.specs.Halving.{ended, halving, binaryDigits}
 use Rattle.links.specs.Links.{signed, stepped, linkFault, linkedTrack, atOrBefore, baseSearch, base, sampleNamed, nameFault}
+use Rattle.links.proofs.Words.{keep-fewer}
 use Rattle.links.proofs.Halving.{rounds-digits}
 
 module _ (y : Layout) (n : ℕ) where
@@ -74,6 +76,14 @@ module _ (y : Layout) (n : ℕ) where
   pub track-rise : (k : ℕ) → Rising _<_ (samplesIn y k)
   unfolding samplesIn
   track-rise k = rising-keep _<_ (λ i. trackOf y i ≡? k) (upto (sampleCount y)) (rising-upto (sampleCount y))
+
+  -- a sample of another track is none of them
+  pub track-fewer : (k : ℕ) → 0 < n → n ≤ sampleCount y → (trackOf y n ≡ k → ⊥) → length (samplesIn y k) < sampleCount y
+  unfolding samplesIn
+  track-fewer k h l other =
+      let fewer = keep-fewer (λ i. trackOf y i ≡? k) n (upto (sampleCount y)) (upto-mem (sampleCount y) n h l) (ne-eqb _ _ other) in
+      let count = upto-length (sampleCount y) in
+      omega arith
 
   -- the search for the base
   pub search-untracked : {k : ℕ} → k ≡ 0 → baseSearch y n k ≡ ended 0

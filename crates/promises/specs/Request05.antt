@@ -23,7 +23,7 @@ use Rattle.words.specs.Tests.{_≤?_, _≡?_, _when_else_}
 use Rattle.words.specs.RefusalNumbers.{noSampleNamed}
 use Rattle.words.specs.Refusals.{ok, _if_, _orElse_}
 use Rattle.words.specs.Lists.{nth, lastThat}
-use Rattle.bundles.specs.Recordings.{Layout, Recording, timeOf, samplesIn}
+use Rattle.bundles.specs.Recordings.{Layout, Recording, sampleCount, timeOf, samplesIn}
 use Rattle.bundles.specs.Readers.{firstLayout}
 use Rattle.links.specs.declared.SearchResult.{SearchResult}
 use Rattle.links.specs.Halving.{middle, halvingIn, halving, binaryDigits}
@@ -109,6 +109,12 @@ module _ (y : Layout) (n k : ℕ) (some : k ≡ 0 → ⊥) (rises : TrackRises y
 module _ (b : List ℕ) (r : Recording) (accepted : firstLayout .means b ≡ ok r) where
   pub track-rises : (k : ℕ) → TrackRises (r .layout) k
   track-rises = laws.track-rises b r accepted
+
+  -- where the linked track of a sample has at most 4,095, since the sample itself is in another
+  pub twelve-rounds :
+      (n index : ℕ) → 0 < n → n ≤ sampleCount (r .layout) →
+      baseSearch (r .layout) n (linkedTrack (r .layout) n index) .rounds ≤ 12
+  twelve-rounds = laws.twelve-rounds b r accepted
 
   -- and there an extractor names what it named: sample_offset steps from the last sample at or before, found by a scan
   module _ (n index offset : ℕ) where
