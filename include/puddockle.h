@@ -42,8 +42,9 @@
  * The head of a bundle is its sections one to three (tracks with their records, references, sample entries), at most
  * 1.1 MB. puddockle_check_bundle goes over it once, every other call on a bundle twice: checked, then put in a table of
  * 134 KB on the stack. Of the sample bytes a call reads only what it is asked for. To judge a sample takes time as its
- * own bytes and, for each of its extractors, as the samples of the linked track and the bytes of the sample named,
- * which is checked and walked for each extractor anew. Each function says what it does of that.
+ * own bytes and, for each of its extractors, as the bytes of the sample named, which is checked and walked for each
+ * extractor anew. The base of an extractor is found with at most 12 comparisons. Each function says what it does of
+ * that.
  */
 #ifndef PUDDOCKLE_H
 #define PUDDOCKLE_H
@@ -416,7 +417,7 @@ uint32_t puddockle_unit(const uint8_t *bundle, size_t bundle_len,
  * Refusals, first that applies first: 1 to 13; 30 (no sample of that number); 29. *place is an offset in the bundle
  * for 1 to 13, else 0.
  * Accepted: *count bytes are written, PUDDOCKLE_NAMES_ENTRY for each. Refused: nothing is written, *count is 0.
- * Time: linear in the bundle, and for each extractor in the samples of its linked track.
+ * Time: linear in the bundle.
  */
 uint32_t puddockle_names(const uint8_t *bundle, size_t bundle_len,
                          uint64_t sample,
@@ -433,7 +434,7 @@ uint32_t puddockle_names(const uint8_t *bundle, size_t bundle_len,
  * stands at that place); 23, 24 of this extractor, at its place. Other extractors of the sample, and 25 to 28 of this
  * one, are not judged. *place is an offset in the bundle for 1 to 13 and in the sample for 14 to 24; 30 is at 0.
  * Accepted: *named is the number of the sample named; puddockle_names of that sample lists this extractor.
- * Time: the head of the bundle, linear in the sample's own bytes and in the samples of the linked track.
+ * Time: the head of the bundle, and linear in the sample's own bytes.
  */
 uint32_t puddockle_named(const uint8_t *bundle, size_t bundle_len,
                          uint64_t sample, uint64_t extractor,

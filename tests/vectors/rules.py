@@ -1,7 +1,8 @@
-"""The rules of docs/FORMAT.md in Python, for the answers of the vectors that make_contents makes and of stream.txt, from_stream.txt and included.txt.
+"""The rules of docs/FORMAT.md in Python, for the answers of the vectors that make_contents and make_base make and of stream.txt, from_stream.txt and
+included.txt.
 
-Written from FORMAT.md alone (`stream`, `from_stream` and `rows` from requests [2] to [4] of document 02), plainly and not for speed. A refusal is the
-exception No, with a number and a place.
+Written from FORMAT.md alone (`stream`, `from_stream`, `rows` and `halved` from requests [2] to [5] of document 02), plainly and not for speed. A refusal is
+the exception No, with a number and a place. `named_by` finds the base by a scan, and not by `halved`.
 """
 import re
 
@@ -235,6 +236,19 @@ def extractors(bundle, number):
 # Resolving
 
 
+def halved(times, own):
+    """The search of request [5]: the number of the base among the times, from 1, 0 for none; and its rounds."""
+    found, rounds, left = 0, 0, range(len(times))
+    while left:
+        middle = left[(len(left) - 1) // 2]  # the earlier of two
+        rounds += 1
+        if times[middle] <= own:
+            found, left = middle + 1, range(middle + 1, left.stop)
+        else:
+            left = range(left.start, middle)
+    return found, rounds
+
+
 def named_by(bundle, number, unit):
     """The sample that an extractor names. 23 and 24."""
     _, size, data = bundle.sample(number)
@@ -366,3 +380,15 @@ def named(data, number, place):
     if not found:
         raise No(30)
     return [named_by(bundle, number, found[0])]
+
+
+def times(data, number, track):
+    """The times of a track's samples, and that of a sample. The time is 0 where there is no such sample; no such track has no samples."""
+    bundle = Bundle(data)
+    own = bundle.samples[number - 1][1] if 1 <= number <= len(bundle.samples) else 0
+    return [time for of, time, _, _ in bundle.samples if of == track], own
+
+
+def base(data, number, track):
+    """What `halved` finds in a track, for a sample's time, and its rounds."""
+    return list(halved(*times(data, number, track)))

@@ -3,7 +3,8 @@
 --
 --   range-most                                the samples of a track end within the limit
 --   range-at, range-past                      the sample of a number within a track, and of one that none has
---   Searching                                 the search after some rounds; begun, one round more, done
+--   Searching                                 the search after some rounds
+--   searching-begun, searching-after, searching-before, searching-done    begun; one round more, by whether the middle passes; done
 --   base-searched, base-most                  the search for the base, in the table's times; the base is at most how many samples there are
 --   base-track                                where there is a base there is a track
 --   steps-ahead, steps-before, steps-back     signed steps from the base
@@ -34,8 +35,8 @@ use Rattle.links.specs.declared.Named.the-variants.{Refused, Sample}
 use Rattle.links.specs.Halving.{middle, halving}
 use Rattle.links.specs.Links.{linkFault, linkedTrack, baseSearch, base, signed, stepped, sampleNamed, nameFault}
 use Rattle.links.specs.Named.{naming}
-use Rattle.links.proofs.Halving.{middle-within, none-left, round-after, round-before, halving-same, ends}
-use Rattle.links.proofs.Links.{search-untracked, search-track, base-found}
+use Rattle.links.proofs.Halving.{middle-among, none-left, those-after, those-before, halving-same, ends}
+use Rattle.links.proofs.Links.{search-without-track, searched, base-found}
 
 -- the samples of a track
 total-below : (most n : ℕ) → atMost most n ≤ most
@@ -73,19 +74,19 @@ module _ (passes : ℕ → Bool) (n : ℕ) where
     module _ (some : low < high) where
       pub searching-after : passes (middle low high) ≡ true → Searching (middle low high) high (rounds + 1)
       searching-after t =
-          let w = middle-within low high some in
+          let w = middle-among low high some in
           let c = s .counted in
-          let r = round-after passes low high some t in
+          let r = those-after passes low high some t in
           let f = rw r at (s .found) in
           let k : rounds + (halving passes (middle low high) high .rounds + 1) ≡ halving passes 0 n .rounds = rw r at (s .rounds-left) in
           record { most = s .most; counted = omega arith; found = f; rounds-left = omega arith }
 
       pub searching-before : passes (middle low high) ≡ false → Searching low (middle low high - 1) (rounds + 1)
       searching-before t =
-          let w = middle-within low high some in
+          let w = middle-among low high some in
           let c = s .counted in
           let m = s .most in
-          let r = round-before passes low high some t in
+          let r = those-before passes low high some t in
           let f = rw r at (s .found) in
           let k : rounds + (halving passes low (middle low high - 1) .rounds + 1) ≡ halving passes 0 n .rounds = rw r at (s .rounds-left) in
           record { most = omega arith; counted = omega arith; found = f; rounds-left = omega arith }
@@ -111,10 +112,10 @@ module _ (t : List ℕ) (n k : ℕ) where
   -- the search in the table's times
   pub base-searched : halving (λ i. timeOf (layoutIn t) (rangeIn t k .before + i) ≤? timeOf (layoutIn t) n) 0 (rangeIn t k .after - rangeIn t k .before) ≡ baseSearch (layoutIn t) n k
   base-searched = by-bool (eqb k 0)
-      (λ q. let z = eqb-true k 0 q in rw (search-untracked (layoutIn t) n z, range-zero z) (none-left _ 0 0 (omega arith)))
+      (λ q. let z = eqb-true k 0 q in rw (search-without-track (layoutIn t) n z, range-zero z) (none-left _ 0 0 (omega arith)))
       (λ q.
       let h = eqb-false k 0 q in
-      rw (search-track (layoutIn t) n h, range-length h)
+      rw (searched (layoutIn t) n h, range-length h)
       (halving-same _ _ 0 _ (λ i u v. rw (range-at t k (pos-of-ne-zero h) i u v))))
 
   pub base-most : base (layoutIn t) n k ≤ rangeIn t k .after - rangeIn t k .before
@@ -122,7 +123,7 @@ module _ (t : List ℕ) (n k : ℕ) where
 
   -- where there is a base there is a track
   pub base-track : (base (layoutIn t) n k ≡ 0 → ⊥) → 0 < k
-  base-track h = pos-of-ne-zero (λ z. h (rw (base-found (layoutIn t) n k, search-untracked (layoutIn t) n z)))
+  base-track h = pos-of-ne-zero (λ z. h (rw (base-found (layoutIn t) n k, search-without-track (layoutIn t) n z)))
 
 -- signed steps, as the code takes them
 module _ (b offset : ℕ) where

@@ -1,14 +1,14 @@
 -- The search by halving, for any test, and binary digits. Assumes nothing.
 --
---   digits-above, digits-below, digits-least, digits-exactly    binaryDigits n is the least d with n below 2 to the power d
---   middle-within, middle-earlier    the middle is one of the numbers left; as many stand before it as after it, or one fewer
+--   digits-least, digits-exactly     binaryDigits n is the least d with n below 2 to the power d
+--   middle-among, middle-earlier    the middle is one of the numbers left; as many stand before it as after it, or one fewer
 --   none-left                        when none is left
---   round-after, round-before        one round, by whether the middle passes
+--   those-after, those-before        one round, by whether the middle passes
 --   halving-same                     tests that agree on the numbers left
---   Ends, ends                       what is found passes unless it is 0, and the number after it does not unless that is the last
---   last-found                       where every number before one that passes does too: the last that passes
---   rounds-digits                    the rounds are at most the binary digits of how many numbers there are
---   rounds-fewest                    and at least those of one number more, less one
+--   Ends, ends                       what is found lies from low up to high; it passes unless it is low; the next does not unless it is high
+--   last-found                       in a list where every element before one that passes does too: the last that passes
+--   rounds-at-most                    the rounds are at most the binary digits of how many numbers there are
+--   rounds-at-least                    and at least those of one number more, less one
 --   rounds-reached                   where every number passes they are as many as the binary digits
 use Prim.Native.Nat.{ℕ, zero, suc, _+_, _-_, _^_, _≤_, _<_}
 use mathlib.Core.Path.{_≡_, refl, sym, _∙_, subst}
@@ -38,7 +38,7 @@ no-digits : binaryDigits 0 ≡ 0
 unfolding binaryDigits
 no-digits = refl
 
-pub digits-above : (n : ℕ) → n < 2 ^ binaryDigits n
+digits-above : (n : ℕ) → n < 2 ^ binaryDigits n
 digits-above zero = rw no-digits (omega arith)
 digits-above (suc n) =
     let below = digits-above n in
@@ -46,7 +46,7 @@ digits-above (suc n) =
     (λ q. let e = eqb-true (suc n) (2 ^ binaryDigits n) q in rw (digits-more n e) (omega arith))
     (λ q. let e = eqb-false (suc n) (2 ^ binaryDigits n) q in rw (digits-same n e) (omega arith))
 
-pub digits-below : (n d : ℕ) → d < binaryDigits n → 2 ^ d ≤ n
+digits-below : (n d : ℕ) → d < binaryDigits n → 2 ^ d ≤ n
 digits-below zero d h = let z = no-digits in absurd (omega arith)
 digits-below (suc n) d h =
     let below = digits-below n d in
@@ -79,8 +79,8 @@ power-some zero = omega arith
 power-some (suc d) = let below = power-some d in omega arith
 
 -- the middle is one of the numbers left
-pub middle-within : (low high : ℕ) → low < high → (low < middle low high) × (middle low high ≤ high)
-middle-within low high h = (omega arith, omega arith)
+pub middle-among : (low high : ℕ) → low < high → (low < middle low high) × (middle low high ≤ high)
+middle-among low high h = (omega arith, omega arith)
 
 pub middle-earlier : (low high : ℕ) → low < high → (middle low high - (low + 1) ≡ high - middle low high) ⊎ (middle low high - (low + 1) + 1 ≡ high - middle low high)
 middle-earlier low high h = by-bool (eqb (middle low high - (low + 1)) (high - middle low high))
@@ -104,25 +104,25 @@ module _ (passes : ℕ → Bool) where
   enough (suc n) (suc k) low high h g =
       by-bool (ltb low high)
       (λ q.
-      let w = middle-within low high (ltb-true low high q) in
+      let w = middle-among low high (ltb-true low high q) in
       rw (enough n k (middle low high) high (omega arith) (omega arith), enough n k low (middle low high - 1) (omega arith) (omega arith)))
       (λ q. rw q)
 
   round : (low high : ℕ) → low < high → halving passes low high ≡ oneRoundMore (pick (passes (middle low high)) (halving passes (middle low high) high) (halving passes low (middle low high - 1)))
   unfolding halvingIn
   round low high h =
-      let w = middle-within low high h in
+      let w = middle-among low high h in
       by-number (high - low)
       (λ z. absurd (omega arith))
       (λ n z.
       rw (z, lt-ltb low high h, enough n (high - middle low high) (middle low high) high (omega arith) (omega arith), enough n (middle low high - 1 - low) low (middle low high - 1) (omega arith) (omega arith)))
 
   module _ (low high : ℕ) (some : low < high) where
-    pub round-after : passes (middle low high) ≡ true → halving passes low high ≡ oneRoundMore (halving passes (middle low high) high)
-    round-after e = round low high some ∙ rw e
+    pub those-after : passes (middle low high) ≡ true → halving passes low high ≡ oneRoundMore (halving passes (middle low high) high)
+    those-after e = round low high some ∙ rw e
 
-    pub round-before : passes (middle low high) ≡ false → halving passes low high ≡ oneRoundMore (halving passes low (middle low high - 1))
-    round-before e = round low high some ∙ rw e
+    pub those-before : passes (middle low high) ≡ false → halving passes low high ≡ oneRoundMore (halving passes low (middle low high - 1))
+    those-before e = round low high some ∙ rw e
 
   -- tests that agree on the numbers left
   halving-same-in : (other : ℕ → Bool) (n low high : ℕ) → ((i : ℕ) → low < i → i ≤ high → passes i ≡ other i) → halvingIn passes n low high ≡ halvingIn other n low high
@@ -131,7 +131,7 @@ module _ (passes : ℕ → Bool) where
   halving-same-in other (suc n) low high e = by-bool (ltb low high)
       (λ q.
       let m = middle low high in
-      let w = middle-within low high (ltb-true low high q) in
+      let w = middle-among low high (ltb-true low high q) in
       let a = halving-same-in other n m high (λ i u v. e i (omega arith) v) in
       let b = halving-same-in other n low (m - 1) (λ i u v. e i u (omega arith)) in
       rw (q, e m (w .0) (w .1), a, b))
@@ -177,10 +177,10 @@ module _ (passes : ℕ → Bool) where
       (λ q.
       let o = ltb-true low high q in
       let m = middle low high in
-      let w = middle-within low high o in
+      let w = middle-among low high o in
       by-bool (passes m)
-      (λ t. rw (round-after low high o t) (ends-after low high m _ (w .0) t (ends-within n m high (omega arith) (w .1))))
-      (λ t. rw (round-before low high o t) (ends-before low high m _ (w .0) (w .1) t (ends-within n low (m - 1) (omega arith) (omega arith)))))
+      (λ t. rw (those-after low high o t) (ends-after low high m _ (w .0) t (ends-within n m high (omega arith) (w .1))))
+      (λ t. rw (those-before low high o t) (ends-before low high m _ (w .0) (w .1) t (ends-within n low (m - 1) (omega arith) (omega arith)))))
       (λ q. let o = ltb-false low high q in rw (none-left low high o) (ends-none low high (omega arith)))
 
   pub ends : (n : ℕ) → Ends 0 n (halving passes 0 n .found)
@@ -194,8 +194,8 @@ module _ (passes : ℕ → Bool) where
       let o = ltb-true low high q in
       let m = middle low high in
       by-bool (passes m)
-      (λ t. let below = rounds-most d m high (omega arith) in rw (round-after low high o t) (omega arith))
-      (λ t. let below = rounds-most d low (m - 1) (omega arith) in rw (round-before low high o t) (omega arith)))
+      (λ t. let below = rounds-most d m high (omega arith) in rw (those-after low high o t) (omega arith))
+      (λ t. let below = rounds-most d low (m - 1) (omega arith) in rw (those-before low high o t) (omega arith)))
       (λ q. rw (none-left low high (ltb-false low high q)) (omega arith))
 
   rounds-least : (d low high : ℕ) → 2 ^ d ≤ high - low + 1 → d ≤ halving passes low high .rounds
@@ -205,35 +205,35 @@ module _ (passes : ℕ → Bool) where
       let o : low < high = omega arith in
       let m = middle low high in
       by-bool (passes m)
-      (λ t. let below = rounds-least d m high (omega arith) in rw (round-after low high o t) (omega arith))
-      (λ t. let below = rounds-least d low (m - 1) (omega arith) in rw (round-before low high o t) (omega arith))
+      (λ t. let below = rounds-least d m high (omega arith) in rw (those-after low high o t) (omega arith))
+      (λ t. let below = rounds-least d low (m - 1) (omega arith) in rw (those-before low high o t) (omega arith))
 
   -- where all pass, those after the middle are left in every round
   rounds-full : (d low high : ℕ) → ((i : ℕ) → low < i → i ≤ high → passes i ≡ true) → 2 ^ d ≤ high - low → d < halving passes low high .rounds
   rounds-full zero low high all h =
       let o : low < high = omega arith in
-      let w = middle-within low high o in
-      rw (round-after low high o (all (middle low high) (w .0) (w .1))) (omega arith)
+      let w = middle-among low high o in
+      rw (those-after low high o (all (middle low high) (w .0) (w .1))) (omega arith)
   rounds-full (suc d) low high all h =
       let p = power-some d in
       let o : low < high = omega arith in
       let m = middle low high in
-      let w = middle-within low high o in
+      let w = middle-among low high o in
       let below = rounds-full d m high (λ i u v. all i (omega arith) v) (omega arith) in
-      rw (round-after low high o (all m (w .0) (w .1))) (omega arith)
+      rw (those-after low high o (all m (w .0) (w .1))) (omega arith)
 
   module _ (n : ℕ) where
-    pub rounds-digits : halving passes 0 n .rounds ≤ binaryDigits n
-    rounds-digits = let h = digits-above n in rounds-most (binaryDigits n) 0 n (omega arith)
+    pub rounds-at-most : halving passes 0 n .rounds ≤ binaryDigits n
+    rounds-at-most = let h = digits-above n in rounds-most (binaryDigits n) 0 n (omega arith)
 
-    pub rounds-fewest : binaryDigits (n + 1) ≤ halving passes 0 n .rounds + 1
-    rounds-fewest = by-number (binaryDigits (n + 1))
+    pub rounds-at-least : binaryDigits (n + 1) ≤ halving passes 0 n .rounds + 1
+    rounds-at-least = by-number (binaryDigits (n + 1))
         (λ z. omega arith)
         (λ d z. let a = rounds-least d 0 n (let h = digits-below (n + 1) d (omega arith) in omega arith) in omega arith)
 
     pub rounds-reached : ((i : ℕ) → 0 < i → i ≤ n → passes i ≡ true) → halving passes 0 n .rounds ≡ binaryDigits n
     rounds-reached all =
-        let most = rounds-digits in
+        let most = rounds-at-most in
         by-number (binaryDigits n)
         (λ z. omega arith)
         (λ d z. let a = rounds-full d 0 n all (let h = digits-below n d (omega arith) in omega arith) in omega arith)

@@ -1,14 +1,16 @@
 -- Which sample is named, in any layout, whether its times rise or not. Assumes nothing.
 --
 --   link-none, link-good      no 23 exactly if track_ref_index is from 1 to the last
---   linked-reference          then the linked track is that of a reference of the own track
+--   Link, linked-reference    then the linked track is that of a reference of the own track
 --   in-track, track-in        the samples of a track: those that there are, of that track
 --   track-rise                they rise
 --   track-fewer               fewer than there are where one is of another track
---   search-untracked, search-track    the search for the base, without a track and in one
+--   search-without-track, searched    the search for the base, without a track and in one
 --   search-rounds             its rounds are at most the binary digits of how many samples the track has
---   base-found                the base is what it finds
+--   base-found, base-most     the base is what it finds, and one of the track's samples, or 0
 --   linked-none               with 23 there is no linked track, and no sample is named
+--   named-by-search           the sample named, by what the search finds
+--   named-baseless            without a base no sample is named
 --   named-there               a sample that is named is there, in the linked track
 --   name-none, name-good      no 23, no 24, both ways
 --   name-refusal              a refusal is 23 or 24
@@ -20,18 +22,18 @@ use native.Mathlib.Nat.{pos-of-ne-zero}
 use borrow.Author.Tests.{ltb-true, ltb-false, eq-eqb, ne-eqb, eqb-true, eqb-false}
 use lib.Dec.{ltb, eqb}
 use lib.ListN.{length}
-use Rattle.words.specs.Tests.{_≡?_, outOf}
+use Rattle.words.specs.Tests.{_≡?_, _when_else_, outOf}
 use Rattle.words.specs.RefusalNumbers.{badTrackRefIndex, noSampleNamed, nameRefusals}
 use Rattle.words.specs.Lists.{some, nth, upto}
 use Rattle.words.proofs.Tests.{by-bool, count-within, within-count}
 use Rattle.words.proofs.Refusals.{if-none, orElse-none, NoneOr, none-or-if, none-or-orElse}
 use Rattle.words.proofs.Lists.{keep-mem, keep-from, upto-mem, upto-from, nth-mem, nth-found, has-from, Rising, rising-keep, rising-upto}
 use Rattle.words.proofs.Rows.{upto-length, nth-none, nth-beyond}
+use Rattle.words.proofs.Kept.{keep-fewer}
 use Rattle.bundles.specs.Recordings.{Layout, Reference, noReference, sampleCount, trackOf, referencesFrom, samplesIn}
 use Rattle.links.specs.Halving.{ended, halving, binaryDigits}
 use Rattle.links.specs.Links.{signed, stepped, linkFault, linkedTrack, atOrBefore, baseSearch, base, sampleNamed, nameFault}
-use Rattle.links.proofs.Words.{keep-fewer}
-use Rattle.links.proofs.Halving.{rounds-digits}
+use Rattle.links.proofs.Halving.{ends, rounds-at-most}
 
 module _ (y : Layout) (n : ℕ) where
   -- 23
@@ -86,27 +88,32 @@ module _ (y : Layout) (n : ℕ) where
       omega arith
 
   -- the search for the base
-  pub search-untracked : {k : ℕ} → k ≡ 0 → baseSearch y n k ≡ ended 0
+  pub search-without-track : {k : ℕ} → k ≡ 0 → baseSearch y n k ≡ ended 0
   unfolding baseSearch
-  search-untracked z = rw z
+  search-without-track z = rw z
 
-  pub search-track : {k : ℕ} → (k ≡ 0 → ⊥) → baseSearch y n k ≡ halving (λ i. atOrBefore y (nth (samplesIn y k) i 0) n) 0 (length (samplesIn y k))
+  pub searched : {k : ℕ} → (k ≡ 0 → ⊥) → baseSearch y n k ≡ halving (λ i. atOrBefore y (nth (samplesIn y k) i 0) n) 0 (length (samplesIn y k))
   unfolding baseSearch
-  search-track {k} h = rw (ne-eqb k 0 h)
+  searched {k} h = rw (ne-eqb k 0 h)
 
   pub search-rounds : (k : ℕ) → baseSearch y n k .rounds ≤ binaryDigits (length (samplesIn y k))
   search-rounds k = by-bool (eqb k 0)
-      (λ q. rw (search-untracked (eqb-true k 0 q)) (omega arith))
-      (λ q. rw (search-track (eqb-false k 0 q)) (rounds-digits (λ i. atOrBefore y (nth (samplesIn y k) i 0) n) (length (samplesIn y k))))
+      (λ q. rw (search-without-track (eqb-true k 0 q)) (omega arith))
+      (λ q. rw (searched (eqb-false k 0 q)) (rounds-at-most (λ i. atOrBefore y (nth (samplesIn y k) i 0) n) (length (samplesIn y k))))
 
   pub base-found : (k : ℕ) → base y n k ≡ baseSearch y n k .found
   unfolding base
   base-found k = refl
 
+  pub base-most : (k : ℕ) → base y n k ≤ length (samplesIn y k)
+  base-most k = rw (base-found k) (by-bool (eqb k 0)
+      (λ q. rw (search-without-track (eqb-true k 0 q)) (omega arith))
+      (λ q. rw (searched (eqb-false k 0 q)) (ends _ (length (samplesIn y k)) .most)))
+
   -- no linked track
   named-default : (index offset : ℕ) → linkedTrack y n index ≡ 0 → sampleNamed y n index offset ≡ 0
   unfolding sampleNamed
-  named-default index offset e = rw (base-found (linkedTrack y n index), search-untracked e)
+  named-default index offset e = rw (base-found (linkedTrack y n index), search-without-track e)
 
   pub linked-none : (index offset : ℕ) → (linkFault y n index ≡ 0 → ⊥) → (linkedTrack y n index ≡ 0) × (sampleNamed y n index offset ≡ 0)
   linked-none index offset h =
@@ -118,6 +125,14 @@ module _ (y : Layout) (n : ℕ) where
       (t, named-default index offset t)
 
   -- the sample named
+  pub named-by-search : (index offset : ℕ) → let k = linkedTrack y n index in let b = baseSearch y n k .found in sampleNamed y n index offset ≡ (0 when b ≡? 0 else nth (samplesIn y k) (stepped b (signed offset)) 0)
+  unfolding sampleNamed
+  named-by-search index offset = rw (← base-found (linkedTrack y n index))
+
+  pub named-baseless : (index offset : ℕ) → base y n (linkedTrack y n index) ≡ 0 → sampleNamed y n index offset ≡ 0
+  unfolding sampleNamed
+  named-baseless index offset e = rw e
+
   pub named-there : (index offset : ℕ) → 0 < sampleNamed y n index offset → List·Memᴰ (sampleNamed y n index offset) (samplesIn y (linkedTrack y n index))
   unfolding sampleNamed
   named-there index offset h =

@@ -14,7 +14,6 @@
 --   base-is                      the base is the last sample of the track at or before, by its number there
 --   base-number                  the base by its number in the recording
 --   named-by-scan, fault-by-scan    the sample named, and 23 and 24, by the last sample at or before
---   named-baseless               without a base no sample is named
 --   named-up, named-past         sample_offset 0 to 127: that many samples after the base, or none
 --   named-down, named-short      sample_offset 128 to 255, which is less by 256: that many samples before the base, or none
 --   named-steps                  the four together
@@ -41,15 +40,15 @@ use Rattle.bundles.proofs.Promises.{Ordered, samples-ordered}
 use Rattle.tables.proofs.Ranges.{keep-range}
 use Rattle.links.specs.Links.{signed, stepped, linkFault, linkedTrack, atOrBefore, base, sampleNamed, nameFault}
 use Rattle.links.specs.Order.{TracksRise, TrackRises, TimesRise, before, upTo, baseSample, Base, Steps}
-use Rattle.links.proofs.Words.{mem-nth, rising-nth, last-most, last-passes, last-later, last-count, last-down}
+use Rattle.links.proofs.Words.{mem-nth, rising-nth, last-passes, last-later, last-count, last-down}
 use Rattle.links.proofs.Halving.{last-found}
-use Rattle.links.proofs.Links.{in-track, track-rise, search-untracked, search-track, base-found}
+use Rattle.links.proofs.Links.{in-track, track-rise, search-without-track, searched, base-found, base-most}
 
 pub ordered-rise : (y : Layout) → Ordered y → TimesRise y
 ordered-rise y o = record {
   tracks = λ i j h l k. rising-nth InOrder (y .entries) (o .rise) i j noEntry h l k .track;
   numbered = λ i h l. let x = o .exist (nth-mem (y .entries) i noEntry h l) in omega arith;
-  times = λ i j h l k e. rising-nth InOrder (y .entries) (o .rise) i j noEntry h l k .time e;
+  times = λ k i j h l u e f. rising-nth InOrder (y .entries) (o .rise) i j noEntry h l u .time (e ∙ sym f);
 }
 
 pub bundle-rise : (b : List ℕ) (r : Recording) → meaning b ≡ ok r → TimesRise (r .layout)
@@ -87,11 +86,11 @@ module _ (y : Layout) (rise : TracksRise y) where
   unfolding before
   before-most k = last-count (λ m. trackOf y m <? k) (sampleCount y)
 
-  pub upTo-most : (k : ℕ) → upTo y k ≤ sampleCount y
+  upTo-most : (k : ℕ) → upTo y k ≤ sampleCount y
   unfolding upTo
   upTo-most k = last-count (λ m. trackOf y m ≤? k) (sampleCount y)
 
-  pub before-upTo : (k : ℕ) → before y k ≤ upTo y k
+  before-upTo : (k : ℕ) → before y k ≤ upTo y k
   before-upTo k =
       by-number (before y k)
       (λ z. omega arith)
@@ -111,14 +110,14 @@ module _ (y : Layout) (rise : TracksRise y) where
       between (trackOf y m) k m (before y k) (upTo y k) (before-test k m (u .0) (u .1)) (upTo-test k m (u .0) (u .1)))
       ∙ keep-range (before y k) (upTo y k) (sampleCount y) (upTo-most k)
 
-  pub range-length : (k : ℕ) → length (samplesIn y k) ≡ upTo y k - before y k
+  range-length : (k : ℕ) → length (samplesIn y k) ≡ upTo y k - before y k
   range-length k = rw (samples-range k) (length-map (upto (upTo y k - before y k)) (λ i. before y k + i) ∙ upto-length (upTo y k - before y k))
 
   -- the ith sample of track k, from 1
-  pub sample-number : (k i : ℕ) → 0 < i → before y k + i ≤ upTo y k → nth (samplesIn y k) i 0 ≡ before y k + i
+  sample-number : (k i : ℕ) → 0 < i → before y k + i ≤ upTo y k → nth (samplesIn y k) i 0 ≡ before y k + i
   sample-number k i h l = rw (samples-range k) (nth-upto (λ j. before y k + j) (upTo y k - before y k) i 0 h (omega arith))
 
-  pub sample-past : (k i : ℕ) → upTo y k < before y k + i → nth (samplesIn y k) i 0 ≡ 0
+  sample-past : (k i : ℕ) → upTo y k < before y k + i → nth (samplesIn y k) i 0 ≡ 0
   sample-past k i l = let a = range-length k in let b = before-upTo k in nth-beyond (samplesIn y k) i 0 (omega arith)
 
 -- the base in track k, by its number there
@@ -135,13 +134,10 @@ module _ (y : Layout) (n k : ℕ) where
         le-leb (timeOf y (nth (samplesIn y k) i 0)) (timeOf y n) (omega arith)
 
     pub base-rising : base y n k ≡ lastThat (λ m. atOrBefore y m n) (samplesIn y k)
-    base-rising = base-found y n k ∙ rw (search-track y n some) (last-found (λ m. atOrBefore y m n) (samplesIn y k) 0 earlier-too)
+    base-rising = base-found y n k ∙ rw (searched y n some) (last-found (λ m. atOrBefore y m n) (samplesIn y k) 0 earlier-too)
 
   -- where it is the last sample of the track at or before
   module _ (is : base y n k ≡ lastThat (λ m. atOrBefore y m n) (samplesIn y k)) where
-    base-most : base y n k ≤ length (samplesIn y k)
-    base-most = rw is (last-most (λ m. atOrBefore y m n) (samplesIn y k))
-
     base-later : (i : ℕ) → base y n k < i → i ≤ length (samplesIn y k) → atOrBefore y (nth (samplesIn y k) i 0) n ≡ false
     base-later i h l = last-later (λ m. atOrBefore y m n) (samplesIn y k) 0 i (rw is at h) l
 
@@ -152,7 +148,7 @@ module _ (y : Layout) (n k : ℕ) where
 
     pub base-last : 0 < base y n k → Base y n k
     base-last h = record {
-      there = nth-mem (samplesIn y k) (base y n k) 0 h base-most;
+      there = nth-mem (samplesIn y k) (base y n k) 0 h (base-most y n k);
       passes = rw is (last-passes (λ m. atOrBefore y m n) (samplesIn y k) 0 (rw is at h));
       last = λ m j u.
           let w = mem-nth (samplesIn y k) m 0 j in
@@ -160,7 +156,7 @@ module _ (y : Layout) (n k : ℕ) where
           (λ q. rw (w .2) at (base-later (w .0) (ltb-true _ _ q) (w .1 .1)))
           (λ q.
           let v : w .0 ≤ base y n k = ltb-false _ _ q in
-          let z = base-most in
+          let z = base-most y n k in
           let r : m ≤ baseSample y n k = by-bool (eqb (w .0) (base y n k))
           (λ s. let c : w .0 ≡ base y n k = eqb-true _ _ s in let d : baseSample y n k ≡ m = rw c at (w .2) in omega arith)
           (λ s. let c : (w .0 ≡ base y n k) → ⊥ = eqb-false _ _ s in let d : m < baseSample y n k = rw (w .2) at (rising-nth _<_ (samplesIn y k) (track-rise y n k) (w .0) (base y n k) 0 (w .1 .0) (omega arith) z) in omega arith) in
@@ -188,12 +184,12 @@ module _ (y : Layout) (rise : TimesRise y) where
     pub base-is : base y n k ≡ lastThat (λ m. atOrBefore y m n) (samplesIn y k)
     unfolding lastThat
     base-is = by-bool (k ≡? 0)
-        (λ q. let z : k ≡ 0 = eqb-true k 0 q in base-found y n k ∙ rw (search-untracked y n z, z, no-samples))
-        (λ q. base-rising y n k (eqb-false k 0 q) (λ i j h l u e f. rise .times i j h l u (e ∙ sym f)))
+        (λ q. let z : k ≡ 0 = eqb-true k 0 q in base-found y n k ∙ rw (search-without-track y n z, z, no-samples))
+        (λ q. base-rising y n k (eqb-false k 0 q) (rise .times k))
 
     -- by its number in the recording
     base-fits : before y k + base y n k ≤ upTo y k
-    base-fits = let a = base-most y n k base-is in let b = range-length y (rise .tracks) k in let c = before-upTo y (rise .tracks) k in omega arith
+    base-fits = let a = base-most y n k in let b = range-length y (rise .tracks) k in let c = before-upTo y (rise .tracks) k in omega arith
 
     pub base-number : 0 < base y n k → baseSample y n k ≡ before y k + base y n k
     base-number h = sample-number y (rise .tracks) k (base y n k) h base-fits
@@ -216,10 +212,6 @@ module _ (y : Layout) (rise : TimesRise y) where
     pub fault-by-scan : nameFault y n index offset ≡ (linkFault y n index orElse noSampleNamed if scanned ≡? 0)
     unfolding nameFault
     fault-by-scan = rw named-by-scan
-
-  pub named-baseless : (n index offset : ℕ) → base y n (linkedTrack y n index) ≡ 0 → sampleNamed y n index offset ≡ 0
-  unfolding sampleNamed
-  named-baseless n index offset e = rw e
 
   -- signed steps
   module _ (n index offset : ℕ) (found : 0 < base y n (linkedTrack y n index)) where

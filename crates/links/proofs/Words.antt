@@ -1,7 +1,6 @@
--- Laws of the nth element, of what is kept and of the last that passes, which belong to words. Assumes nothing.
+-- Laws of the nth element and of the last that passes, which belong to words. Assumes nothing.
 --
 --   mem-nth, rising-nth        an element has a number; elements of a rising list, by their numbers
---   keep-fewer                 fewer are kept where one does not pass
 --   last-most                  `lastThat` is the number of an element, or 0
 --   last-passes, last-later    it passes, and no later one does
 --   last-count                 of the numbers up to n: at most n
@@ -17,11 +16,10 @@ use borrow.Author.Tests.{leb-true, leb-false}
 use lib.Dec.{leb, eqb, eqb·suc-zero}
 use lib.ListN.{length, getD}
 use Rattle.words.specs.Tests.{_≤?_}
-use Rattle.words.specs.Lists.{keep, nth, upto, lastThat}
+use Rattle.words.specs.Lists.{nth, upto, lastThat}
 use Rattle.words.proofs.Tests.{by-bool, by-number, bool-same, true-false}
 use Rattle.words.proofs.Lists.{nth-mem, Rising}
 use Rattle.words.proofs.Rows.{upto-length, upto-at}
-use Rattle.words.proofs.Kept.{keep-few}
 
 module _ {A : Type 0} where
   getD-step : (a : A) (xs : List A) (i : ℕ) (d : A) → 0 < i → getD (a ∷ xs) i d ≡ nth xs i d
@@ -47,19 +45,6 @@ module _ {A : Type 0} where
   rising-nth R (x ∷ xs) r (suc i) (suc zero) d h l k = absurd (omega arith)
   rising-nth R (x ∷ xs) r (suc zero) (suc (suc j)) d h l k = r .0 (nth xs (suc j) d) (nth-mem xs (suc j) d (omega arith) (omega arith))
   rising-nth R (x ∷ xs) r (suc (suc i)) (suc (suc j)) d h l k = rising-nth R xs (r .1) (suc i) (suc j) d (omega arith) (omega arith) (omega arith)
-
--- one that does not pass is not kept
-pub keep-fewer : {A : Type 0} (t : A → Bool) (x : A) (xs : List A) → List·Memᴰ x xs → t x ≡ false → length (keep t xs) < length xs
-unfolding keep
-keep-fewer t x [] m f = absurd (List·Memᴰ·not-nil m)
-keep-fewer t x (a ∷ xs) m f =
-    let few = keep-few t xs in
-    by-bool (t a)
-    (λ p. ⊎-elim
-    (λ e. true-false _ p (rw (← e) f))
-    (λ k. let below = keep-fewer t x xs k f in rw p (omega arith))
-    (List·Memᴰ·cases-cons m))
-    (λ p. rw p (omega arith))
 
 -- the last that passes
 module _ {A : Type 0} (t : A → Bool) where

@@ -21,7 +21,7 @@ oneRoundMore r = record { found = r .found; rounds = r .rounds + 1 }
 
 module _ (passes : ℕ → Bool) where
   -- A round looks at the middle number: if it passes, those after it are left, else those before it. When none is left, low is what
-  -- was found; the search does not end before.
+  -- was found.
   unfoldable pub halvingIn : ℕ → ℕ → ℕ → SearchResult
   halvingIn zero low high = ended low
   halvingIn (suc n) low high =
@@ -29,7 +29,7 @@ module _ (passes : ℕ → Bool) where
       let left = pick (passes m) (halvingIn n m high) (halvingIn n low (m - 1)) in
       pick (low <? high) (oneRoundMore left) (ended low)
 
-  -- Each round takes away one number at least, so there are at most as many rounds as numbers.
+  -- As many rounds as numbers are enough, since each takes one away at least: the search ends when none is left, and not before.
   abbrev pub halving : ℕ → ℕ → SearchResult
   halving low high = halvingIn (high - low) low high
 

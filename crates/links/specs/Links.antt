@@ -48,8 +48,8 @@ module _ (y : Layout) where
   abbrev pub atOrBefore : ℕ → ℕ → Bool
   atOrBefore m n = timeOf y m ≤? timeOf y n
 
-  -- The search for the base: the samples of the linked track are halved, by their numbers within the track (02, [5]). Without a track
-  -- there are none.
+  -- The search for the base: the samples of the linked track are halved, by their numbers within the track (02, [5]). 0 is no track:
+  -- nothing is searched, and nothing found.
   unfoldable pub baseSearch : ℕ → ℕ → SearchResult
   baseSearch n track =
       let samples = samplesIn y track in

@@ -3,7 +3,7 @@
 --
 --   TracksRise y     track numbers never fall
 --   TrackRises y k   within track k times strictly rise
---   TimesRise y      besides, tracks are numbered from 1, and within a track times strictly rise
+--   TimesRise y      track numbers never fall, tracks are numbered from 1, and within each track times strictly rise
 --   before y k       the last sample of the tracks before track k; 0 is none
 --   upTo y k         the last sample of the tracks up to track k
 --   baseSample       the base, by its number in the recording; 0 is none
@@ -28,7 +28,7 @@ module _ (y : Layout) where
   pub record TimesRise : Type 0 where
     pub tracks : TracksRise
     pub numbered : (i : ℕ) → 0 < i → i ≤ sampleCount y → 0 < trackOf y i
-    pub times : (i j : ℕ) → 0 < i → i < j → j ≤ sampleCount y → trackOf y i ≡ trackOf y j → timeOf y i < timeOf y j
+    pub times : (k : ℕ) → TrackRises k
 
   unfoldable pub before : ℕ → ℕ
   before k = lastThat (λ m. trackOf y m <? k) (upto (sampleCount y))

@@ -50,7 +50,7 @@ fn range_size(range: SampleRange) -> usize
 }
 
 // The base, searched by halving: the last sample of a track at or before sample n, where the track's times rise. Those left are the
-// samples after `low`, up to `high`, by their numbers within the track. Track 0 has none.
+// samples after `low`, up to `high`, by their numbers within the track. 0 is no track: nothing is searched, and nothing found.
 pub fn find_base(t: &[u64], n: SampleNumber, track: TrackNumber) -> SearchResult
     ensures { λ r. ⌜ (r ≡ baseSearch (layoutIn (now (t .entry))) (n .0) (track .0)) × (r .rounds ≤ binaryDigits (length (samplesIn (layoutIn (now (t .entry))) (track .0)))) ⌝ }
 {

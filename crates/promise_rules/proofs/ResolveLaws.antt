@@ -1,4 +1,11 @@
 -- The proofs of what Demands says of resolving. Assumes nothing.
+--
+--   base-one                          there is one base
+--   in-samples                        a sample of a track is among its samples
+--   base-of, of-base                  the base in plain facts, both ways
+--   names-by, by-names                the sample named
+--   extraction, extraction-is         what an extractor stands for
+--   good-sample, sample-good, good-exactly    no fault of 14 to 28
 use Prim.Native.Nat.{ℕ, _+_, _-_, _≤_, _<_}
 use mathlib.Core.Path.{_≡_, refl, sym, _∙_, subst}
 use mathlib.Core.List.{List}
@@ -17,8 +24,8 @@ use Rattle.units.specs.Aggregators.{units, extractors}
 use Rattle.bundles.specs.Recordings.{Layout, Recording, noReference, trackOf, referencesFrom, samplesIn}
 use Rattle.links.specs.Links.{linkFault, linkedTrack, atOrBefore, base, sampleNamed, nameFault}
 use Rattle.links.specs.Order.{TimesRise, baseSample, before, upTo}
-use Rattle.links.proofs.Links.{link-none, link-good, in-track, track-in, named-there, name-none, name-good}
-use Rattle.links.proofs.Order.{base-times, base-last, later-without, base-is, named-steps, named-baseless, before-test, upTo-test}
+use Rattle.links.proofs.Links.{link-none, link-good, in-track, track-in, named-baseless, named-there, name-none, name-good}
+use Rattle.links.proofs.Order.{base-times, base-last, later-without, base-is, named-steps, before-test, upTo-test}
 use Rattle.copies.specs.Copies.{copied}
 use Rattle.copies.proofs.Copied.{copy-rules, rules-copy}
 use Rattle.resolution_rules.specs.Resolving.{sampleOf, own, named, linked, judged}
@@ -102,7 +109,7 @@ module _ (y : Layout) (rise : TimesRise y) where
     names-by e =
         let a = name-none y n index offset e in
         let h : 0 < base y n track = by-number (base y n track)
-        (λ z. let q = named-baseless y rise n index offset z in let s = a .1 in absurd (omega arith))
+        (λ z. let q = named-baseless y n index offset z in let s = a .1 in absurd (omega arith))
         (λ k z. omega arith) in
         record {
           track = track;

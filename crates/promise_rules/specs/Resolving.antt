@@ -3,7 +3,7 @@
 --
 --   Sampled y m k            m is a sample of track k
 --   BaseOf y n k c           c is the last sample of track k at or before the time of sample n
---   TrackRises y k           within track k times strictly rise
+--   TimesRiseIn y k          within track k times strictly rise
 --   On offset c m            m is sample_offset samples on from c, by number; the byte is signed
 --   NamedBy y n index offset m    the extractor's track_ref_index and sample_offset name sample m
 --   CopyStarts z o           a copy of z may start at data_offset o
@@ -44,8 +44,8 @@ module _ (y : Layout) where
     pub last : (m : ℕ) → Sampled m k → c < m → timeOf y n < timeOf y m
 
   -- within track k times strictly rise
-  abbrev pub TrackRises : ℕ → Type 0
-  TrackRises k = (i j : ℕ) → Sampled i k → Sampled j k → i < j → timeOf y i < timeOf y j
+  abbrev pub TimesRiseIn : ℕ → Type 0
+  TimesRiseIn k = (i j : ℕ) → Sampled i k → Sampled j k → i < j → timeOf y i < timeOf y j
 
 -- 0 to 127 samples ahead; 128 to 255 are 256 less: 128 to 1 back
 pub data On (offset c m : ℕ) : Type 0 where

@@ -1,18 +1,21 @@
 -- Request [5] of document 02, 'Finding the base sample by halving', nearly in its words, as theorems in plain facts. The proofs
 -- stand in crates/links/proofs (Halving, Links, Order) and in crates/promise_rules/proofs/SearchLaws. Assumes nothing.
 --
---   halving passes low high    the search when the numbers after low, up to high, are left: what it finds, and its rounds
+--   halving passes low high    the search when the numbers after low, up to high, are left: what it finds, and its rounds; a
+--                              number passes if the sample that has it is at or before
 --   binaryDigits n             how many binary digits n has (both crates/links/specs/Halving)
 --   baseSearch y n k           the search for the base of sample n in track k (the same, Links); the public function that
 --                              searches, `find_base` of crates/links, answers with it, for any table
 --   Sampled y m k              m is a sample of track k (promise_rules/specs/Resolving)
 --   BaseOf y n k c             c is the last sample of track k at or before sample n (the same)
---   TrackRises y k             within track k times strictly rise (the same)
+--   TimesRiseIn y k            within track k times strictly rise (the same)
 --
 -- No other answer on a bundle changes. A refused bundle has no base. In an accepted one the sample named, 23 and 24 are what a
 -- scan of the linked track gives, as they were (`named-by-scan`, `fault-by-scan`), and no other definition of an answer uses the
--- base. Demands, Contents and Request01 to Request04 stay by text: what they say of the calls goes by `BaseOf`. Of a table whose
--- times do not rise, which no accepted bundle gives, another sample may be named than before.
+-- base. Demands, Contents and Request01 to Request04 stay by text; where they speak of the base they do by `BaseOf`: what
+-- resolving, units, audit lines, naming lists, byte streams and the sample named are (`resolved-exactly`, `resolve-refused`,
+-- `unit-gives`, `line-each`, `listed-exactly` of Demands, `stream-exactly` of Request02, `named-exactly` of Contents). Of a table
+-- whose times do not rise, which no accepted bundle gives, another sample may be named than before.
 use Prim.Native.Nat.{ℕ, _+_, _-_, _^_, _≤_, _<_}
 use mathlib.Core.Path.{_≡_, refl}
 use mathlib.Core.Bool.{Bool, true, false}
@@ -32,13 +35,13 @@ use Rattle.links.proofs.Halving as search
 use Rattle.links.proofs.Links as links
 use Rattle.links.proofs.Order as order
 use Rattle.resolution_rules.proofs.Readers.{firstLayout-sound}
-use Rattle.promise_rules.specs.Resolving.{Sampled, BaseOf, TrackRises}
+use Rattle.promise_rules.specs.Resolving.{Sampled, BaseOf, TimesRiseIn}
 use Rattle.promise_rules.proofs.SearchLaws as laws
 
 -- Each round compares the middle of those left, the earlier of two: as many stand before it as after it, or one fewer
 module _ (low high : ℕ) (some : low < high) where
   pub middle-among : (low < middle low high) × (middle low high ≤ high)
-  middle-among = search.middle-within low high some
+  middle-among = search.middle-among low high some
 
   pub middle-earlier :
       (middle low high - (low + 1) ≡ high - middle low high) ⊎ (middle low high - (low + 1) + 1 ≡ high - middle low high)
@@ -53,24 +56,24 @@ module _ (passes : ℕ → Bool) where
     pub those-after :
         passes (middle low high) ≡ true → let left = halving passes (middle low high) high in
         halving passes low high ≡ record { found = left .found; rounds = left .rounds + 1 }
-    those-after = search.round-after passes low high some
+    those-after = search.those-after passes low high some
 
     pub those-before :
         passes (middle low high) ≡ false → let left = halving passes low (middle low high - 1) in
         halving passes low high ≡ record { found = left .found; rounds = left .rounds + 1 }
-    those-before = search.round-before passes low high some
+    those-before = search.those-before passes low high some
 
   -- the rounds of a search among 1 to n: at most the binary digits of n, and just so many where every number passes; at least the
   -- binary digits of n + 1, less one
   module _ (n : ℕ) where
     pub rounds-at-most : halving passes 0 n .rounds ≤ binaryDigits n
-    rounds-at-most = search.rounds-digits passes n
+    rounds-at-most = search.rounds-at-most passes n
 
     pub rounds-reached : ((i : ℕ) → 0 < i → i ≤ n → passes i ≡ true) → halving passes 0 n .rounds ≡ binaryDigits n
     rounds-reached = search.rounds-reached passes n
 
     pub rounds-at-least : binaryDigits (n + 1) ≤ halving passes 0 n .rounds + 1
-    rounds-at-least = search.rounds-fewest passes n
+    rounds-at-least = search.rounds-at-least passes n
 
 -- binaryDigits n is the least d with n below 2 to the power d
 pub digits-exactly : (n d : ℕ) → (binaryDigits n ≡ d) ↔ ((n < 2 ^ d) × ((e : ℕ) → e < d → 2 ^ e ≤ n))
@@ -80,22 +83,28 @@ pub digits-given : (binaryDigits 0 ≡ 0) × (binaryDigits 4095 ≡ 12) × (bina
 unfolding binaryDigits
 digits-given = (refl, refl, refl)
 
--- Of any table: the search compares the times of the track's samples with the own one, by their numbers within the track; without
--- a track there are none. Its rounds are at most the binary digits of how many samples the track has
+-- Of any table: the search compares the times of the track's samples with the own one, by their numbers within the track; 0 is no
+-- track. Its rounds are at most the binary digits of how many samples the track has. The sample named is sample_offset steps from
+-- what it finds in the linked track
 module _ (y : Layout) (n : ℕ) where
   pub searched :
       {k : ℕ} → (k ≡ 0 → ⊥) →
       baseSearch y n k ≡ halving (λ i. timeOf y (nth (samplesIn y k) i 0) ≤? timeOf y n) 0 (length (samplesIn y k))
-  searched = links.search-track y n
+  searched = links.searched y n
 
-  pub untracked : baseSearch y n 0 ≡ record { found = 0; rounds = 0 }
-  untracked = links.search-untracked y n refl
+  pub search-without-track : baseSearch y n 0 ≡ record { found = 0; rounds = 0 }
+  search-without-track = links.search-without-track y n refl
 
   pub search-rounds : (k : ℕ) → baseSearch y n k .rounds ≤ binaryDigits (length (samplesIn y k))
   search-rounds = links.search-rounds y n
 
+  pub named-by-search :
+      (index offset : ℕ) → let k = linkedTrack y n index in let b = baseSearch y n k .found in
+      sampleNamed y n index offset ≡ (0 when b ≡? 0 else nth (samplesIn y k) (stepped b (signed offset)) 0)
+  named-by-search = links.named-by-search y n
+
 -- Where the times of a track rise, what is found is its last sample at or before, by its number within the track; 0 is none
-module _ (y : Layout) (n k : ℕ) (some : k ≡ 0 → ⊥) (rises : TrackRises y k) where
+module _ (y : Layout) (n k : ℕ) (some : k ≡ 0 → ⊥) (rises : TimesRiseIn y k) where
   abbrev found : ℕ
   found = baseSearch y n k .found
 
@@ -107,10 +116,10 @@ module _ (y : Layout) (n k : ℕ) (some : k ≡ 0 → ⊥) (rises : TrackRises y
 
 -- which they do in every accepted bundle
 module _ (b : List ℕ) (r : Recording) (accepted : firstLayout .means b ≡ ok r) where
-  pub track-rises : (k : ℕ) → TrackRises (r .layout) k
+  pub track-rises : (k : ℕ) → TimesRiseIn (r .layout) k
   track-rises = laws.track-rises b r accepted
 
-  -- where the linked track of a sample has at most 4,095, since the sample itself is in another
+  -- there a search in the linked track takes at most 12 rounds: it has at most 4,095 samples, since the own sample is in another
   pub twelve-rounds :
       (n index : ℕ) → 0 < n → n ≤ sampleCount (r .layout) →
       baseSearch (r .layout) n (linkedTrack (r .layout) n index) .rounds ≤ 12

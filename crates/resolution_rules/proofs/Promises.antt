@@ -46,7 +46,8 @@ use Rattle.bundles.specs.Recordings.{Recording, sampleCount, timeOf, samplesIn}
 use Rattle.bundles.specs.Readers.{Reader}
 use Rattle.links.specs.Links.{linkedTrack, base, sampleNamed}
 use Rattle.links.specs.Order.{TimesRise, baseSample, Steps}
-use Rattle.links.proofs.Order.{base-times, later-without, base-is, named-steps, named-baseless}
+use Rattle.links.proofs.Links.{named-baseless}
+use Rattle.links.proofs.Order.{base-times, later-without, base-is, named-steps}
 use Rattle.copies.specs.Extracted.{extracted}
 use Rattle.copies.specs.Written.{lengthBefore}
 use Rattle.resolution_rules.specs.Resolving.{Span, own, linked, copiedAt, deliveredAt, delivered, judged}
@@ -160,4 +161,4 @@ module _ (reader : Reader) (sound : Sound reader) (b : List ℕ) (r : Recording)
 
   pub none-without-base : (n index offset : ℕ) → base (r .layout) n (linkedTrack (r .layout) n index) ≡ 0 →
       (sampleNamed (r .layout) n index offset ≡ 0) × ((m : ℕ) → List·Memᴰ m (samplesIn (r .layout) (linkedTrack (r .layout) n index)) → timeOf (r .layout) n < timeOf (r .layout) m)
-  none-without-base n index offset e = (named-baseless (r .layout) rises n index offset e, later-without (r .layout) n (linkedTrack (r .layout) n index) (base-is (r .layout) rises n (linkedTrack (r .layout) n index)) e)
+  none-without-base n index offset e = (named-baseless (r .layout) n index offset e, later-without (r .layout) n (linkedTrack (r .layout) n index) (base-is (r .layout) rises n (linkedTrack (r .layout) n index)) e)

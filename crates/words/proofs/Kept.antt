@@ -3,7 +3,7 @@
 --   keep-yes, keep-no         one element more in front
 --   keep-same, keep-all       `keep` of tests that are equal on the list; where all pass
 --   keep-keep                 two tests, in either order
---   keep-few                  no more than there are
+--   keep-few, keep-fewer      no more than there are; fewer, where one does not pass
 --   keep-each                 `keep` over joined lists
 --   each-keep                 joined lists of the elements that pass
 --   some-false                where none passes
@@ -94,3 +94,15 @@ pub keep-few : {A : Type 0} (t : A → Bool) (xs : List A) → length (keep t xs
 unfolding keep
 keep-few t [] = omega arith
 keep-few t (x ∷ xs) = let h = keep-few t xs in by-bool (t x) (λ q. rw q (omega arith)) (λ q. rw q (omega arith))
+
+pub keep-fewer : {A : Type 0} (t : A → Bool) (x : A) (xs : List A) → List·Memᴰ x xs → t x ≡ false → length (keep t xs) < length xs
+unfolding keep
+keep-fewer t x [] m f = absurd (List·Memᴰ·not-nil m)
+keep-fewer t x (a ∷ xs) m f =
+    let few = keep-few t xs in
+    by-bool (t a)
+    (λ p. ⊎-elim
+    (λ e. true-false _ p (rw (← e) f))
+    (λ k. let below = keep-fewer t x xs k f in rw p (omega arith))
+    (List·Memᴰ·cases-cons m))
+    (λ p. rw p (omega arith))

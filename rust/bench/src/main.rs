@@ -1,5 +1,5 @@
 //! Audits one bundle with the library and the peer in turn: `bench [ROUNDS]`. Other calls: `bench contents [ROUNDS]`,
-//! `bench streams [ROUNDS]`, `bench unstream [ROUNDS]`.
+//! `bench streams [ROUNDS]`, `bench unstream [ROUNDS]`, `bench base [ROUNDS]`.
 //!
 //! 16 MiB with 4,096 samples, then a quarter and a sixteenth of both, in four and sixteen times the rounds. The best
 //! of the rounds counts. All answers are compared. The slice for the lines is written to before each call.
@@ -7,6 +7,7 @@
 //! The peer has two audits. Both check each sample's form once. The plain one walks a named sample from its front to
 //! find data_offset; the other keeps where all top-level units start, on the heap, and looks data_offset up.
 
+mod base;
 mod bundle;
 mod contents;
 mod streams;
@@ -25,11 +26,12 @@ type Times = [Duration; 3];
 
 fn main() {
     let mut words = std::env::args().skip(1).peekable();
-    let others = words.next_if(|word| ["contents", "streams", "unstream"].contains(&word.as_str()));
+    let others = words.next_if(|word| ["contents", "streams", "unstream", "base"].contains(&word.as_str()));
     let rounds = words.next().map_or(ROUNDS, |word| word.parse().expect("a number of rounds"));
     match others.as_deref() {
         Some("contents") => contents::run(rounds),
         Some("streams") => streams::run(rounds),
+        Some("base") => base::run(rounds),
         Some(_) => unstream::run(rounds),
         None => audits(rounds),
     }

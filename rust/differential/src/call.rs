@@ -10,6 +10,7 @@ use crate::buffer::{self, UNSET};
 use crate::byte_streams;
 use crate::contents;
 use crate::make::fields::MadeFields;
+use crate::search::ByScan;
 
 /// A call of the C interface with all its arguments. `room` is the length of the slice lent for the output,
 /// in numbers for `ReadRecord` and `Units`, else in bytes. `ReadBack` is `stream` and then `from_stream`, of a sample
@@ -44,6 +45,8 @@ pub struct Outcome {
     pub lines: Vec<u8>,
     /// What is said of the trailer (0 to 2) of each record that was accepted.
     pub trailers: Vec<u64>,
+    /// The search for a base sample by a scan, where an extractor was asked about that has a linked track.
+    pub search: Option<ByScan>,
     pub difference: Option<String>,
 }
 
@@ -100,7 +103,7 @@ pub fn outcome<T: PartialEq>(answer: Answer, given: Answer, expected: &T, writte
     } else {
         None
     };
-    Outcome { answer, lines: Vec::new(), trailers: Vec::new(), difference }
+    Outcome { answer, lines: Vec::new(), trailers: Vec::new(), search: None, difference }
 }
 
 fn read_record(kind: u32, record: &[u8], room: usize) -> Outcome {

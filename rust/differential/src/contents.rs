@@ -1,10 +1,12 @@
 //! The calls that say what is in a bundle, where delivered units stand, and what an extractor names.
 
 use peer::calls::{self, Answer};
+use peer::refusal::NO_SAMPLE;
 use puddockle::raw::*;
 
 use crate::buffer::{self, UNSET};
 use crate::call::{outcome, pointer, pointer_mut, Outcome};
+use crate::search;
 
 /// An answer before the call: `values` numbers are to be set.
 fn unset(values: usize) -> Answer {
@@ -74,5 +76,14 @@ pub fn named(bundle: &[u8], sample: u64, extractor: u64) -> Outcome {
     // SAFETY: as said above.
     given.number =
         unsafe { puddockle_named(pointer(bundle), bundle.len(), sample, extractor, &mut given.place, named) };
-    outcome(answer, given, &(), &())
+    let mut outcome = outcome(answer, given, &(), &());
+    if answer.number == 0 || answer.number == u32::from(NO_SAMPLE) {
+        let search = search::of(bundle, sample, extractor);
+        if outcome.difference.is_none() && search.named != answer.values[0] {
+            outcome.difference =
+                Some(format!("by a scan sample {} is named, library and peer answer {answer:?}", search.named));
+        }
+        outcome.search = Some(search);
+    }
+    outcome
 }

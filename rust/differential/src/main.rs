@@ -8,12 +8,14 @@ mod byte_streams;
 mod call;
 mod contents;
 mod fixed;
+mod fixed_bases;
 mod fixed_streams;
 mod make;
 mod places;
 mod random;
 mod report;
 mod rounds;
+mod search;
 mod text;
 
 use std::process::exit;
@@ -97,6 +99,7 @@ impl Run {
                 self.ask(Call::Audit { bundle, room: 26 });
             }
         }
+        self.fixed_bases();
         self.fixed_streams();
         for (index, bundle) in fixed::longest().iter().enumerate() {
             self.whence = format!("longest bundle {index}");
@@ -134,6 +137,23 @@ impl Run {
             self.whence = format!("fixed sample {sample:02x?}");
             for (kind, length_size) in [(0, 1), (1, 1), (1, 2), (0, 4), (2, 1), (1, 3), (256, 1), (1, 257)] {
                 self.ask(Call::CheckSample { kind, length_size, sample: &sample });
+            }
+        }
+    }
+
+    fn fixed_bases(&mut self) {
+        for (bundles, offsets) in [fixed_bases::short(), fixed_bases::long()] {
+            for (index, bundle) in bundles.iter().enumerate() {
+                self.whence = format!("fixed bundle with a linked track {index}");
+                let own = peer::calls::counts(bundle).values[2];
+                for place in 0..offsets.len() as u64 {
+                    self.ask(Call::Named { bundle, sample: own, extractor: fixed_bases::EXTRACTOR * place });
+                }
+                self.ask(Call::Resolve { bundle, sample: own, room: 6 * offsets.len() });
+                self.ask(Call::Audit { bundle, room: 13 * own as usize });
+                for sample in [1, own / 2 + 1, own - 1] {
+                    self.ask(Call::Names { bundle, sample, room: 6 * offsets.len() });
+                }
             }
         }
     }

@@ -4,9 +4,10 @@ use std::collections::BTreeMap;
 
 use crate::call::{Call, Outcome};
 
-/// The calls by name, with the numbers that documents 01 and 02 let each give (0: accepted). Then the numbers of audit lines,
-/// and what accepted records say of their trailer: 0 none, 1 absent, 2 present.
-const CALLS: [(&str, &[(u32, u32)]); 21] = [
+/// The calls by name, with the numbers that documents 01 and 02 let each give (0: accepted). Then the numbers of audit
+/// lines, and what accepted records say of their trailer: 0 none, 1 absent, 2 present. Then, of extractors asked about,
+/// what the base is, as search.rs numbers it, and the rounds of a search by halving, as the peer counts them.
+const CALLS: [(&str, &[(u32, u32)]); 23] = [
     ("read_record", &[(0, 0), (4, 4), (8, 13), (29, 29)]),
     ("write_record", &[(0, 0), (4, 4), (29, 29), (31, 31)]),
     ("check_sample", &[(0, 0), (4, 4), (11, 11), (14, 22)]),
@@ -28,6 +29,8 @@ const CALLS: [(&str, &[(u32, u32)]); 21] = [
     ("trailers read", &[(0, 2)]),
     ("trailers written", &[(0, 2)]),
     ("trailers in bundles", &[(0, 2)]),
+    ("bases", &[(0, 4)]),
+    ("rounds by the peer", &[(0, 12)]),
 ];
 
 #[derive(Default)]
@@ -76,6 +79,10 @@ impl Report {
         };
         for &trailer in &outcome.trailers {
             *self.counts.entry((trailers, trailer as u32)).or_default() += 1;
+        }
+        if let Some(search) = &outcome.search {
+            *self.counts.entry(("bases", search.base)).or_default() += 1;
+            *self.counts.entry(("rounds by the peer", search.rounds)).or_default() += 1;
         }
         for line in outcome.lines.chunks_exact(13) {
             *self.counts.entry(("audit lines", line[0] as u32)).or_default() += 1;

@@ -5,6 +5,7 @@ use peer::calls;
 use crate::call::Call;
 use crate::make::bundle::make_bundle;
 use crate::make::fields::{make_fields, MadeFields};
+use crate::make::long::{make_long, Long};
 use crate::make::record::make_bytes;
 use crate::make::sample::{make_sample, Manner};
 use crate::make::stream::make_stream;
@@ -23,6 +24,9 @@ fn kind(random: &mut Random) -> u32 {
 
 /// One round of a run.
 pub fn round(random: &mut Random, ask: &mut impl FnMut(Call)) {
+    if random.once_in(13) {
+        return long_round(random, ask);
+    }
     match random.below(9) {
         0 => record_round(random, ask),
         1 => fields_round(random, ask),
@@ -149,6 +153,30 @@ fn bundle_round(random: &mut Random, bundle: &[u8], ask: &mut impl FnMut(Call)) 
         let needed = names_length(bundle, sample);
         ask(Call::Names { bundle, sample, room: room(random, needed) });
     }
+}
+
+/// The calls that find base samples, on a bundle with long linked tracks.
+fn long_round(random: &mut Random, ask: &mut impl FnMut(Call)) {
+    let Long { bytes, own } = make_long(random);
+    let bundle = &bytes;
+    let samples = calls::counts(bundle).values[2];
+    if random.once_in(3) {
+        ask(Call::Audit { bundle, room: room(random, 13 * samples) });
+    }
+    let mut named = 0;
+    for sample in own {
+        let needed = resolved_length(bundle, sample);
+        ask(Call::Resolve { bundle, sample, room: room(random, needed) });
+        let extractors = places::of(bundle, sample).extractors;
+        for &extractor in &extractors {
+            ask(Call::Named { bundle, sample, extractor });
+        }
+        named = calls::sample_named(bundle, sample, extractors[0]).values[0];
+    }
+    // The list of what the last of them names, else any.
+    let sample = if named == 0 { random.near(samples) } else { named };
+    let needed = names_length(bundle, sample);
+    ask(Call::Names { bundle, sample, room: room(random, needed) });
 }
 
 /// What is in the bundle, the units of its samples, and what extractors name.

@@ -1,4 +1,4 @@
-//! An independent implementation of document 01 and of document 02's requests [1] to [4], written from the papers.
+//! An independent implementation of document 01 and of document 02's requests [1] to [5], written from the papers.
 //!
 //! The verified library is compared with it, answer by answer and in speed. Nothing here is shared with the
 //! library. Layouts are those of ISO/IEC 14496-15:2010, 5.2.4.1 and Annexes A and B, and of ISO/IEC 14496-10, Annex B;
@@ -12,6 +12,7 @@
 //! | `unit`, `form` | units of a sample, and the check of a sample's form |
 //! | `bundle`, `contents`, `forms` | a bundle read; what is in it; its samples' forms, each checked once |
 //! | `extractor`, `link`, `copy` | an extractor, the sample it names, what it copies |
+//! | `base` | the base sample found by halving, and by a scan; resolving uses neither |
 //! | `deliver`, `resolve` | the units that a sample delivers, written out, as parts, or one of them |
 //! | `stream` | the units that a sample delivers, written as a byte stream |
 //! | `from_stream` | a byte stream read into a sample |
@@ -21,6 +22,7 @@
 #![forbid(unsafe_code)]
 
 pub mod audit;
+pub mod base;
 pub mod bundle;
 pub mod calls;
 pub mod contents;

@@ -5,12 +5,13 @@ mod common;
 mod lines;
 
 use lines::{Answer, Calls};
+use peer::base::{base, Search};
 use peer::calls;
 use peer::record_writer::LentSets;
 
 #[test]
 fn every_line() {
-    lines::run::<Peer>();
+    lines::run::<Peer>(&[]);
 }
 
 struct Peer;
@@ -90,6 +91,16 @@ impl Calls for Peer {
 
     fn named(bundle: &[u8], sample: u64, extractor: u64) -> Answer {
         calls::sample_named(bundle, sample, extractor).into()
+    }
+
+    fn base(bundle: &[u8], sample: u64, track: u64) -> Option<Answer> {
+        Some(match base(bundle, sample, track) {
+            Ok(Search { found, rounds }) => {
+                let number = found.map_or(0, |index| index as u64 + 1);
+                Answer { values: [number, rounds as u64, 0, 0], ..Answer::default() }
+            }
+            Err(no) => Answer { number: no.number as u32, place: no.place as u64, ..Answer::default() },
+        })
     }
 
     fn program(bundle: &[u8]) -> String {

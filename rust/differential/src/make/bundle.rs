@@ -5,17 +5,17 @@ use super::sample::{make_sample, MadeSample, Manner};
 use super::{patch, put, AVC, SVC};
 use crate::random::Random;
 
-struct Track {
-    kind: u8,
-    length_size: usize,
-    record: Vec<u8>,
-    links: Vec<usize>,
+pub struct Track {
+    pub kind: u8,
+    pub length_size: usize,
+    pub record: Vec<u8>,
+    pub links: Vec<usize>,
 }
 
-struct Entry {
-    track: usize,
-    time: u64,
-    sample: MadeSample,
+pub struct Entry {
+    pub track: usize,
+    pub time: u64,
+    pub sample: MadeSample,
 }
 
 /// A bundle, good or damaged.
@@ -197,7 +197,7 @@ fn border_after(random: &mut Random, sample: &MadeSample, start: usize) -> usize
 }
 
 /// The bundle's bytes and where its four sections start, and its end.
-fn lay_out(tracks: &[Track], references: &[(usize, usize)], entries: &[Entry]) -> (Vec<u8>, [usize; 5]) {
+pub fn lay_out(tracks: &[Track], references: &[(usize, usize)], entries: &[Entry]) -> (Vec<u8>, [usize; 5]) {
     let mut sections = [0; 5];
     let mut bytes = vec![tracks.len() as u8];
     for track in tracks {

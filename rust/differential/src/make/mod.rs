@@ -2,6 +2,7 @@
 
 pub mod bundle;
 pub mod fields;
+pub mod long;
 pub mod record;
 pub mod sample;
 pub mod stream;

@@ -22,7 +22,8 @@ pub struct Answer {
     pub start: u64,
     pub length: u64,
     pub tally: [u64; 3],
-    /// What `counts`, `track`, `reference`, `sample` and `named` set, in the order of the C functions.
+    /// What `counts`, `track`, `reference`, `sample` and `named` set, in the order of the C functions. For `base` what
+    /// is found, and the rounds.
     pub values: [u64; 4],
 }
 
@@ -45,6 +46,11 @@ pub trait Calls: Sized {
     fn units(bundle: &[u8], sample: u64, spans: &mut [u64]) -> Answer;
     fn named(bundle: &[u8], sample: u64, extractor: u64) -> Answer;
 
+    /// What a search by halving finds in a track, and its rounds. None where there is no such call, as in C.
+    fn base(_bundle: &[u8], _sample: u64, _track: u64) -> Option<Answer> {
+        None
+    }
+
     /// What the program prints of a bundle that is not too big for it, by the audit's lines.
     fn program(bundle: &[u8]) -> String {
         let mut lines = vec![CANARY; 13 * 4096];
@@ -66,9 +72,11 @@ pub trait Calls: Sized {
 }
 
 /// Runs every line of every .txt file in the directory that PUDDOCKLE_VECTORS names (else tests/vectors beside this
-/// workspace). A line of a kind that is not known here fails the test.
-pub fn run<C: Calls>() {
+/// workspace). A line of a kind that is not known here fails the test; those that the implementation has no call for
+/// are left out, and must be of just these kinds.
+pub fn run<C: Calls>(no_call: &[&str]) {
     let mut kinds: BTreeMap<String, usize> = BTreeMap::new();
+    let mut left_out: BTreeMap<String, usize> = BTreeMap::new();
     let mut wrong = Vec::new();
     for path in common::files(&common::directory("PUDDOCKLE_VECTORS", "vectors"), "txt") {
         for (line, number) in common::text(&path).lines().zip(1..) {
@@ -77,7 +85,10 @@ pub fn run<C: Calls>() {
             }
             let (request, expected) = line.split_once(" = ").unwrap_or_else(|| panic!("no answer: {line}"));
             let words: Vec<&str> = request.split(' ').collect();
-            let given = answer::<C>(&words);
+            let Some(given) = asked::<C>(&words) else {
+                *left_out.entry(words[0].to_string()).or_default() += 1;
+                continue;
+            };
             *kinds.entry(words[0].to_string()).or_default() += 1;
             if given != expected {
                 wrong.push(format!("{}:{number}: expected {expected}, got {given}", path.display()));
@@ -87,8 +98,20 @@ pub fn run<C: Calls>() {
     for (kind, count) in &kinds {
         println!("{kind}: {count} lines");
     }
+    println!("left out: {left_out:?}");
+    assert!(left_out.keys().eq(no_call), "left out: {left_out:?}");
     assert!(wrong.is_empty(), "{} wrong:\n{}", wrong.len(), wrong.join("\n"));
     assert!(!kinds.is_empty(), "no lines");
+}
+
+/// The answer; none where the implementation has no such call.
+fn asked<C: Calls>(words: &[&str]) -> Option<String> {
+    match *words {
+        ["base", bytes, sample, track] => {
+            C::base(&hex(bytes), number(sample), number(track)).map(|answer| values(&answer, 2))
+        }
+        _ => Some(answer::<C>(words)),
+    }
 }
 
 fn answer<C: Calls>(words: &[&str]) -> String {

@@ -12,6 +12,7 @@ pub fn directory(variable: &str, default: &str) -> PathBuf {
 }
 
 /// The files of a directory with this ending, in the order of their names. None at all is a failure.
+#[allow(dead_code)]
 pub fn files(directory: &Path, ending: &str) -> Vec<PathBuf> {
     let entries = fs::read_dir(directory).unwrap_or_else(|error| panic!("{}: {error}", directory.display()));
     let mut found: Vec<PathBuf> = entries
