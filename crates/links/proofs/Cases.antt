@@ -5,7 +5,8 @@
 --   range-at, range-past                      the sample of a number within a track, and of one that none has
 --   Searching                                 the search after some rounds
 --   searching-begun, searching-after, searching-before, searching-done    begun; one round more, by whether the middle passes; done
---   base-searched, base-most                  the search for the base, in the table's times; the base is at most how many samples there are
+--   base-searched                             the search for the base, in the table's times
+--   base-in-range                             the base is at most how many samples the range of the track has
 --   base-track                                where there is a base there is a track
 --   steps-ahead, steps-before, steps-back     signed steps from the base
 --   link-zero, link-past                      23
@@ -35,8 +36,8 @@ use Rattle.links.specs.declared.Named.the-variants.{Refused, Sample}
 use Rattle.links.specs.Halving.{middle, halving}
 use Rattle.links.specs.Links.{linkFault, linkedTrack, baseSearch, base, signed, stepped, sampleNamed, nameFault}
 use Rattle.links.specs.Named.{naming}
-use Rattle.links.proofs.Halving.{middle-among, none-left, those-after, those-before, halving-same, ends}
-use Rattle.links.proofs.Links.{search-without-track, searched, base-found}
+use Rattle.links.proofs.Halving.{middle-among, none-left, those-after, those-before, halving-same}
+use Rattle.links.proofs.Links.{search-without-track, searched, base-found, base-most, named-baseless, named-stepped}
 
 -- the samples of a track
 total-below : (most n : ℕ) → atMost most n ≤ most
@@ -118,8 +119,10 @@ module _ (t : List ℕ) (n k : ℕ) where
       rw (searched (layoutIn t) n h, range-length h)
       (halving-same _ _ 0 _ (λ i u v. rw (range-at t k (pos-of-ne-zero h) i u v))))
 
-  pub base-most : base (layoutIn t) n k ≤ rangeIn t k .after - rangeIn t k .before
-  base-most = rw (base-found (layoutIn t) n k, ← base-searched) (ends _ (rangeIn t k .after - rangeIn t k .before) .most)
+  pub base-in-range : base (layoutIn t) n k ≤ rangeIn t k .after - rangeIn t k .before
+  base-in-range = by-bool (eqb k 0)
+      (λ q. rw (base-found (layoutIn t) n k, search-without-track (layoutIn t) n (eqb-true k 0 q)) (omega arith))
+      (λ q. rw (← range-length (eqb-false k 0 q)) (base-most (layoutIn t) n k))
 
   -- where there is a base there is a track
   pub base-track : (base (layoutIn t) n k ≡ 0 → ⊥) → 0 < k
@@ -157,12 +160,10 @@ module _ (y : Layout) (n index : ℕ) where
     -- the sample named, by the linked track k and the base b
     module _ {k : ℕ} (linked : k ≡ linkedTrack y n index) {b : ℕ} (found : b ≡ base y n k) where
       pub named-no-base : b ≡ 0 → sampleNamed y n index offset ≡ 0
-      unfolding sampleNamed
-      named-no-base e = rw (← linked, ← found, eq-eqb b 0 e)
+      named-no-base e = named-baseless y n index offset (rw (← linked, ← found) e)
 
       pub named-at : {j : ℕ} → (b ≡ 0 → ⊥) → j ≡ stepped b (signed offset) → sampleNamed y n index offset ≡ nth (samplesIn y k) j 0
-      unfolding sampleNamed
-      named-at {j} h e = rw (← linked, ← found, ne-eqb b 0 h, ← e)
+      named-at {j} h e = rw (e, found, linked) (named-stepped y n index offset (rw (← linked, ← found) h))
 
     -- the answer
     pub name-link : {f : ℕ} → f ≡ linkFault y n index → (f ≡ 0 → ⊥) → Refused f ≡ naming y n index offset

@@ -1,14 +1,14 @@
 -- The search by halving, for any test, and binary digits. Assumes nothing.
 --
 --   digits-least, digits-exactly     binaryDigits n is the least d with n below 2 to the power d
---   middle-among, middle-earlier    the middle is one of the numbers left; as many stand before it as after it, or one fewer
+--   middle-among, middle-earlier     the middle is one of the numbers left; as many stand before it as after it, or one fewer
 --   none-left                        when none is left
 --   those-after, those-before        one round, by whether the middle passes
 --   halving-same                     tests that agree on the numbers left
 --   Ends, ends                       what is found lies from low up to high; it passes unless it is low; the next does not unless it is high
 --   last-found                       in a list where every element before one that passes does too: the last that passes
---   rounds-at-most                    the rounds are at most the binary digits of how many numbers there are
---   rounds-at-least                    and at least those of one number more, less one
+--   rounds-at-most                   the rounds are at most the binary digits of how many numbers there are
+--   rounds-at-least                  and at least those of one number more, less one
 --   rounds-reached                   where every number passes they are as many as the binary digits
 use Prim.Native.Nat.{ℕ, zero, suc, _+_, _-_, _^_, _≤_, _<_}
 use mathlib.Core.Path.{_≡_, refl, sym, _∙_, subst}
@@ -238,7 +238,7 @@ module _ (passes : ℕ → Bool) where
         (λ z. omega arith)
         (λ d z. let a = rounds-full d 0 n all (let h = digits-below n d (omega arith) in omega arith) in omega arith)
 
--- where with an element of a list every one before it passes, what is found is the last that passes
+-- in a list where every element before one that passes does too, what is found is the last that passes
 module _
     {A : Type 0} (t : A → Bool) (xs : List A) (d : A)
     (down : (i j : ℕ) → 0 < i → i < j → j ≤ length xs → t (nth xs j d) ≡ true → t (nth xs i d) ≡ true)

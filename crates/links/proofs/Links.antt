@@ -8,9 +8,9 @@
 --   search-without-track, searched    the search for the base, without a track and in one
 --   search-rounds             its rounds are at most the binary digits of how many samples the track has
 --   base-found, base-most     the base is what it finds, and one of the track's samples, or 0
+--   named-baseless, named-stepped    the sample named: without a base none, else sample_offset steps from it
 --   linked-none               with 23 there is no linked track, and no sample is named
 --   named-by-search           the sample named, by what the search finds
---   named-baseless            without a base no sample is named
 --   named-there               a sample that is named is there, in the linked track
 --   name-none, name-good      no 23, no 24, both ways
 --   name-refusal              a refusal is 23 or 24
@@ -110,11 +110,16 @@ module _ (y : Layout) (n : ℕ) where
       (λ q. rw (search-without-track (eqb-true k 0 q)) (omega arith))
       (λ q. rw (searched (eqb-false k 0 q)) (ends _ (length (samplesIn y k)) .most)))
 
-  -- no linked track
-  named-default : (index offset : ℕ) → linkedTrack y n index ≡ 0 → sampleNamed y n index offset ≡ 0
+  -- the sample named, by the base
+  pub named-baseless : (index offset : ℕ) → base y n (linkedTrack y n index) ≡ 0 → sampleNamed y n index offset ≡ 0
   unfolding sampleNamed
-  named-default index offset e = rw (base-found (linkedTrack y n index), search-without-track e)
+  named-baseless index offset e = rw e
 
+  pub named-stepped : (index offset : ℕ) → let k = linkedTrack y n index in (base y n k ≡ 0 → ⊥) → sampleNamed y n index offset ≡ nth (samplesIn y k) (stepped (base y n k) (signed offset)) 0
+  unfolding sampleNamed
+  named-stepped index offset h = rw (ne-eqb (base y n (linkedTrack y n index)) 0 h)
+
+  -- no linked track
   pub linked-none : (index offset : ℕ) → (linkFault y n index ≡ 0 → ⊥) → (linkedTrack y n index ≡ 0) × (sampleNamed y n index offset ≡ 0)
   linked-none index offset h =
       let t : linkedTrack y n index ≡ 0 = by-bool (eqb index 0)
@@ -122,16 +127,12 @@ module _ (y : Layout) (n : ℕ) where
       (λ q. by-bool (ltb (length (referencesFrom y (trackOf y n))) index)
       (λ r. linked-default index (nth-beyond (referencesFrom y (trackOf y n)) index noReference (ltb-true _ _ r)))
       (λ r. absurd (h (link-good index (pos-of-ne-zero (eqb-false _ _ q)) (ltb-false _ _ r))))) in
-      (t, named-default index offset t)
+      (t, named-baseless index offset (rw (base-found (linkedTrack y n index), search-without-track t)))
 
   -- the sample named
   pub named-by-search : (index offset : ℕ) → let k = linkedTrack y n index in let b = baseSearch y n k .found in sampleNamed y n index offset ≡ (0 when b ≡? 0 else nth (samplesIn y k) (stepped b (signed offset)) 0)
   unfolding sampleNamed
   named-by-search index offset = rw (← base-found (linkedTrack y n index))
-
-  pub named-baseless : (index offset : ℕ) → base y n (linkedTrack y n index) ≡ 0 → sampleNamed y n index offset ≡ 0
-  unfolding sampleNamed
-  named-baseless index offset e = rw e
 
   pub named-there : (index offset : ℕ) → 0 < sampleNamed y n index offset → List·Memᴰ (sampleNamed y n index offset) (samplesIn y (linkedTrack y n index))
   unfolding sampleNamed

@@ -42,7 +42,7 @@ use Rattle.links.specs.Links.{signed, stepped, linkFault, linkedTrack, a
 use Rattle.links.specs.Order.{TracksRise, TrackRises, TimesRise, before, upTo, baseSample, Base, Steps}
 use Rattle.links.proofs.Words.{mem-nth, rising-nth, last-passes, last-later, last-count, last-down}
 use Rattle.links.proofs.Halving.{last-found}
-use Rattle.links.proofs.Links.{in-track, track-rise, search-without-track, searched, base-found, base-most}
+use Rattle.links.proofs.Links.{in-track, track-rise, search-without-track, searched, base-found, base-most, named-stepped}
 
 pub ordered-rise : (y : Layout) → Ordered y → TimesRise y
 ordered-rise y o = record {
@@ -222,8 +222,7 @@ module _ (y : Layout) (rise : TimesRise y) where
     b = base y n k
 
     steps : sampleNamed y n index offset ≡ nth (samplesIn y k) (stepped b (signed offset)) 0
-    unfolding sampleNamed
-    steps = rw (ne-eqb b 0 (λ z. absurd (omega arith)))
+    steps = named-stepped y n index offset (λ z. absurd (omega arith))
 
     pub named-up : offset < 128 → baseSample y n k + offset ≤ upTo y k → sampleNamed y n index offset ≡ baseSample y n k + offset
     named-up h l =

@@ -5,7 +5,7 @@
 --   stepped b s                    that many samples from the bth of a track; 0 is none
 --   linkFault n index              23
 --   linkedTrack n index            the linked track; 0 is none
---   atOrBefore m n                 the clock: sample m stands at or before sample n
+--   atOrBefore m n                 sample m stands at or before sample n, by decode time
 --   baseSearch n track             the search for the base among the samples of the linked track
 --   base n track                   the base, by its number within the linked track; 0 is none
 --   sampleNamed n index offset     the sample named; 0 is none
@@ -44,7 +44,7 @@ module _ (y : Layout) where
   unfoldable pub linkedTrack : ℕ → ℕ → ℕ
   linkedTrack n index = nth (referencesFrom y (trackOf y n)) index noReference .to
 
-  -- The clock by which the base is found.
+  -- The comparison by which the base is found.
   abbrev pub atOrBefore : ℕ → ℕ → Bool
   atOrBefore m n = timeOf y m ≤? timeOf y n
 

@@ -11,7 +11,7 @@ use Rattle.tables.specs.Tables.{layoutIn, rangeIn}
 use Rattle.links.specs.declared.SearchResult.{SearchResult}
 use Rattle.links.specs.Links.{linkedTrack, base, sampleNamed}
 use Rattle.links.proofs.Links.{base-found}
-use Rattle.links.proofs.Cases.{range-most, base-most, base-track, named-no-base, named-at, linked-by, range-at, range-past}
+use Rattle.links.proofs.Cases.{range-most, base-in-range, base-track, named-no-base, named-at, linked-by, range-at, range-past}
 use Rattle.words.proofs.Rows.{nth-none}
 use Rattle.links.proofs.sample_named.Tie as tie
 
@@ -25,7 +25,7 @@ found c = let a = c .before .before .before .before .args in ap (λ (s : SearchR
 
 -- the base is a sample of the range
 within : (c : tie.After-find-base) → let r = rangeIn (c .before .before .before .before .args .t .now) (c .before .reference .result .0) in c .find-base .result .found ≤ r .after - r .before
-within c = let a = c .before .before .before .before .args in rw (found c) (base-most (a .t .now) (a .n .0) (c .before .reference .result .0))
+within c = let a = c .before .before .before .before .args in rw (found c) (base-in-range (a .t .now) (a .n .0) (c .before .reference .result .0))
 
 -- where there is one there is a track
 track : (c : tie.Else1) → 0 < c .before .before .reference .result .0
