@@ -1,7 +1,7 @@
 -- The steps of the code. Assumes nothing.
 --
 --   put-three                      three writes, one after the other
---   next-there                     the sample after the first n is there
+--   judgements-kept                the judgements are there after all samples are judged
 --   line-judged, outcome-judged    the line and the outcome of a sample that was judged
 --   Auditing, auditing-start, -length, -room, -more, -end    a loop over the samples
 use Prim.Native.Nat.{ℕ, _+_, _*_, _≤_, _<_}
@@ -10,6 +10,7 @@ use mathlib.Core.List.{List, [], _++_}
 use native.Mathlib.Omega.{arith}
 use borrow.Author.Tests.{eq-eqb, ne-eqb}
 use lib.ListN.{length, length-append}
+use Rattle.words.specs.Refusals.{Answer}
 use Rattle.words.specs.Bytes.{bytes}
 use Rattle.words.specs.Buffers.{writeAt, overwrite, put}
 use Rattle.words.proofs.Tests.{by-number}
@@ -18,14 +19,13 @@ use Rattle.words.proofs.Numbered.{put-put}
 use Rattle.words.proofs.Buffers.{write-none, write-first, write-length}
 use Rattle.bundles.specs.Limits.{bundleMost, sampleMost}
 use Rattle.bundles.specs.Recordings.{Recording, sampleCount, contentOf}
-use Rattle.tables.specs.Tables.{recordingIn}
+use Rattle.tables.specs.Tables.{layoutIn, recordingIn, keptCountIn, tableMost}
 use Rattle.tables.proofs.Layouts.{samples-most}
-use Rattle.resolution_rules.specs.Calls.{numberFault}
-use Rattle.resolution_rules.proofs.Calls.{number-good}
-use Rattle.judging.specs.Steps.{judgementIn, answerOf}
-use Rattle.judging.specs.declared.Judged.{Judged}
-use Rattle.judging.specs.declared.Judged.the-variants as judged
-use Rattle.judging.proofs.Judgements.{judged-sample, judged-good}
+use Rattle.judging.specs.Steps.{judgement}
+use Rattle.verdicts.specs.Kept.{unitsOf, verdictIn, keptAnswer, withJudgements}
+use Rattle.verdicts.specs.declared.KeptVerdict.{KeptVerdict}
+use Rattle.verdicts.specs.declared.KeptVerdict.the-variants as verdict
+use Rattle.verdicts.proofs.Keeping.{kept-judgement, all-layout, all-recording, word-verdict, units-refused, units-good}
 use Rattle.tally.specs.Tallies.{tallied, raisedBy}
 use Rattle.tally.specs.declared.Tally.{Tally}
 use Rattle.numbers.specs.Places.{placeSize}
@@ -33,7 +33,7 @@ use Rattle.audit_rules.specs.Auditing.{refusalSize, unitsSize, lineSize, lineBy
 use Rattle.audit_rules.proofs.Outcomes.{outcome-empty, outcome-passed, outcome-refused}
 use Rattle.audit_rules.proofs.Lines.{line-length, joined-length}
 use Rattle.audit_rules.proofs.Steps.{firstLines, firstTally, lines-start, lines-put, lines-end, tally-start, tally-more, tally-end}
-use Rattle.audit.specs.Steps.{verdictOf, unitsIn, outcomeIn}
+use Rattle.audit.specs.Steps.{verdictOf, unitsIn, outcomeIn, JudgementsKept}
 
 -- writes, one after the other
 pub put-three : (o : List ℕ) (at m p units : ℕ) → at + lineSize ≤ length o
@@ -51,25 +51,30 @@ put-three o at m p units h =
     ap (λ (w : List ℕ). put w (at + refusalSize + placeSize) c) (put-put o a b at (at + refusalSize) (omega arith) (omega arith))
     ∙ put-put o (a ++ b) c at (at + refusalSize + placeSize) (omega arith) (omega arith)
 
--- the sample after the first n is there
-pub next-there : (r : Recording) (n : ℕ) → n < sampleCount (r .layout) → numberFault (sampleCount (r .layout)) (n + 1) ≡ 0
-next-there r n h = number-good (sampleCount (r .layout)) (n + 1) (omega arith) (omega arith)
+-- after all are judged
+pub judgements-kept : (b t now : List ℕ) → now ≡ withJudgements b t → length b ≤ bundleMost → tableMost ≤ length t → JudgementsKept b now
+judgements-kept b t now e few room n h i =
+    let l : n ≤ sampleCount (layoutIn t) = rw (e, all-layout b t) at i in
+    rw (e, all-recording b t) (kept-judgement b t few room n h l)
 
--- a sample that was judged
-module _ (b t : List ℕ) (n : ℕ) (short : length b ≤ bundleMost) (there : numberFault (sampleCount (recordingIn b t .layout)) n ≡ 0) where
-  pub line-judged : (x : Judged) → answerOf x ≡ judgementIn b t n → lineBytes (verdictOf x) (unitsIn x) ≡ lineOf (recordingIn b t) n
+-- a sample that was judged, by what is kept beside it
+module _ (b t : List ℕ) (kept : JudgementsKept b t) (n : ℕ) (more : 0 < n) (there : n ≤ sampleCount (layoutIn t)) where
+  kept-units : {a : Answer ℕ} → a ≡ verdictIn (keptCountIn t n) → unitsOf (judgement (recordingIn b t) n) ≡ a
+  kept-units e = sym (e ∙ ap verdictIn (kept n more there) ∙ word-verdict b t n)
+
+  pub line-judged : (x : KeptVerdict) → keptAnswer x ≡ verdictIn (keptCountIn t n) → lineBytes (verdictOf x) (unitsIn x) ≡ lineOf (recordingIn b t) n
   unfolding lineOf lineBytes
-  line-judged (judged.Refused f) e = rw (judged-sample b t n short there (sym e))
-  line-judged (judged.Good a) e = let w = judged-good b t n short a (sym e) in rw (w .0, w .1)
+  line-judged (verdict.Refused f) e = rw (units-refused (recordingIn b t) n (kept-units e))
+  line-judged (verdict.Units k) e = let w = units-good (recordingIn b t) n (kept-units e) in rw (w .0, w .1)
 
-  pub outcome-judged : (x : Judged) → answerOf x ≡ judgementIn b t n → outcomeIn x (length (contentOf (recordingIn b t) n)) ≡ outcomeOf (recordingIn b t) n
-  outcome-judged (judged.Refused f) e = sym (outcome-refused (recordingIn b t) n (judged-sample b t n short there (sym e)))
-  outcome-judged (judged.Good a) e =
+  pub outcome-judged : (x : KeptVerdict) → keptAnswer x ≡ verdictIn (keptCountIn t n) → outcomeIn x (length (contentOf (recordingIn b t) n)) ≡ outcomeOf (recordingIn b t) n
+  outcome-judged (verdict.Refused f) e = sym (outcome-refused (recordingIn b t) n (units-refused (recordingIn b t) n (kept-units e)))
+  outcome-judged (verdict.Units k) e =
       let r = recordingIn b t in
       let size = length (contentOf r n) in
       by-number size
       (λ z. rw (eq-eqb size 0 z) (sym (outcome-empty r n z)))
-      (λ k z. rw (ne-eqb size 0 (λ y. absurd (omega arith))) (sym (outcome-passed r n (omega arith) (judged-good b t n short a (sym e) .0))))
+      (λ i z. rw (ne-eqb size 0 (λ y. absurd (omega arith))) (sym (outcome-passed r n (omega arith) (units-good r n (kept-units e) .0))))
 
 -- a loop over the samples that turned o into out: the first n have their lines, and t is their tally
 pub record Auditing (r : Recording) (o : List ℕ) (n : ℕ) (out : List ℕ) (t : Tally) : Type 0 where

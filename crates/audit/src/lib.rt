@@ -9,17 +9,16 @@ ghost use Rattle.words.specs.Buffers.{put, overwrite, within, Wrote};
 ghost use Rattle.bundles.specs.Limits.{bundleMost};
 ghost use Rattle.bundles.specs.Recordings.{sampleCount};
 ghost use Rattle.bundles.specs.Readers.{firstLayout};
-ghost use Rattle.tables.specs.Tables.{recordingIn};
+ghost use Rattle.tables.specs.Tables.{recordingIn, tableMost};
 ghost use Rattle.tally.specs.Tallies.{raisedBy};
 ghost use Rattle.numbers.specs.Places.{placeSize};
 ghost use Rattle.audit_rules.specs.Auditing.{refusalSize, unitsSize, lineSize, lineBytes, outcomeOf, lineOf, lines, tally, tallyWithin, auditCall, tallyCall};
-ghost use Rattle.audit.specs.Steps.{verdictOf, unitsIn, outcomeIn};
+ghost use Rattle.audit.specs.Steps.{verdictOf, unitsIn, outcomeIn, JudgementsKept};
 ghost use Rattle.audit.specs.Answers.{linesAnswer, tallyAnswer};
 use audit_lines::LINE_SIZE;
 use audit_lines::REFUSAL_SIZE;
 use audit_lines::UNITS_SIZE;
 use filling::Filled;
-use judging::Judged;
 use numbers::ByteOffset;
 use numbers::PLACE_SIZE;
 use numbers::Refusal;
@@ -27,6 +26,7 @@ use numbers::SampleNumber;
 use numbers::refusals;
 use tally::Outcome;
 use tally::Tally;
+use verdicts::KeptVerdict;
 
 // How many bytes of lines are written, and the tally.
 pub struct Report {
@@ -51,23 +51,23 @@ fn put_numbers(out: &mut [u8], at: usize, refusal: u8, place: ByteOffset, units:
 }
 
 // The line of a judged sample over a buffer that has room.
-fn put_line(out: &mut [u8], at: usize, judged: Judged)
+fn put_line(out: &mut [u8], at: usize, judged: KeptVerdict)
     requires { ⌜ at + lineSize ≤ length (now out) ⌝ }
     ensures { λ _. ⌜ now (out .exit) ≡ put (now (out .entry)) at (lineBytes (verdictOf judged) (unitsIn judged)) ⌝ }
 {
     match judged {
-        Judged::Refused(f) => put_numbers(out, at, f.number, f.place, 0),
-        Judged::Good(a) => put_numbers(out, at, 0, ByteOffset(0), a.count),
+        KeptVerdict::Refused(f) => put_numbers(out, at, f.number, f.place, 0),
+        KeptVerdict::Units(count) => put_numbers(out, at, 0, ByteOffset(0), count),
     }
 }
 
 // What the audit finds of a judged sample of so many bytes.
-fn outcome(judged: Judged, size: usize) -> Outcome
+fn outcome(judged: KeptVerdict, size: usize) -> Outcome
     ensures { λ r. ⌜ r ≡ outcomeIn judged size ⌝ }
 {
     match judged {
-        Judged::Refused(_) => Outcome::Refused,
-        Judged::Good(_) => {
+        KeptVerdict::Refused(_) => Outcome::Refused,
+        KeptVerdict::Units(_) => {
             if size == 0 {
                 return Outcome::Empty;
             }
@@ -76,23 +76,23 @@ fn outcome(judged: Judged, size: usize) -> Outcome
     }
 }
 
-// The sample after the first done samples, judged once: its line written, and what the audit finds of it.
+// The sample after the first done samples, by its judgement in the table: its line written, and what the audit finds of it.
 fn audit_sample(b: &[u8], t: &[u64], done: usize, out: &mut [u8]) -> Outcome
-    requires { ⌜ (length (now b) ≤ bundleMost) × (lineSize * done + lineSize ≤ length (now out)) × (done < sampleCount (recordingIn (now b) (now t) .layout)) ⌝ }
+    requires { ⌜ JudgementsKept (now b) (now t) × (lineSize * done + lineSize ≤ length (now out)) × (done < sampleCount (recordingIn (now b) (now t) .layout)) ⌝ }
     ensures { λ r. ⌜ (r ≡ outcomeOf (recordingIn (now (b .entry)) (now (t .entry))) (done + 1))
         × (now (out .exit) ≡ put (now (out .entry)) (lineSize * done) (lineOf (recordingIn (now (b .entry)) (now (t .entry))) (done + 1))) ⌝ }
 {
     let n = SampleNumber(done + 1);
-    let judged = judging::judge(b, t, n);
+    let judged = verdicts::kept_verdict(t, n);
     let x = sample_tables::sample_bytes(b, t, n);
     put_line(out, LINE_SIZE * done, judged);
     outcome(judged, x.len())
 }
 
-// All samples, of which there are count: a line each over the start of a buffer that has room, and their tally.
+// All samples, of which there are count, by a table with their judgements: a line each over the start of a buffer that has room, and their tally.
 // The one running tally is this function's own, and is lent once a sample.
 fn audit_samples(b: &[u8], t: &[u64], count: usize, out: &mut [u8]) -> Tally
-    requires { ⌜ (length (now b) ≤ bundleMost) × (count ≡ sampleCount (recordingIn (now b) (now t) .layout)) × (lineSize * count ≤ length (now out)) ⌝ }
+    requires { ⌜ JudgementsKept (now b) (now t) × (count ≡ sampleCount (recordingIn (now b) (now t) .layout)) × (lineSize * count ≤ length (now out)) ⌝ }
     ensures { λ r. ⌜ (r ≡ tally (recordingIn (now (b .entry)) (now (t .entry))))
         × (now (out .exit) ≡ overwrite (now (out .entry)) (lines (recordingIn (now (b .entry)) (now (t .entry))))) ⌝ }
 {
@@ -116,9 +116,10 @@ fn refused(number: u8) -> Audited
     })
 }
 
-// An accepted bundle by its table: 29, or all lines and the tally. 29 is known before the first byte is written.
-fn audit_accepted(b: &[u8], t: &[u64], out: &mut [u8]) -> Audited
-    requires { ⌜ length (now b) ≤ bundleMost ⌝ }
+// An accepted bundle by its table: 29, or all lines and the tally. 29 is known before the first byte is written. All samples are judged, each
+// judgement kept in the table, and then written.
+fn audit_accepted(b: &[u8], t: &mut [u64], out: &mut [u8]) -> Audited
+    requires { ⌜ (length (now b) ≤ bundleMost) × (tableMost ≤ length (now t)) ⌝ }
     ensures { λ r. ⌜ Wrote (now (out .entry)) (now (out .exit)) (linesAnswer r) (within (length (now (out .entry))) (ok (lines (recordingIn (now (b .entry)) (now (t .entry))))))
         × (tallyAnswer r ≡ tallyWithin (recordingIn (now (b .entry)) (now (t .entry))) (length (now (out .entry)))) ⌝ }
 {
@@ -127,6 +128,7 @@ fn audit_accepted(b: &[u8], t: &[u64], out: &mut [u8]) -> Audited
     if out.len() < size {
         return refused(refusals::OUTPUT_TOO_LONG);
     }
+    verdicts::judge_all(b, t);
     let tally = audit_samples(b, t, count, out);
     Audited::Done(Report { count: size, tally })
 }
@@ -141,6 +143,6 @@ pub fn audit(b: &[u8], lines: &mut [u8]) -> Audited
     let filled = filling::fill_table(b, &mut t);
     match filled {
         Filled::Refused(f) => Audited::Refused(f),
-        Filled::Done => audit_accepted(b, &t, lines),
+        Filled::Done => audit_accepted(b, &mut t, lines),
     }
 }

@@ -1,40 +1,28 @@
--- What code says of a copy, by parts. Assumes nothing.
+-- What a judgement says of a copy, by parts. Assumes nothing.
 --
 --   copy-ill, copy-border, copy-formed    25; 26 and 27; 28 or none
 --   chained-copy                          28 or none is what one walk over the copy finds
 --   good-formed, good-border              a copy without a refusal: of a well-formed sample, without 26 and 27
 --   good-flat, good-plain, good-whole     its units are those of one walk, none an extractor, and whole
---   place-refused, place-good, place-whole    where a copied unit stands; a unit that stands there is whole
---   unit-past, unit-place                 its bytes
-use Prim.Native.Nat.{ℕ, _+_, _≤_, _<_}
-use mathlib.Core.Path.{_≡_, ap, sym, _∙_}
-use mathlib.Core.List.{[], map, List·Memᴰ}
-use native.Mathlib.Omega.{arith}
-use borrow.Author.Tests.{eq-eqb, ne-eqb, eqb-true, eqb-false, not-false}
-use Rattle.words.specs.Tests.{_≡?_}
+use Prim.Native.Nat.{ℕ}
+use mathlib.Core.Path.{_≡_, sym, _∙_}
+use mathlib.Core.List.{List·Memᴰ}
+use borrow.Author.Tests.{not-false}
 use Rattle.words.specs.Refusals.{ok, refused}
 use Rattle.words.specs.RefusalNumbers.{namedIllFormed}
-use Rattle.words.specs.Lists.{nth}
-use Rattle.words.proofs.Tests.{by-bool}
 use Rattle.words.proofs.Refusals.{if-none, orElse-none, orElse-here}
 use Rattle.words.proofs.Lists.{keep-from}
-use Rattle.units.specs.Units.{Sample, L, end, size}
+use Rattle.units.specs.Units.{Sample, end}
 use Rattle.units.specs.Rules.{Whole}
 use Rattle.samples.specs.Check.{check}
 use Rattle.samples.proofs.Laws.{formed-ok}
-use Rattle.copies.specs.Copies.{copyEnd, copied, formFault, borderFault, chainFault, copyFault, copyUnits}
-use Rattle.copies.specs.Extracted.{unitBytes, copiedUnit}
+use Rattle.copies.specs.Copies.{copyEnd, copied, formFault, borderFault, chainFault, copyFault}
 use Rattle.copies.specs.Flat.{flatPlaces}
-use Rattle.copies.specs.Written.{copiedPlace}
-use Rattle.words.proofs.Numbered.{nth-none, nth-other, nth-map, part-past}
 use Rattle.copies.proofs.Flat.{flat-good}
 use Rattle.copies.proofs.Copies.{copy-cut, copied-flat}
 use Rattle.copies.proofs.Rest.{rest}
 
 module _ (z : Sample) where
-  pub unit-past : (q : ℕ) → end z ≤ q → unitBytes z q ≡ []
-  unit-past q h = part-past (z .content) (q + L z) (size z q) (omega arith)
-
   module _ (o n : ℕ) where
     pub copy-ill : {m p : ℕ} → check z ≡ refused m p → copyFault z o n ≡ namedIllFormed
     unfolding copyFault
@@ -69,21 +57,3 @@ module _ (z : Sample) where
 
       pub good-whole : (q : ℕ) → List·Memᴰ q (copied z o n) → Whole z (end z) q
       good-whole q m = flat-good z o (copyEnd z o n) (copy-cut z o n good-border good-formed) q (keep-from _ (flatPlaces z o (copyEnd z o n)) (rw good-flat at m) .0) .0
-
-      pub place-good : (i : ℕ) → copiedPlace z o n i ≡ nth (copied z o n) i (end z)
-      unfolding copiedPlace copyUnits
-      place-good i = rw (eq-eqb _ 0 g)
-
-    pub place-refused : (i : ℕ) → (copyFault z o n ≡ 0 → ⊥) → copiedPlace z o n i ≡ end z
-    unfolding copiedPlace copyUnits
-    place-refused i h = rw (ne-eqb _ 0 h) (nth-none i (end z))
-
-    pub place-whole : (i : ℕ) → copiedPlace z o n i < end z → Whole z (end z) (copiedPlace z o n i)
-    place-whole i h = by-bool (copyFault z o n ≡? 0)
-        (λ t. let g = eqb-true _ _ t in let e = place-good g i in
-        rw e (good-whole g _ (nth-other (copied z o n) i (end z) (λ j. omega arith))))
-        (λ t. let e = place-refused i (eqb-false _ _ t) in absurd (omega arith))
-
-    pub unit-place : (i : ℕ) → copiedUnit z o n i ≡ unitBytes z (copiedPlace z o n i)
-    unfolding copiedUnit copiedPlace
-    unit-place i = ap (nth (map (unitBytes z) (copyUnits z o n)) i) (sym (unit-past (end z) (omega arith))) ∙ nth-map (unitBytes z) (copyUnits z o n) i (end z)

@@ -8,7 +8,8 @@
 --   Answers   what code says of a copy, by parts
 --   Copied    what a copy has; what is copied, exactly
 --   Included  a copy from a unit that an aggregator includes
---   Ranges    where a copy ends
+--   Ranges    where a copy ends, on any bytes
+--   Plain     the units that `extracted` finds
 --   Sizes     units that do not overlap, and their sizes
 pub mod Flat
 pub mod Runs
@@ -20,3 +21,4 @@ pub mod Copied
 pub mod Included
 pub mod Sizes
 pub mod Ranges
+pub mod Plain

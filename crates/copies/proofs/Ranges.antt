@@ -1,52 +1,67 @@
--- Where a copy ends. Assumes nothing.
+-- Where a copy ends, on any bytes. Assumes nothing.
 --
---   range-ill, range-border, range-good    25; 26 and 27; none
---   fault-range                            the refusals of a copy: 25 to 27, then 28
---   range-formed                           a copy without 25 to 27
---   range-zero, range-some                 the answer by the refusal
-use Prim.Native.Nat.{ℕ, suc}
-use mathlib.Core.Path.{_≡_, sym}
-use borrow.Author.Tests.{ne-eqb, not-false}
-use lib.Dec.{eqb·suc-zero}
-use Rattle.words.specs.Refusals.{ok, refused, _if_, _orElse_}
-use Rattle.words.specs.RefusalNumbers.{namedIllFormed, extractorCopied}
-use Rattle.words.specs.Lists.{some}
-use Rattle.words.proofs.Refusals.{if-none, orElse-none, orElse-assoc}
-use Rattle.units.specs.Units.{Sample, isExtractor}
-use Rattle.units.specs.Steps.{place}
+--   capped-in, capped-past    a place that is not past the end; one that is not before it
+--   capped-most, capped-add   never past the end; bytes on from a place that is capped already
+--   in-length, in-unit, in-aggregator    where a copy ends, by data_length and by what stands at data_offset
+--   in-most                   never past the end of the sample
+--   end-in                    a copy without 25 to 27 ends where it is said to
+use Prim.Native.Nat.{ℕ, _+_, _≤_}
+use mathlib.Core.Path.{_≡_, ap, sym, _∙_}
+use mathlib.Core.Bool.{true, false}
+use native.Mathlib.Omega.{arith}
+use borrow.Author.Tests.{le-ltb, ltb-true, ltb-false}
+use Rattle.words.specs.Tests.{_<?_}
+use Rattle.words.specs.Refusals.{ok}
+use Rattle.words.proofs.Tests.{by-bool}
+use Rattle.units.specs.Units.{Sample, L, end, size, isAggregator}
+use Rattle.units.specs.Aggregators.{additionalBytes}
 use Rattle.samples.specs.Check.{check}
-use Rattle.samples.proofs.Laws.{formed-ok}
-use Rattle.copies.specs.Copies.{copyEnd, copied, formFault, borderFault, copyFault}
-use Rattle.copies.specs.Range.{rangeFault, rangeOf}
-use Rattle.copies.specs.declared.range.CopyRange.the-variants.{Refused, End}
+use Rattle.copies.specs.Copies.{copyEnd, borderFault}
+use Rattle.copies.specs.Range.{capped, copyEndIn}
+use Rattle.copies.proofs.Copies.{end-length, end-unit, end-aggregator, copy-most}
+
+module _ (e : ℕ) where
+  pub capped-in : (p : ℕ) → p ≤ e → capped e p ≡ p
+  unfolding capped
+  capped-in p h = rw (le-ltb e p h)
+
+  pub capped-past : (p : ℕ) → e ≤ p → capped e p ≡ e
+  unfolding capped
+  capped-past p h = by-bool (e <? p) (λ t. rw t) (λ t. let l = ltb-false e p t in rw t (omega arith))
+
+  pub capped-most : (p : ℕ) → capped e p ≤ e
+  unfolding capped
+  capped-most p = by-bool (e <? p) (λ t. rw t (omega arith)) (λ t. rw t (ltb-false e p t))
+
+  pub capped-add : (p n : ℕ) → capped e (capped e p + n) ≡ capped e (p + n)
+  capped-add p n = by-bool (e <? p)
+      (λ t. let l = ltb-true e p t in rw (capped-past p (omega arith)) (capped-past (e + n) (omega arith) ∙ sym (capped-past (p + n) (omega arith))))
+      (λ t. ap (λ (q : ℕ). capped e (q + n)) (capped-in p (ltb-false e p t)))
 
 module _ (z : Sample) (o n : ℕ) where
-  pub range-ill : {m p : ℕ} → check z ≡ refused m p → Refused namedIllFormed ≡ rangeOf z o n
-  unfolding rangeOf rangeFault
-  range-ill e = rw e
+  pub in-length : (n ≡ 0 → ⊥) → copyEndIn z o n ≡ capped (end z) (o + n)
+  unfolding copyEndIn
+  in-length h = ap (capped (end z)) (end-length z o n h)
 
-  pub range-border : {f : ℕ} → check z ≡ ok tt → f ≡ borderFault z o n → (f ≡ 0 → ⊥) → Refused f ≡ rangeOf z o n
-  unfolding rangeOf rangeFault
-  range-border {f} k e h = rw (k, ← e, ne-eqb f 0 h)
+  -- by where the unit ends, capped
+  module _ (h : n ≡ 0) {q : ℕ} (e : q ≡ capped (end z) (capped (end z) (o + L z) + size z o)) where
+    next-in : q ≡ capped (end z) (o + L z + size z o)
+    next-in = e ∙ capped-add (end z) (o + L z) (size z o)
 
-  pub range-good : {e : ℕ} → check z ≡ ok tt → borderFault z o n ≡ 0 → e ≡ copyEnd z o n → End (place e) ≡ rangeOf z o n
-  unfolding rangeOf rangeFault
-  range-good k b e = rw (k, b, e)
+    pub in-unit : isAggregator z o ≡ false → copyEndIn z o n ≡ q
+    unfolding copyEndIn
+    in-unit t = ap (capped (end z)) (end-unit z o n h t) ∙ sym next-in
 
-  pub fault-range : copyFault z o n ≡ (rangeFault z o n orElse (extractorCopied if some (isExtractor z) (copied z o n)))
-  unfolding copyFault rangeFault
-  fault-range = sym (orElse-assoc (formFault z) (borderFault z o n) _)
+    pub in-aggregator : isAggregator z o ≡ true → {v : ℕ} → v ≡ additionalBytes z o → copyEndIn z o n ≡ capped (end z) (q + v)
+    unfolding copyEndIn
+    in-aggregator t {v} f =
+        ap (capped (end z)) (end-aggregator z o n h t)
+        ∙ sym (rw f (ap (λ (a : ℕ). capped (end z) (a + additionalBytes z o)) next-in ∙ capped-add (end z) (o + L z + size z o) (additionalBytes z o)))
 
-  pub range-formed : rangeFault z o n ≡ 0 → (check z ≡ ok tt) × (borderFault z o n ≡ 0)
-  unfolding rangeFault
-  range-formed e =
-      let a = orElse-none (formFault z) _ e in
-      (formed-ok z (not-false _ (if-none 24 _ (a .0))), a .1)
+  pub in-most : copyEndIn z o n ≤ end z
+  unfolding copyEndIn
+  in-most = capped-most (end z) (copyEnd z o n)
 
-  pub range-zero : rangeFault z o n ≡ 0 → rangeOf z o n ≡ End (place (copyEnd z o n))
-  unfolding rangeOf
-  range-zero e = rw e
-
-  pub range-some : {k : ℕ} → rangeFault z o n ≡ suc k → rangeOf z o n ≡ Refused (suc k)
-  unfolding rangeOf
-  range-some {k} e = rw (e, eqb·suc-zero k)
+  pub end-in : check z ≡ ok tt → borderFault z o n ≡ 0 → copyEndIn z o n ≡ copyEnd z o n
+  unfolding copyEndIn
+  end-in k b = capped-in (end z) (copyEnd z o n) (copy-most z o n b k)

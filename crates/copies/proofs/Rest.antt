@@ -5,23 +5,20 @@
 --   walking-skip, walking-take             the walk goes on after an aggregator's head, or after another unit
 --   walking-never                          on its way there is always a unit
 --   Looking, looking-start, -skip, -found, -take, -end    a loop that looks for an extractor
---   Finding, finding-start, -skip, -never, -found, -take, -end    a loop that looks for the ith unit, where there is no extractor
-use Prim.Native.Nat.{ℕ, _-_, _≤_, _<_}
-use mathlib.Core.Path.{_≡_, refl, ap, sym, _∙_}
+use Prim.Native.Nat.{ℕ, _≤_, _<_}
+use mathlib.Core.Path.{_≡_, refl, ap, _∙_}
 use mathlib.Core.List.{List, [], _∷_}
 use mathlib.Core.Bool.{true, false}
 use native.Mathlib.Omega.{arith}
-use native.Mathlib.Nat.{pos-of-ne-zero}
-use Rattle.words.specs.Lists.{keep, some, nth}
+use Rattle.words.specs.Lists.{keep, some}
 use Rattle.words.specs.RefusalNumbers.{extractorCopied}
-use Rattle.units.specs.Units.{Sample, end, next, isAggregator, isExtractor}
+use Rattle.units.specs.Units.{Sample, next, isAggregator, isExtractor}
 use Rattle.units.specs.Aggregators.{includedStart}
 use Rattle.unit_steps.specs.Items.{itemAt}
 use Rattle.unit_steps.specs.declared.Item.the-variants.{Nothing}
 use Rattle.unit_steps.proofs.Items.{nothing-is}
 use Rattle.copies.specs.Copies.{chainFault}
 use Rattle.copies.specs.Flat.{unitsBetween, BetweenBorders}
-use Rattle.words.proofs.Numbered.{nth-none, nth-first, nth-later}
 use Rattle.copies.proofs.Flat.{flat-aggregator, flat-other, flat-end, flat-step, Walking, walking-start, walking-whole, walking-next}
 
 module _ (x : Sample) where
@@ -74,36 +71,3 @@ module _ (x : Sample) where
     pub looking-end : e ≤ p → chainFault x (rest e a) ≡ 0
     unfolding some
     looking-end h = rw (c .found, rest-end e p h)
-
-  -- the ith unit from a on is the one at left from p on; there is no extractor
-  pub record Finding (a e i p left : ℕ) : Type 0 where
-    pub walking : Walking x e p
-    pub plain : chainFault x (rest e p) ≡ 0
-    pub some : 0 < left
-    pub same : nth (rest e a) i (end x) ≡ nth (rest e p) left (end x)
-
-  pub finding-start : (a e i : ℕ) → BetweenBorders x a e → chainFault x (rest e a) ≡ 0 → (i ≡ 0 → ⊥) → Finding a e i a i
-  finding-start a e i s t h = record { walking = walking-start x a e s; plain = t; some = pos-of-ne-zero h; same = refl }
-
-  module _ (a e i p left : ℕ) (c : Finding a e i p left) where
-    pub finding-skip : p < e → isAggregator x p ≡ true → Finding a e i (includedStart x p) left
-    finding-skip h t = record { walking = walking-skip e p (c .walking) h t; plain = rw (rest-skip e p h t) at (c .plain); some = c .some; same = c .same ∙ rw (rest-skip e p h t) }
-
-    pub finding-never : {G : Type 0} → p < e → isAggregator x p ≡ false → isExtractor x p ≡ true → G
-    unfolding some
-    finding-never h t g = let z : _≡_ {A = ℕ} extractorCopied 0 = rw (rest-take e p h t, g) at (c .plain) in absurd (omega arith)
-
-    pub finding-found : p < e → isAggregator x p ≡ false → left - 1 ≡ 0 → p ≡ nth (rest e a) i (end x)
-    finding-found h t g = sym (c .same ∙ rw (rest-take e p h t) (nth-first p _ left (end x) (c .some) g))
-
-    pub finding-take : p < e → isAggregator x p ≡ false → isExtractor x p ≡ false → (left - 1 ≡ 0 → ⊥) → Finding a e i (next x p) (left - 1)
-    unfolding some
-    finding-take h t k g = record {
-      walking = walking-take e p (c .walking) h t;
-      plain = rw (rest-take e p h t, k) at (c .plain);
-      some = pos-of-ne-zero g;
-      same = c .same ∙ rw (rest-take e p h t) (nth-later p _ left (end x) g);
-    }
-
-    pub finding-end : e ≤ p → end x ≡ nth (rest e a) i (end x)
-    finding-end h = sym (c .same ∙ rw (rest-end e p h) (nth-none left (end x)))

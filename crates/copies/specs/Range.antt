@@ -1,19 +1,14 @@
--- Where a copy ends, for code that goes over it unit by unit. 28 is left to that code: it is given where an extractor is met.
+-- Where a copy ends, for code that goes over it unit by unit, on any bytes.
 --
---   rangeFault z o n     25; 26, 27
---   rangeOf z o n        one of them, or else where the copy ends
+--   capped e p           p, or e where p lies past it
+--   copyEndIn z o n      where the copy ends, or the end of the sample where it would end past it
 use Prim.Native.Nat.{ℕ}
-use Rattle.words.specs.Tests.{_≡?_, pick}
-use Rattle.words.specs.Refusals.{_orElse_}
-use Rattle.units.specs.Units.{Sample}
-use Rattle.units.specs.Steps.{place}
-use Rattle.copies.specs.Copies.{copyEnd, formFault, borderFault}
-use Rattle.copies.specs.declared.range.CopyRange.{CopyRange}
-use Rattle.copies.specs.declared.range.CopyRange.the-variants.{Refused, End}
+use Rattle.words.specs.Tests.{_<?_, _when_else_}
+use Rattle.units.specs.Units.{Sample, end}
+use Rattle.copies.specs.Copies.{copyEnd}
 
-module _ (z : Sample) (o n : ℕ) where
-  unfoldable pub rangeFault : ℕ
-  rangeFault = formFault z orElse borderFault z o n
+unfoldable pub capped : ℕ → ℕ → ℕ
+capped e p = e when e <? p else p
 
-  unfoldable pub rangeOf : CopyRange
-  rangeOf = let f = rangeFault in pick (f ≡? 0) (End (place (copyEnd z o n))) (Refused f)
+unfoldable pub copyEndIn : Sample → ℕ → ℕ → ℕ
+copyEndIn z o n = capped (end z) (copyEnd z o n)

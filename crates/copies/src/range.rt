@@ -1,42 +1,41 @@
 // Where a copy ends, for code that goes over it unit by unit.
 ghost use mathlib.Core.Path.{_≡_};
-ghost use Rattle.words.specs.Refusals.{ok};
+ghost use Prim.Native.Nat.{_+_};
+ghost use lib.ListN.{length};
 ghost use Rattle.units.specs.Units.{sample};
-ghost use Rattle.samples.specs.Check.{check};
-ghost use Rattle.copies.specs.Range.{rangeOf};
+ghost use Rattle.units.specs.Steps.{place};
+ghost use Rattle.copies.specs.Range.{capped, copyEndIn};
 use numbers::ByteOffset;
-use numbers::refusals;
-use samples::Checked;
+use numbers::LengthSize;
 use units::Track;
 
-// Where a copy ends, or its refusal number: 25, 26 or 27.
-pub enum CopyRange {
-    Refused(u8),
-    End(ByteOffset),
+// So many bytes on from a place; the end of the sample where that lies past it.
+fn capped_sum(z: &[u8], at: usize, n: usize) -> usize
+    ensures { λ r. ⌜ r ≡ capped (length (now (z .entry))) (at + n) ⌝ }
+{
+    if z.len() <= at {
+        return z.len();
+    }
+    if z.len() - at < n {
+        return z.len();
+    }
+    at + n
 }
 
-// A copy of a well-formed sample: 26, 27, or where it ends.
-fn range_formed(k: Track, z: &[u8], from: usize, length: usize) -> CopyRange
-    requires { ⌜ check (sample k (now z)) ≡ ok tt ⌝ }
-    ensures { λ r. ⌜ r ≡ rangeOf (sample k (now (z .entry))) from length ⌝ }
+// Where a copy of a sample by data_offset and data_length ends; the end of the sample where it would end past it. Nothing is judged here.
+pub fn copy_end_in(k: Track, z: &[u8], offset: ByteOffset, length: usize) -> ByteOffset
+    ensures { λ r. ⌜ r ≡ place (copyEndIn (sample k (now (z .entry))) (offset .0) length) ⌝ }
 {
-    let fault = crate::border_fault(k, z, from, length);
-    if fault != 0 {
-        return CopyRange::Refused(fault);
+    let from = offset.0;
+    if length != 0 {
+        return ByteOffset(capped_sum(z, from, length));
     }
-    let end = crate::copy_end(k, z, from, length);
-    CopyRange::End(ByteOffset(end))
-}
-
-// A copy of a sample by data_offset and data_length: 25 to 27, or where it ends.
-// The sample is checked once. The start is found among the top-level units and, inside an aggregator, among those that this one includes; the
-// end from the start on. Neither goes over a unit twice.
-pub fn range_of(k: Track, z: &[u8], offset: ByteOffset, length: usize) -> CopyRange
-    ensures { λ r. ⌜ r ≡ rangeOf (sample k (now (z .entry))) (offset .0) length ⌝ }
-{
-    let checked = samples::check_sample(k, z);
-    match checked {
-        Checked::WellFormed => range_formed(k, z, offset.0, length),
-        Checked::Refused(_) => CopyRange::Refused(refusals::NAMED_ILL_FORMED),
+    let l = k.length_size;
+    let start = capped_sum(z, from, l.bytes());
+    let next = capped_sum(z, start, l.number(z, from));
+    if units::type_at(k, z, offset) != units::AGGREGATOR {
+        return ByteOffset(next);
     }
+    let covered = l.number(z, start + LengthSize::HEADER);
+    ByteOffset(capped_sum(z, next, covered))
 }

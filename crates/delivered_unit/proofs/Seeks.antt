@@ -3,27 +3,23 @@
 --   Seeks, seeks-start     the ith unit is the one at left after those passed
 --   seeks-take, seeks-found, seeks-none    one unit more; the unit at hand; there is none
 use Prim.Native.Nat.{ℕ, suc, _+_, _-_, _<_}
-use mathlib.Core.Path.{_≡_, refl, sym, _∙_}
+use mathlib.Core.Path.{_≡_, refl}
 use mathlib.Core.List.{List, [], _∷_, _++_}
 use native.Mathlib.Omega.{arith}
 use lib.ListN.{length, getD, length-append}
 use Rattle.words.specs.Refusals.{ok}
 use Rattle.words.specs.Lists.{nth}
-use Rattle.words.proofs.Refusals.{ok-refused}
-use Rattle.numbers.specs.declared.Refusal.{Refusal}
 use Rattle.units.specs.Units.{Sample}
-use Rattle.samples.specs.Check.{check}
 use Rattle.bundles.specs.Recordings.{Recording}
 use Rattle.words.proofs.Rows.{nth-beyond}
 use Rattle.resolution_rules.specs.Resolving.{own, judged}
-use Rattle.resolution_rules.proofs.Good.{good-rules}
 use Rattle.delivery.specs.Steps.{start, stepOf}
 use Rattle.delivery.specs.Deliveries.{Delivery, unitFor, deliveries, noDelivery}
 use Rattle.delivery.specs.declared.Cursor.{Cursor}
 use Rattle.delivery.specs.declared.DeliveredUnit.{DeliveredUnit}
 use Rattle.delivery.specs.declared.Stepped.the-variants as step
 use Rattle.delivery.proofs.Rests.{rest}
-use Rattle.delivery.proofs.Folds.{Folded, folded-start, folded-unit, folded-split, folded-refused, folded-done}
+use Rattle.delivery.proofs.Folds.{Folded, folded-start, folded-unit, folded-split, folded-done}
 
 get-at : (us : List Delivery) (u : Delivery) (vs : List Delivery) (d : Delivery) → getD (us ++ (u ∷ vs)) (length us) d ≡ u
 get-at [] u vs d = refl
@@ -48,19 +44,12 @@ module _ (r : Recording) (n : ℕ) (x : Sample) (i : ℕ) where
         folded-unit r n x (Seeks i left) c w (Seeks i (left - 1)) (omega arith, omega arith) e
 
     module _ (same : x ≡ own r n) (good : judged r n ≡ ok tt) where
-      formed : check x ≡ ok tt
-      formed = rw same (good-rules r n good .formed)
-
-      pub seeks-never : {G : Type 0} {f : Refusal} → stepOf r n x c ≡ step.Refused f → G
-      seeks-never e = ok-refused (sym (folded-refused r n x (Seeks i left) c w same formed e) ∙ good)
-
       pub seeks-none : stepOf r n x c ≡ step.Done → nth (deliveries r n) i noDelivery ≡ noDelivery
       seeks-none e =
-          let h = folded-done r n x (Seeks i left) c w same formed e in
-          let k = h .1 in
+          let h = folded-done r n x (Seeks i left) c w same good e in
           nth-beyond (deliveries r n) i noDelivery (omega arith)
 
       pub seeks-found : {u : DeliveredUnit} {d : Cursor} → stepOf r n x c ≡ step.Unit u d → left - 1 ≡ 0 → nth (deliveries r n) i noDelivery ≡ unitFor u
       seeks-found {u} {d} e z =
           let k = w .holds in
-          rw (folded-split r n x (Seeks i left) c w same formed good e) (nth-at (w .us) (unitFor u) (rest r n x d .units) i noDelivery (omega arith))
+          rw (folded-split r n x (Seeks i left) c w same good e) (nth-at (w .us) (unitFor u) (rest r n x d) i noDelivery (omega arith))

@@ -59,10 +59,6 @@ fn find(b: &[u8], t: &[u64], n: SampleNumber, k: Track, x: &[u8], i: usize) -> D
             Stepped::Done => {
                 return no_unit();
             }
-            // does not come: the sample is good
-            Stepped::Refused(_) => {
-                return no_unit();
-            }
             Stepped::Moved(d) => {
                 c = d;
             }
@@ -92,7 +88,7 @@ fn find_delivery(b: &[u8], t: &[u64], n: SampleNumber, i: usize) -> DeliveryFoun
     requires { ⌜ length (now b) ≤ bundleMost ⌝ }
     ensures { λ r. ⌜ deliveryAnswerOf r ≡ resolveDelivery (recordingIn (now (b .entry)) (now (t .entry))) (n .0) i ⌝ }
 {
-    let judged = judging::judge(b, t, n);
+    let judged = verdicts::judge(b, t, n);
     match judged {
         Judged::Refused(f) => DeliveryFound::Refused(f),
         Judged::Good(a) => {

@@ -4,14 +4,16 @@
 --   deliveries-unit, -aggregator, -extractor  what is delivered for a unit
 --   allSize, all-none, -one, -append          the bytes of all
 --   ownSize, copiedSize                       own and copied bytes as a loop adds them up
---   own-none, -add, copied-none, -add         none, and a unit more
+--   own-none, -add, -append, copied-none, -add, -append    none, a unit more, and some more
+--   copied-own, copied-all, copies-length     units that are copied: none of their bytes is own; how many they are
 --   all-parts, parts-one                      all bytes are own or copied
 --   deliveries-own, deliveries-copied         own and copied bytes of what a sample delivers
-use Prim.Native.Nat.{ℕ, _+_}
+use Prim.Native.Nat.{ℕ, suc, _+_}
 use mathlib.Core.Path.{_≡_, refl, ap, sym, _∙_}
 use mathlib.Core.List.{List, [], _∷_, _++_, map}
 use mathlib.Core.Bool.{true, false}
 use native.Mathlib.Omega.{arith}
+use lib.ListN.{length}
 use Rattle.words.specs.Lists.{each, sum}
 use Rattle.words.proofs.Tests.{by-bool}
 use Rattle.words.proofs.Entries.{sum-append, map-append}
@@ -47,11 +49,11 @@ ownSize ds = sum (map ownPart ds)
 unfoldable pub copiedSize : List Delivery → ℕ
 copiedSize ds = sum (map copiedPart ds)
 
-own-append : (ds es : List Delivery) → ownSize (ds ++ es) ≡ ownSize ds + ownSize es
+pub own-append : (ds es : List Delivery) → ownSize (ds ++ es) ≡ ownSize ds + ownSize es
 unfolding ownSize
 own-append ds es = rw (map-append ownPart ds es) (sum-append (map ownPart ds) (map ownPart es))
 
-copied-append : (ds es : List Delivery) → copiedSize (ds ++ es) ≡ copiedSize ds + copiedSize es
+pub copied-append : (ds es : List Delivery) → copiedSize (ds ++ es) ≡ copiedSize ds + copiedSize es
 unfolding copiedSize
 copied-append ds es = rw (map-append copiedPart ds es) (sum-append (map copiedPart ds) (map copiedPart es))
 
@@ -84,12 +86,12 @@ all-parts [] = refl
 all-parts (d ∷ ds) = let below = all-parts ds in let p = parts-one d in omega arith
 
 -- units that are copied
-copied-own : (p k : ℕ) (us : List Span) → ownSize (copiesFrom p k us) ≡ 0
+pub copied-own : (p k : ℕ) (us : List Span) → ownSize (copiesFrom p k us) ≡ 0
 unfolding ownSize sum copiesFrom
 copied-own p k [] = refl
 copied-own p k (u ∷ us) = let below = copied-own p (k + 1) us in omega arith
 
-copied-all : (p k : ℕ) (us : List Span) → copiedSize (copiesFrom p k us) ≡ totalSize us
+pub copied-all : (p k : ℕ) (us : List Span) → copiedSize (copiesFrom p k us) ≡ totalSize us
 unfolding copiedSize totalSize sum copiesFrom
 copied-all p k [] = refl
 copied-all p k (u ∷ us) = let below = copied-all p (k + 1) us in omega arith
@@ -98,6 +100,11 @@ copied-spans : (p k : ℕ) (us : List Span) → spans (copiesFrom p k us) ≡ us
 unfolding copiesFrom
 copied-spans p k [] = refl
 copied-spans p k (u ∷ us) = rw (copied-spans p (k + 1) us)
+
+pub copies-length : (p k : ℕ) (us : List Span) → length (copiesFrom p k us) ≡ length us
+unfolding copiesFrom
+copies-length p k [] = refl
+copies-length p k (u ∷ us) = ap suc (copies-length p (k + 1) us)
 
 own-spans : (us : List Span) → spans (map (delivery Own) us) ≡ us
 own-spans [] = refl

@@ -22,16 +22,18 @@ use Rattle.numbers.proofs.Laws.{L-some}
 use Rattle.units.specs.Units.{Sample, end, size, next}
 use Rattle.units.specs.Aggregators.{includedStart}
 use Rattle.units.specs.Steps.{extractorAt}
+use Rattle.units.specs.declared.Extractor as fields
 use Rattle.units.specs.declared.MaybeExtractor.{MaybeExtractor}
 use Rattle.units.specs.declared.MaybeExtractor.the-variants as extractor
 use Rattle.units.proofs.Units.{next-after}
 use Rattle.bundles.specs.Recordings.{Recording, contentOf}
 use Rattle.words.proofs.Rows.{nth-none, nth-beyond}
 use Rattle.resolution_rules.proofs.Calls.{by-count}
-use Rattle.delivery.specs.Steps.{start, copySample, copyStep, replacedBy, extractorStepBy, copyFor, ownStep, stepOf}
+use Rattle.links.specs.Named.{naming}
+use Rattle.links.specs.declared.Named.{Named}
+use Rattle.links.specs.declared.Named.the-variants as named
+use Rattle.delivery.specs.Steps.{start, copySample, copyStep, replacedBy, extractorStepBy, ownStep, stepOf}
 use Rattle.delivery.specs.declared.Cursor.{Cursor}
-use Rattle.delivery.specs.declared.FoundCopy.{FoundCopy}
-use Rattle.delivery.specs.declared.FoundCopy.the-variants as found
 use Rattle.delivery.specs.declared.Stepped.{Stepped}
 use Rattle.delivery.specs.declared.Stepped.the-variants as step
 use Rattle.unit_steps.proofs.Items.{by-item}
@@ -90,7 +92,6 @@ copy-less m b b' d h = omega arith
 
 abbrev pub Falls : Recording → Sample → Cursor → Stepped → Type 0
 Falls r x c step.Done = Unit {0}
-Falls r x c (step.Refused f) = Unit {0}
 Falls r x c (step.Moved d) = bound r x d + 1 ≤ bound r x c
 Falls r x c (step.Unit u d) = bound r x d + (1 + u .span .size) ≤ bound r x c
 
@@ -109,17 +110,17 @@ module _ (r : Recording) (n : ℕ) (x : Sample) (c : Cursor) where
       (λ i e. rw e tt)
       (λ i e. rw e (copy-less _ _ _ (1 + size Z q) (omega arith)))
 
-  open-falls : (q : ℕ) → c .place .0 < q → c .place .0 < end x → (o : FoundCopy) → Falls r x c (replacedBy (c .place) (record { 0 = q }) o)
+  open-falls : (q : ℕ) → c .place .0 < q → c .place .0 < end x → (f : fields.Extractor) (m : Named) → Falls r x c (replacedBy r (c .place) (record { 0 = q }) f m)
   unfolding bound
-  open-falls q h i (found.Refused f) = tt
-  open-falls q h i (found.Copy k) =
-      let l = content-longest r (k .named .0) in
-      let m = open-less (longest (r .contents)) (end x - c .place .0) (end x - q) (length (contentOf r (c .copy .named .0)) - c .copy .at .0) (length (contentOf r (k .named .0)) - k .at .0) (omega arith) (omega arith) in
+  open-falls q h i f (named.Refused g) = tt
+  open-falls q h i f (named.Sample m) =
+      let l = content-longest r (m .0) in
+      let m = open-less (longest (r .contents)) (end x - c .place .0) (end x - q) (length (contentOf r (c .copy .named .0)) - c .copy .at .0) (length (contentOf r (m .0)) - f .«data_offset» .0) (omega arith) (omega arith) in
       omega arith
 
   extractor-falls : (q : ℕ) → c .place .0 < q → c .place .0 < end x → (m : MaybeExtractor) → Falls r x c (extractorStepBy r n (c .place) (record { 0 = q }) m)
   extractor-falls q h i extractor.Nothing = tt
-  extractor-falls q h i (extractor.Extractor f) = open-falls q h i (copyFor r n (c .place) f)
+  extractor-falls q h i (extractor.Extractor f) = open-falls q h i f (naming (r .layout) n (f .«track_ref_index») (f .«sample_offset»))
 
   own-falls : Falls r x c (ownStep r n x c)
   unfolding ownStep bound

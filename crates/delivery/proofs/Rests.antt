@@ -1,26 +1,22 @@
--- What is left to be delivered from a cursor: the units of its steps, one after the other, up to a refusal or to the end. Any recording, any
--- cursor. Assumes nothing.
+-- What is left to be delivered from a cursor: the units of its steps, one after the other, up to the end. Any recording, any cursor.
+-- Assumes nothing.
 --
---   Rest, rest r n x c                                units, and how they end: with a refusal, or with none
---   restAfter s go                                    the same by a step s, and by what is left after it
---   rest-step                                         what is left is what the step says, and what is left after it
---   rest-done, rest-refused, rest-moved, rest-unit    the same, by the step's answer
---   rest-few                                          the units left and their bytes are no more than the bound: so counts and sizes fit
---   Says, says-done, -refused, -moved, -unit          what is left ends with a verdict, and is a list of units where that is no refusal
-use Prim.Native.Nat.{ℕ, zero, suc, _+_, _*_, _≤_, _<_}
-use mathlib.Core.Path.{_≡_, refl, ap, sym, _∙_}
+--   rest r n x c                       what is left
+--   restAfter s go                     the same by a step s, and by what is left after it
+--   rest-step                          what is left is what the step says, and what is left after it
+--   rest-done, rest-moved, rest-unit   the same, by the step's answer
+--   moved-less, unit-less              less is left after a step
+--   rest-few                           the units left and their bytes are no more than the bound: so counts and sizes fit
+use Prim.Native.Nat.{ℕ, zero, suc, _+_, _≤_, _<_}
+use mathlib.Core.Path.{_≡_, refl, _∙_}
 use mathlib.Core.List.{List, [], _∷_}
 use native.Mathlib.Omega.{arith}
 use lib.ListN.{length}
 use Rattle.words.specs.Lists.{sum}
-use Rattle.words.specs.Refusals.{refused, ok, Verdict}
-use Rattle.words.proofs.Refusals.{ok-refused}
-use Rattle.numbers.specs.declared.Refusal.{Refusal}
 use Rattle.units.specs.Units.{Sample}
-use Rattle.units.specs.Steps.{place}
 use Rattle.bundles.specs.Recordings.{Recording}
 use Rattle.delivery.specs.Steps.{stepOf}
-use Rattle.delivery.specs.Deliveries.{Delivery, unitFor, spans}
+use Rattle.delivery.specs.Deliveries.{Delivery, unitFor}
 use Rattle.delivery.specs.declared.Cursor.{Cursor}
 use Rattle.delivery.specs.declared.DeliveredUnit.{DeliveredUnit}
 use Rattle.delivery.specs.declared.Stepped.{Stepped}
@@ -28,33 +24,24 @@ use Rattle.delivery.specs.declared.Stepped.the-variants as step
 use Rattle.delivery.proofs.Falling.{bound, Falls, falls}
 use Rattle.delivery.proofs.Deliveries.{allSize}
 
-pub record Rest : Type 0 where
-  pub units : List Delivery
-  pub verdict : Verdict
-
-abbrev pub none : Rest
-none = record { units = []; verdict = ok tt }
-
-abbrev pub restAfter : Stepped → (Cursor → Rest) → Rest
-restAfter step.Done go = none
-restAfter (step.Refused f) go = record { units = []; verdict = refused (f .number) (f .place .0) }
+abbrev pub restAfter : Stepped → (Cursor → List Delivery) → List Delivery
+restAfter step.Done go = []
 restAfter (step.Moved d) go = go d
-restAfter (step.Unit u d) go = let more = go d in record { units = unitFor u ∷ more .units; verdict = more .verdict }
+restAfter (step.Unit u d) go = unitFor u ∷ go d
 
 module _ (r : Recording) (n : ℕ) (x : Sample) where
   -- at most so many steps
-  unfoldable pub restIn : ℕ → Cursor → Rest
-  restIn zero c = none
+  unfoldable pub restIn : ℕ → Cursor → List Delivery
+  restIn zero c = []
   restIn (suc k) c = restAfter (stepOf r n x c) (λ d. restIn k d)
 
-  unfoldable pub rest : Cursor → Rest
+  unfoldable pub rest : Cursor → List Delivery
   rest c = restIn (suc (bound r x c)) c
 
 module _ (r : Recording) (n : ℕ) (x : Sample) where
   -- two ways to go on that are the same wherever less is left
-  after-same : (c : Cursor) (s : Stepped) → Falls r x c s → (f g : Cursor → Rest) → ((d : Cursor) → bound r x d < bound r x c → f d ≡ g d) → restAfter s f ≡ restAfter s g
+  after-same : (c : Cursor) (s : Stepped) → Falls r x c s → (f g : Cursor → List Delivery) → ((d : Cursor) → bound r x d < bound r x c → f d ≡ g d) → restAfter s f ≡ restAfter s g
   after-same c step.Done l f g h = refl
-  after-same c (step.Refused w) l f g h = refl
   after-same c (step.Moved d) l f g h = h d (omega arith)
   after-same c (step.Unit u d) l f g h = rw (h d (omega arith))
 
@@ -70,16 +57,13 @@ module _ (r : Recording) (n : ℕ) (x : Sample) where
   rest-step c = after-same c (stepOf r n x c) (falls r n x c) _ _ (λ d i. enough (bound r x c) (suc (bound r x d)) d i (omega arith))
 
   module _ (c : Cursor) where
-    pub rest-done : stepOf r n x c ≡ step.Done → rest r n x c ≡ none
+    pub rest-done : stepOf r n x c ≡ step.Done → rest r n x c ≡ []
     rest-done e = rest-step c ∙ rw e
-
-    pub rest-refused : {f : Refusal} → stepOf r n x c ≡ step.Refused f → rest r n x c ≡ record { units = []; verdict = refused (f .number) (f .place .0) }
-    rest-refused e = rest-step c ∙ rw e
 
     pub rest-moved : {d : Cursor} → stepOf r n x c ≡ step.Moved d → rest r n x c ≡ rest r n x d
     rest-moved e = rest-step c ∙ rw e
 
-    pub rest-unit : {u : DeliveredUnit} {d : Cursor} → stepOf r n x c ≡ step.Unit u d → rest r n x c ≡ record { units = unitFor u ∷ rest r n x d .units; verdict = rest r n x d .verdict }
+    pub rest-unit : {u : DeliveredUnit} {d : Cursor} → stepOf r n x c ≡ step.Unit u d → rest r n x c ≡ unitFor u ∷ rest r n x d
     rest-unit e = rest-step c ∙ rw e
 
     -- less is left after a step
@@ -90,13 +74,12 @@ module _ (r : Recording) (n : ℕ) (x : Sample) where
     unit-less e = rw e at (falls r n x c)
 
   -- no more units and bytes of units are left than the bound
-  abbrev Few : Cursor → Rest → Type 0
-  Few c w = length (w .units) + allSize (w .units) ≤ bound r x c
+  abbrev Few : Cursor → List Delivery → Type 0
+  Few c us = length us + allSize us ≤ bound r x c
 
   after-few : (c : Cursor) (s : Stepped) → Falls r x c s → ((d : Cursor) → bound r x d < bound r x c → Few d (rest r n x d)) → Few c (restAfter s (rest r n x))
   unfolding allSize sum
   after-few c step.Done l h = omega arith
-  after-few c (step.Refused w) l h = omega arith
   after-few c (step.Moved d) l h = let f = h d (omega arith) in omega arith
   after-few c (step.Unit u d) l h = let f = h d (omega arith) in omega arith
 
@@ -104,23 +87,5 @@ module _ (r : Recording) (n : ℕ) (x : Sample) where
   few zero c h = absurd (omega arith)
   few (suc k) c h = rw (rest-step c) (after-few c (stepOf r n x c) (falls r n x c) (λ d i. few k d (omega arith)))
 
-  pub rest-few : (c : Cursor) → length (rest r n x c .units) + allSize (rest r n x c .units) ≤ bound r x c
+  pub rest-few : (c : Cursor) → length (rest r n x c) + allSize (rest r n x c) ≤ bound r x c
   rest-few c = few (suc (bound r x c)) c (omega arith)
-
-  -- what is left of a cursor
-  pub record Says (c : Cursor) (v : Verdict) (us : List Delivery) : Type 0 where
-    pub verdict : rest r n x c .verdict ≡ v
-    pub units : v ≡ ok tt → rest r n x c .units ≡ us
-
-  module _ (c : Cursor) where
-    pub says-done : stepOf r n x c ≡ step.Done → Says c (ok tt) []
-    says-done e = let h = rest-done c e in record { verdict = rw h; units = λ k. rw h }
-
-    pub says-refused : (m p : ℕ) (us : List Delivery) → stepOf r n x c ≡ step.Refused (record { number = m; place = place p }) → Says c (refused m p) us
-    says-refused m p us e = let h = rest-refused c e in record { verdict = rw h; units = λ k. ok-refused k }
-
-    pub says-moved : {d : Cursor} {v : Verdict} {us : List Delivery} → stepOf r n x c ≡ step.Moved d → Says d v us → Says c v us
-    says-moved e s = let h = rest-moved c e in record { verdict = rw h (s .verdict); units = λ k. rw h (s .units k) }
-
-    pub says-unit : {u : DeliveredUnit} {d : Cursor} {v : Verdict} {us : List Delivery} → stepOf r n x c ≡ step.Unit u d → Says d v us → Says c v (unitFor u ∷ us)
-    says-unit e s = let h = rest-unit c e in record { verdict = rw h (s .verdict); units = λ k. rw (h, s .units k) }

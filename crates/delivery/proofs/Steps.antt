@@ -1,13 +1,12 @@
--- The step by what stands at a place, and the copy of an extractor by what it names. Assumes nothing.
+-- The step by what stands at a place, and by the sample that an extractor names. Assumes nothing.
 --
 --   track-sample, sample-from    a sample by its track and its bytes
 --   step-copy, step-own          the step in a copy, and in the own sample
---   copy-refused, copy-named     the copy of an extractor: 23 and 24; else by the sample named
+--   replaced-named               the step at an extractor that names a sample
 use Prim.Native.Nat.{ℕ, _≤_, _<_}
 use mathlib.Core.Path.{_≡_, refl}
 use mathlib.Core.List.{List}
-use native.Mathlib.Omega.{arith}
-use borrow.Author.Tests.{lt-ltb, le-ltb, ne-eqb}
+use borrow.Author.Tests.{lt-ltb, le-ltb}
 use Rattle.numbers.specs.declared.ByteOffset.{ByteOffset}
 use Rattle.units.specs.Units.{Sample, sample}
 use Rattle.units.specs.declared.Track.{Track}
@@ -15,13 +14,13 @@ use Rattle.units.specs.declared.Extractor as fields
 use Rattle.bundles.specs.Recordings.{Recording, contentOf}
 use Rattle.tables.specs.Tables.{layoutIn, recordingIn}
 use Rattle.links.specs.Links.{sampleNamed, nameFault}
-use Rattle.copies.specs.Range.{rangeOf}
+use Rattle.links.specs.Named.{naming}
 use Rattle.resolution_rules.specs.Resolving.{sampleOf}
-use Rattle.delivery.specs.Steps.{trackFor, copyBy, copyFor, copySample, copyStepBy, copyStep, ownStepBy, ownStep, stepOf}
+use Rattle.delivery.specs.Steps.{trackFor, copyOf, copySample, copyStepBy, copyStep, replacedBy, ownStepBy, ownStep, stepOf}
 use Rattle.delivery.specs.declared.Cursor.{Cursor}
 use Rattle.unit_steps.specs.Items.{itemAt}
 use Rattle.unit_steps.specs.declared.Item.{Item}
-use Rattle.delivery.specs.declared.FoundCopy.the-variants as found
+use Rattle.delivery.specs.declared.Stepped.the-variants as step
 
 pub track-sample : (r : Recording) (m : ℕ) → sample (trackFor (r .layout) m) (contentOf r m) ≡ sampleOf r m
 unfolding sampleOf
@@ -40,11 +39,8 @@ module _ (r : Recording) (n : ℕ) (x : Sample) (c : Cursor) where
   unfolding stepOf ownStep
   step-own l e = rw (le-ltb _ _ l, e)
 
-module _ (r : Recording) (n : ℕ) (p : ByteOffset) (f : fields.Extractor) where
-  pub copy-refused : {g : ℕ} → nameFault (r .layout) n (f .«track_ref_index») (f .«sample_offset») ≡ g → 0 < g → found.Refused g ≡ copyFor r n p f
-  unfolding copyFor
-  copy-refused {g} e h = rw (e, ne-eqb g 0 (λ z. omega arith))
-
-  pub copy-named : {m : ℕ} → nameFault (r .layout) n (f .«track_ref_index») (f .«sample_offset») ≡ 0 → sampleNamed (r .layout) n (f .«track_ref_index») (f .«sample_offset») ≡ m → copyBy (r .layout) m p f (rangeOf (sampleOf r m) (f .«data_offset» .0) (f .«data_length»)) ≡ copyFor r n p f
-  unfolding copyFor
-  copy-named e g = rw (e, g)
+pub replaced-named : (r : Recording) (n : ℕ) (p q : ByteOffset) (f : fields.Extractor) → nameFault (r .layout) n (f .«track_ref_index») (f .«sample_offset») ≡ 0 →
+    replacedBy r p q f (naming (r .layout) n (f .«track_ref_index») (f .«sample_offset»))
+    ≡ step.Moved (record { place = q; copy = copyOf r (record { 0 = sampleNamed (r .layout) n (f .«track_ref_index») (f .«sample_offset») }) p f })
+unfolding naming
+replaced-named r n p q f e = rw e

@@ -1,19 +1,20 @@
--- The step from a cursor over sample n of a recording r, which is x (01, 'Resolving'), on any recording and any cursor. Nothing is left
--- where no unit lies in the sample; in a well-formed sample, from the start on, that is at its end.
+-- The step from a cursor over sample n of a recording r, which is x (01, 'Resolving'), on any recording and any cursor. Nothing is judged
+-- here: where no unit lies in the sample, where an extractor names none, and at an extractor in a copy, nothing is left. In a good sample,
+-- from the start on, that is at its end.
 --
 --   start                  the cursor before the first unit
 --   trackFor y n           what the track of sample n says of it, as the code has it
---   copyFor r n p f        the copy of an extractor at p with the fields f: 23 to 27, or the sample named, its start and its end there
+--   copyOf r m p f         the copy of sample m by an extractor at p with the fields f
 --   numberAfter count q    the number of a unit in its copy, after count others
 --   withCopyAt, withPlace  the cursor with another place in the copy, or in the own sample
 --   copyStep s c           a step in the copy, of a sample with the bytes s
---   extractorStepBy r n p q m    a step at an extractor at p with the fields m; the sample goes on at q
+--   replacedBy r p q f m   a step at an extractor at p with the fields f that names m; the sample goes on at q
+--   extractorStepBy        the same, if it is one
 --   ownStep r n x c        a step in the own sample
 --   stepOf r n x c         the step: in the copy until that is at its end, then in the own sample
 use Prim.Native.Nat.{ℕ, _+_}
 use mathlib.Core.List.{List}
-use Rattle.words.specs.Tests.{_<?_, _≡?_, pick}
-use Rattle.words.specs.RefusalNumbers.{extractorCopied}
+use Rattle.words.specs.Tests.{_<?_, pick}
 use Rattle.numbers.specs.declared.ByteOffset.{ByteOffset}
 use Rattle.numbers.specs.declared.SampleNumber.{SampleNumber}
 use Rattle.numbers.specs.declared.Kind.the-variants.{Avc}
@@ -29,17 +30,16 @@ use Rattle.unit_steps.specs.Items.{itemAt}
 use Rattle.unit_steps.specs.declared.Item as I
 use Rattle.unit_steps.specs.declared.Item.the-variants as item
 use Rattle.bundles.specs.Recordings.{Layout, Recording, trackAt, contentOf}
-use Rattle.links.specs.Links.{sampleNamed, nameFault}
-use Rattle.copies.specs.Range.{rangeOf}
-use Rattle.copies.specs.declared.range.CopyRange.{CopyRange}
-use Rattle.copies.specs.declared.range.CopyRange.the-variants as range
+use Rattle.links.specs.Named.{naming}
+use Rattle.links.specs.declared.Named.{Named}
+use Rattle.links.specs.declared.Named.the-variants as named
+use Rattle.copies.specs.Range.{copyEndIn}
 use Rattle.resolution_rules.specs.Resolving.{sampleOf}
+use Rattle.delivery.specs.declared.CopyCursor.{CopyCursor}
 use Rattle.delivery.specs.declared.Cursor.{Cursor}
 use Rattle.delivery.specs.declared.DeliveredUnit.{DeliveredUnit}
 use Rattle.delivery.specs.declared.Source.{Source}
 use Rattle.delivery.specs.declared.Source.the-variants as source
-use Rattle.delivery.specs.declared.FoundCopy as F
-use Rattle.delivery.specs.declared.FoundCopy.the-variants as found
 use Rattle.delivery.specs.declared.Stepped as S
 use Rattle.delivery.specs.declared.Stepped.the-variants as step
 
@@ -60,20 +60,15 @@ start = record {
 abbrev pub trackFor : Layout → ℕ → Track
 trackFor y n = record { kind = trackAt y n .kind; «length_size» = trackAt y n .lengthSize }
 
--- 25 to 27 of sample m, or where its copy starts and ends
-abbrev pub copyBy : Layout → ℕ → ByteOffset → fields.Extractor → CopyRange → F.FoundCopy
-copyBy y m p f (range.Refused fault) = found.Refused fault
-copyBy y m p f (range.End e) =
-    found.Copy (record { extractor = p; named = record { 0 = m }; track = trackFor y m; at = f .«data_offset»; end = e; count = 0 })
-
--- 23, 24, then 25 to 27
-unfoldable pub copyFor : Recording → ℕ → ByteOffset → fields.Extractor → F.FoundCopy
-copyFor r n p f =
-    let fault = nameFault (r .layout) n (f .«track_ref_index») (f .«sample_offset») in
-    let m = sampleNamed (r .layout) n (f .«track_ref_index») (f .«sample_offset») in
-    pick (fault ≡? 0)
-    (copyBy (r .layout) m p f (rangeOf (sampleOf r m) (f .«data_offset» .0) (f .«data_length»)))
-    (found.Refused fault)
+abbrev pub copyOf : Recording → SampleNumber → ByteOffset → fields.Extractor → CopyCursor
+copyOf r m p f = record {
+  extractor = p;
+  named = m;
+  track = trackFor (r .layout) (m .0);
+  at = f .«data_offset»;
+  end = place (copyEndIn (sampleOf r (m .0)) (f .«data_offset» .0) (f .«data_length»));
+  count = 0;
+}
 
 -- The number of a unit that comes after count others of its copy, which goes on at q: one more. Each unit takes a byte at least, so count
 -- lies below q; where it does not, which no cursor from the start on has, it stays.
@@ -99,11 +94,11 @@ withPlace c q = record { place = q; copy = c .copy }
 abbrev pub unitIn : SampleNumber → Source → NalUnit → DeliveredUnit
 unitIn m from u = record { span = record { sample = m; start = u .start; size = u .size }; source = from }
 
--- In the copy: an aggregator's header and additional_bytes are dropped; an extractor is 28, at the place of the one that copies it.
+-- In the copy: an aggregator's header and additional_bytes are dropped. In a good sample no extractor is copied.
 abbrev pub copyStepBy : Cursor → I.Item → S.Stepped
 copyStepBy c item.Nothing = step.Done
 copyStepBy c (item.Aggregator q) = step.Moved (withCopyAt c q (c .copy .count))
-copyStepBy c (item.Extractor q) = step.Refused (record { number = extractorCopied; place = c .copy .extractor })
+copyStepBy c (item.Extractor q) = step.Done
 copyStepBy c (item.Unit u) =
     let number = numberAfter (c .copy .count) (u .next) in
     step.Unit (unitIn (c .copy .named) (source.Copy (c .copy .extractor) number) u) (withCopyAt c (u .next) number)
@@ -115,14 +110,13 @@ unfoldable pub copyStep : List ℕ → Cursor → S.Stepped
 copyStep s c = copyStepBy c (itemAt (copySample s c) (c .copy .at .0))
 
 -- In the own sample: the same, but an extractor is replaced by its copy, and the sample goes on after it, at q.
-abbrev pub replacedBy : ByteOffset → ByteOffset → F.FoundCopy → S.Stepped
-replacedBy p q (found.Refused fault) = step.Refused (record { number = fault; place = p })
-replacedBy p q (found.Copy copy) = step.Moved (record { place = q; copy = copy })
+abbrev pub replacedBy : Recording → ByteOffset → ByteOffset → fields.Extractor → Named → S.Stepped
+replacedBy r p q f (named.Refused fault) = step.Done
+replacedBy r p q f (named.Sample m) = step.Moved (record { place = q; copy = copyOf r m p f })
 
--- in a well-formed sample `Nothing` does not come
 abbrev pub extractorStepBy : Recording → ℕ → ByteOffset → ByteOffset → E.MaybeExtractor → S.Stepped
 extractorStepBy r n p q extractor.Nothing = step.Done
-extractorStepBy r n p q (extractor.Extractor f) = replacedBy p q (copyFor r n p f)
+extractorStepBy r n p q (extractor.Extractor f) = replacedBy r p q f (naming (r .layout) n (f .«track_ref_index») (f .«sample_offset»))
 
 abbrev pub ownStepBy : Recording → ℕ → Sample → Cursor → I.Item → S.Stepped
 ownStepBy r n x c item.Nothing = step.Done

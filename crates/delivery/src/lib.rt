@@ -1,19 +1,16 @@
-// What a sample delivers, unit by unit: a cursor, and the one step that all loops over delivered units take.
+// What a good sample delivers, unit by unit: a cursor, and the one step that all loops over delivered units take. Nothing is judged here.
 // Every function takes any bytes, any table, any numbers and any cursor.
 ghost use mathlib.Core.Path.{_≡_};
 ghost use lib.ListN.{length};
 ghost use Rattle.units.specs.Units.{sample};
 ghost use Rattle.units.specs.Steps.{extractorAt};
 ghost use Rattle.tables.specs.Tables.{layoutIn, recordingIn};
-ghost use Rattle.delivery.specs.Steps.{start, trackFor, copyFor, numberAfter, withCopyAt, withPlace, copyStep, extractorStepBy, ownStep, stepOf};
-use copies::range::CopyRange;
+ghost use Rattle.delivery.specs.Steps.{start, trackFor, copyOf, numberAfter, withCopyAt, withPlace, copyStep, extractorStepBy, ownStep, stepOf};
 use links::Named;
 use numbers::ByteOffset;
 use numbers::Kind;
 use numbers::LengthSize;
-use numbers::Refusal;
 use numbers::SampleNumber;
-use numbers::refusals;
 use unit_steps::Item;
 use units::Extractor;
 use units::MaybeExtractor;
@@ -55,18 +52,11 @@ pub struct DeliveredUnit {
     pub source: Source,
 }
 
-// A step: nothing is left; a refusal, 23 to 28; nothing delivered, and how it goes on; a unit, and how it goes on.
+// A step: nothing is left; nothing delivered, and how it goes on; a unit, and how it goes on.
 pub enum Stepped {
     Done,
-    Refused(Refusal),
     Moved(Cursor),
     Unit(DeliveredUnit, Cursor),
-}
-
-// An extractor: 23 to 27, or the copy that it stands for.
-enum FoundCopy {
-    Refused(u8),
-    Copy(CopyCursor),
 }
 
 // What the track of a sample says of it.
@@ -99,30 +89,21 @@ pub fn start() -> Cursor
     }
 }
 
-// The copy of an extractor at a place of sample n: here the sample is named and checked and the copy's end found, once for each extractor.
-fn copy_for(b: &[u8], t: &[u64], n: SampleNumber, at: ByteOffset, f: Extractor) -> FoundCopy
-    ensures { λ r. ⌜ r ≡ copyFor (recordingIn (now (b .entry)) (now (t .entry))) (n .0) at f ⌝ }
+// The copy of sample m by an extractor at a place: from data_offset up to where it ends.
+fn copy_of(b: &[u8], t: &[u64], m: SampleNumber, at: ByteOffset, f: Extractor) -> CopyCursor
+    ensures { λ r. ⌜ r ≡ copyOf (recordingIn (now (b .entry)) (now (t .entry))) m at f ⌝ }
 {
-    let named = links::name(t, n, f.track_ref_index, f.sample_offset);
-    match named {
-        Named::Refused(fault) => FoundCopy::Refused(fault),
-        Named::Sample(m) => {
-            let k = track_of(t, m);
-            let z = sample_tables::sample_bytes(b, t, m);
-            let from = f.data_offset;
-            let range = copies::range::range_of(k, z, from, f.data_length);
-            match range {
-                CopyRange::Refused(fault) => FoundCopy::Refused(fault),
-                CopyRange::End(end) => FoundCopy::Copy(CopyCursor {
-                    extractor: at,
-                    named: m,
-                    track: k,
-                    at: from,
-                    end: end,
-                    count: 0,
-                }),
-            }
-        }
+    let k = track_of(t, m);
+    let z = sample_tables::sample_bytes(b, t, m);
+    let from = f.data_offset;
+    let end = copies::range::copy_end_in(k, z, from, f.data_length);
+    CopyCursor {
+        extractor: at,
+        named: m,
+        track: k,
+        at: from,
+        end: end,
+        count: 0,
     }
 }
 
@@ -181,10 +162,8 @@ fn copy_step(z: &[u8], c: Cursor) -> Stepped
     match item {
         Item::Nothing => Stepped::Done,
         Item::Aggregator(included) => Stepped::Moved(with_copy_at(c, included, copy.count)),
-        Item::Extractor(_) => Stepped::Refused(Refusal {
-            number: refusals::EXTRACTOR_COPIED,
-            place: extractor,
-        }),
+        // does not come: the sample is good
+        Item::Extractor(_) => Stepped::Done,
         Item::Unit(u) => {
             let start = u.start;
             let number = number_after(copy.count, u.next);
@@ -219,18 +198,19 @@ fn extractor_step(
 {
     let fields = unit_steps::extractor_at(k, x, place, ByteOffset(x.len()));
     match fields {
+        // this and a name that is refused do not come: the sample is good
         MaybeExtractor::Nothing => Stepped::Done,
         MaybeExtractor::Extractor(f) => {
-            let found = copy_for(b, t, n, place, f);
-            match found {
-                FoundCopy::Refused(fault) => Stepped::Refused(Refusal {
-                    number: fault,
-                    place: place,
-                }),
-                FoundCopy::Copy(copy) => Stepped::Moved(Cursor {
-                    place: next,
-                    copy: copy,
-                }),
+            let named = links::name(t, n, f.track_ref_index, f.sample_offset);
+            match named {
+                Named::Refused(_) => Stepped::Done,
+                Named::Sample(m) => {
+                    let copy = copy_of(b, t, m, place, f);
+                    Stepped::Moved(Cursor {
+                        place: next,
+                        copy: copy,
+                    })
+                }
             }
         }
     }
@@ -264,7 +244,7 @@ fn own_step(b: &[u8], t: &[u64], n: SampleNumber, k: Track, x: &[u8], c: Cursor)
     }
 }
 
-// The step from a cursor over sample n, which is x: in the copy, until that is at its end; then in the sample itself.
+// The step from a cursor over sample n, which is x and good: in the copy, until that is at its end; then in the sample itself.
 pub fn step(b: &[u8], t: &[u64], n: SampleNumber, k: Track, x: &[u8], c: Cursor) -> Stepped
     ensures { λ r. ⌜ r ≡ stepOf (recordingIn (now (b .entry)) (now (t .entry))) (n .0) (sample k (now (x .entry))) c ⌝ }
 {

@@ -5,7 +5,6 @@
 --   puts-length           the buffer's length stays
 --   puts-room, puts-fit   there is room for the unit at hand
 --   puts-take, puts-end   one unit more; all
---   puts-never            no step is refused
 use Prim.Native.Nat.{ℕ, _+_, _≤_}
 use mathlib.Core.Path.{_≡_, refl, ap, sym, _∙_}
 use mathlib.Core.List.{List, [], _∷_, _++_}
@@ -15,13 +14,9 @@ use Rattle.words.proofs.Entries.{map-append}
 use Rattle.words.specs.Refusals.{ok}
 use Rattle.words.specs.Buffers.{writeAt, overwrite, put}
 use Rattle.words.proofs.Buffers.{write-none, write-first, write-length, put-next}
-use Rattle.words.proofs.Refusals.{ok-refused}
-use Rattle.numbers.specs.declared.Refusal.{Refusal}
 use Rattle.units.specs.Units.{Sample}
-use Rattle.samples.specs.Check.{check}
 use Rattle.bundles.specs.Recordings.{Recording, contentOf}
 use Rattle.resolution_rules.specs.Resolving.{sampleOf, Span, own, delivered, judged}
-use Rattle.resolution_rules.proofs.Good.{good-rules}
 use Rattle.delivery.specs.Steps.{start, stepOf}
 use Rattle.delivery.specs.Deliveries.{Delivery, spanFor, unitFor, spans}
 use Rattle.delivery.specs.declared.Cursor.{Cursor}
@@ -32,7 +27,7 @@ use Rattle.delivery.proofs.Deliveries.{deliveries-spans}
 use Rattle.resolution.specs.Framing.{framedUnit, framed}
 use Rattle.resolution.specs.declared.writing.Framing.{Framing}
 use Rattle.resolution.proofs.Framing.{framed-none, framed-one, framed-append, framed-length}
-use Rattle.delivery.proofs.Folds.{Folded, folded-start, folded-unit, folded-split, folded-refused, folded-done, step-inside}
+use Rattle.delivery.proofs.Folds.{Folded, folded-start, folded-unit, folded-split, folded-done, step-inside}
 
 pub unit-inside :
     (r : Recording) (n : ℕ) (x : Sample) → x ≡ own r n → (c : Cursor) {u : DeliveredUnit} {d : Cursor} → stepOf r n x c ≡ step.Unit u d →
@@ -53,14 +48,8 @@ module _ (f : Framing) (r : Recording) (n : ℕ) (x : Sample) where
     puts-length = rw (w .holds .0) (write-length o 0 (framed f r (spans (w .us))) (let h = w .holds .2 in omega arith))
 
     module _ (same : x ≡ own r n) (good : judged r n ≡ ok tt) where
-      formed : check x ≡ ok tt
-      formed = rw same (good-rules r n good .formed)
-
       pub puts-end : stepOf r n x c ≡ step.Done → out ≡ overwrite o (framed f r (delivered r n))
-      puts-end e = let h = folded-done r n x (Puts o out at) c w same formed e in rw (deliveries-spans r n) at (h .1 .0) ∙ write-first o (framed f r (delivered r n))
-
-      pub puts-never : {G : Type 0} {v : Refusal} → stepOf r n x c ≡ step.Refused v → G
-      puts-never e = ok-refused (sym (folded-refused r n x (Puts o out at) c w same formed e) ∙ good)
+      puts-end e = let h = folded-done r n x (Puts o out at) c w same good e in rw (deliveries-spans r n) at (h .0) ∙ write-first o (framed f r (delivered r n))
 
       module _ {u : DeliveredUnit} {d : Cursor} (e : stepOf r n x c ≡ step.Unit u d) where
         abbrev U : Span
@@ -72,9 +61,9 @@ module _ (f : Framing) (r : Recording) (n : ℕ) (x : Sample) where
         module _ (room : length (framed f r (delivered r n)) ≤ length o) where
           fits : length (framed f r (spans (w .us))) + length (framedUnit f r U) ≤ length o
           fits =
-              let vs = spans (rest r n x d .units) in
+              let vs = spans (rest r n x d) in
               let p : delivered r n ≡ spans (w .us) ++ (U ∷ vs) =
-              sym (deliveries-spans r n) ∙ ap spans (folded-split r n x (Puts o out at) c w same formed good e) ∙ map-append (λ (a : Delivery). a .span) (w .us) (unitFor u ∷ rest r n x d .units) in
+              sym (deliveries-spans r n) ∙ ap spans (folded-split r n x (Puts o out at) c w same good e) ∙ map-append (λ (a : Delivery). a .span) (w .us) (unitFor u ∷ rest r n x d) in
               let s : framed f r (delivered r n) ≡ framed f r (spans (w .us)) ++ framed f r (U ∷ vs) = ap (framed f r) p ∙ framed-append f r (spans (w .us)) (U ∷ vs) in
               let t : framed f r (U ∷ vs) ≡ framed f r (U ∷ []) ++ framed f r vs = framed-append f r (U ∷ []) vs in
               let a = ap length s ∙ length-append (framed f r (spans (w .us))) (framed f r (U ∷ vs)) in

@@ -1,52 +1,46 @@
--- A byte stream judged, unit by unit, as a loop over what a sample delivers does it. Assumes nothing.
+-- A byte stream judged, unit by unit, as a loop over what a good sample delivers does it. Assumes nothing.
 --
---   with-good, with-bad, with-one    32 or the length, with one unit more
---   Judges, judges-start, -take      what a loop has judged
---   judges-fit                       the sums fit
---   judges-refused, judges-end       what is judged of a sample
+--   Streams us size                        no unit of us is refused, and their stream is so long
+--   more-good, here-bad                    one unit more that can stand in it; one that cannot
+--   Judges, judges-start, -take            what a loop has judged
+--   judges-fit                             the sums fit
+--   judges-bad, judges-end                 what is judged of a sample
 use Prim.Native.Nat.{ℕ, _+_, _*_, _≤_}
 use mathlib.Core.Path.{_≡_, refl, ap, sym, _∙_}
-use mathlib.Core.Bool.{true, false, not}
+use mathlib.Core.Bool.{true, false}
 use mathlib.Core.List.{List, [], _∷_, _++_}
 use native.Mathlib.Omega.{arith}
 use lib.ListN.{length, length-append, length-take, length-drop}
 use Rattle.words.specs.RefusalNumbers.{unitNotStreamable}
-use Rattle.words.specs.Refusals.{_if_, Answer, Verdict, refused, ok, _andThen_, _atPlace_, countOf}
+use Rattle.words.specs.Refusals.{refused, ok}
 use Rattle.words.specs.Buffers.{counted}
-use Rattle.words.proofs.Tests.{by-bool}
 use Rattle.words.proofs.Entries.{map-append}
-use Rattle.numbers.specs.declared.Refusal.{Refusal}
 use Rattle.units.specs.Units.{Sample}
-use Rattle.samples.specs.Check.{check}
 use Rattle.byte_streams.specs.Writing.{isStreamable, streamOf, streamVerdict, toStream}
 use Rattle.byte_streams.proofs.Streams.{verdict-append, stream-none, stream-append, stream-size}
 use Rattle.bundles.specs.Limits.{bundleMost}
 use Rattle.bundles.specs.Recordings.{Recording}
 use Rattle.tables.specs.Tables.{recordingIn}
-use Rattle.resolution_rules.specs.Resolving.{Span, sampleOf}
+use Rattle.resolution_rules.specs.Resolving.{Span, own, judged}
 use Rattle.resolution_rules.specs.Calls.{spanBytes, bytesOf}
+use Rattle.resolution_rules.proofs.Delivered.{span-length}
 use Rattle.delivery.specs.Steps.{start, stepOf}
-use Rattle.delivery.specs.Deliveries.{Delivery, spanFor, unitFor, spans}
+use Rattle.delivery.specs.Deliveries.{Delivery, spanFor, unitFor, spans, deliveries}
 use Rattle.delivery.specs.declared.Cursor.{Cursor}
 use Rattle.delivery.specs.declared.DeliveredUnit.{DeliveredUnit}
 use Rattle.delivery.specs.declared.Stepped.the-variants as step
 use Rattle.delivery.proofs.Deliveries.{allSize, all-none, all-one, all-append, deliveries-spans}
-use Rattle.delivery.proofs.Folds.{Folded, folded-start, folded-unit, folded-fits, folded-refused, folded-done}
-use Rattle.judging.proofs.Counting.{bound-most}
-use Rattle.resolution.specs.Streams.{streamMost, withUnit, streamSize}
+use Rattle.delivery.proofs.Rests.{rest}
+use Rattle.delivery.proofs.Folds.{Folded, folded-start, folded-unit, folded-fits, folded-done, folded-split, bound-most}
+use Rattle.resolution.specs.Streams.{streamMost, streamSize}
+use Rattle.resolution.proofs.Puts.{unit-inside}
+
+-- no unit is refused, and their stream is so long
+abbrev pub Streams : List (List ℕ) → ℕ → Type 0
+Streams us size = (streamVerdict 0 us ≡ ok tt) × (size ≡ length (streamOf us))
 
 -- one unit more
-pub with-good : (size : ℕ) (u : List ℕ) → isStreamable u ≡ true → {k : ℕ} → length u ≡ k → withUnit (ok size) u ≡ ok (size + (4 + k))
-with-good size u e l = rw (e, l)
-
-pub with-bad : (size : ℕ) (u : List ℕ) → isStreamable u ≡ false → withUnit (ok size) u ≡ refused unitNotStreamable size
-with-bad size u e = rw e
-
-one-verdict : (p : ℕ) (u : List ℕ) → streamVerdict p (u ∷ []) ≡ ((unitNotStreamable if not (isStreamable u)) atPlace p)
-unfolding streamVerdict
-one-verdict p u = by-bool (isStreamable u) (λ t. rw t) (λ t. rw t)
-
-module _ (us : List (List ℕ)) (u : List ℕ) where
+module _ (us : List (List ℕ)) (size : ℕ) (h : Streams us size) (u : List ℕ) where
   longer : length (streamOf (us ++ (u ∷ []))) ≡ length (streamOf us) + (4 + length u)
   longer =
       let a = ap length (stream-append us (u ∷ [])) ∙ length-append (streamOf us) (streamOf (u ∷ [])) in
@@ -54,16 +48,13 @@ module _ (us : List (List ℕ)) (u : List ℕ) where
       let n = stream-none in
       omega arith
 
-  with-case : (v : Verdict) → streamVerdict 0 us ≡ v → counted (toStream (us ++ (u ∷ []))) ≡ withUnit (counted (v andThen ok (streamOf us))) u
-  unfolding toStream
-  with-case (refused m p) e = rw (verdict-append 0 us (u ∷ []), e)
-  with-case (ok t) e = by-bool (isStreamable u)
-      (λ s. rw (verdict-append 0 us (u ∷ []), e, one-verdict (0 + length (streamOf us)) u, s) (ap ok longer))
-      (λ s. rw (verdict-append 0 us (u ∷ []), e, one-verdict (0 + length (streamOf us)) u, s) (ap (refused unitNotStreamable) (omega arith)))
+  pub more-good : isStreamable u ≡ true → {k : ℕ} → length u ≡ k → Streams (us ++ (u ∷ [])) (size + (4 + k))
+  unfolding streamVerdict
+  more-good t l = let n = longer in let s = h .1 in (rw (verdict-append 0 us (u ∷ []), h .0, t), omega arith)
 
-  with-one : counted (toStream (us ++ (u ∷ []))) ≡ withUnit (counted (toStream us)) u
-  unfolding toStream
-  with-one = with-case (streamVerdict 0 us) refl
+  pub here-bad : isStreamable u ≡ false → (vs : List (List ℕ)) → counted (toStream (us ++ (u ∷ vs))) ≡ refused unitNotStreamable size
+  unfolding toStream streamVerdict
+  here-bad t vs = rw (verdict-append 0 us (u ∷ vs), h .0, t) (ap (refused unitNotStreamable) (let s = h .1 in omega arith))
 
 -- no longer than the units with 4 bytes each
 module _ (r : Recording) where
@@ -80,51 +71,49 @@ module _ (r : Recording) where
       let o = all-one d in
       omega arith
 
-counted-most : (us : List (List ℕ)) → countOf (counted (toStream us)) ≤ length (streamOf us)
-unfolding toStream
-counted-most us = go (streamVerdict 0 us)
-  where
-    go : (v : Verdict) → countOf (counted (v andThen ok (streamOf us))) ≤ length (streamOf us)
-    go (refused m p) = omega arith
-    go (ok t) = omega arith
+  -- the bytes of joined units
+  bytes-append : (ds es : List Delivery) → bytesOf r (spans (ds ++ es)) ≡ bytesOf r (spans ds) ++ bytesOf r (spans es)
+  bytes-append ds es = ap (bytesOf r) (map-append (λ (d : Delivery). d .span) ds es) ∙ map-append (spanBytes r) (spans ds) (spans es)
 
 module _ (r : Recording) (n : ℕ) (x : Sample) where
   -- what is judged of the units so far
-  abbrev pub Judges : Answer ℕ → List Delivery → Type 0
-  Judges a ds = a ≡ counted (toStream (bytesOf r (spans ds)))
+  abbrev pub Judges : ℕ → List Delivery → Type 0
+  Judges size ds = Streams (bytesOf r (spans ds)) size
 
-  pub judges-start : Folded r n x (Judges (ok 0)) start
-  unfolding toStream streamVerdict
-  judges-start = folded-start r n x (Judges (ok 0)) (ap ok (sym stream-none))
+  pub judges-start : Folded r n x (Judges 0) start
+  unfolding streamVerdict
+  judges-start = folded-start r n x (Judges 0) (refl, sym stream-none)
 
-  module _ (a : Answer ℕ) (c : Cursor) (w : Folded r n x (Judges a) c) where
-    pub judges-take : {u : DeliveredUnit} {d : Cursor} → stepOf r n x c ≡ step.Unit u d → Folded r n x (Judges (withUnit a (spanBytes r (spanFor (u .span))))) d
-    judges-take {u} e = folded-unit r n x (Judges a) c w (Judges (withUnit a (spanBytes r (spanFor (u .span)))))
-        (rw (w .holds) (
-        sym (with-one (bytesOf r (spans (w .us))) (spanBytes r (spanFor (u .span))))
-        ∙ ap (λ us. counted (toStream us)) (sym (map-append (spanBytes r) (spans (w .us)) (spanFor (u .span) ∷ [])))
-        ∙ ap (λ us. counted (toStream (bytesOf r us))) (sym (map-append (λ (d : Delivery). d .span) (w .us) (unitFor u ∷ []))))) e
+  module _ (size : ℕ) (c : Cursor) (w : Folded r n x (Judges size) c) (same : x ≡ own r n) where
+    pub judges-take : {u : DeliveredUnit} {d : Cursor} → stepOf r n x c ≡ step.Unit u d → isStreamable (spanBytes r (spanFor (u .span))) ≡ true → Folded r n x (Judges (size + (4 + u .span .size))) d
+    judges-take {u} e t = folded-unit r n x (Judges size) c w (Judges (size + (4 + u .span .size)))
+        (rw (bytes-append r (w .us) (unitFor u ∷ []))
+        (more-good (bytesOf r (spans (w .us))) size (w .holds) (spanBytes r (spanFor (u .span))) t (span-length r (spanFor (u .span)) (unit-inside r n x same c e)))) e
 
-    module _ (same : x ≡ sampleOf r n) (formed : check x ≡ ok tt) where
-      pub judges-refused : {f : Refusal} → stepOf r n x c ≡ step.Refused f → streamSize r n ≡ refused (f .number) (f .place .0)
+    -- a good sample
+    module _ (good : judged r n ≡ ok tt) where
+      stream-units : (ds : List Delivery) → deliveries r n ≡ ds → streamSize r n ≡ counted (toStream (bytesOf r (spans ds)))
       unfolding streamSize
-      judges-refused e = rw (folded-refused r n x (Judges a) c w same formed e)
+      stream-units ds e = ap (λ us. counted (toStream (bytesOf r us))) (sym (deliveries-spans r n) ∙ ap spans e)
 
-      pub judges-end : stepOf r n x c ≡ step.Done → streamSize r n ≡ a
-      unfolding streamSize
-      judges-end e =
-          let h = folded-done r n x (Judges a) c w same formed e in
-          rw (h .0) (ap (λ us. counted (toStream (bytesOf r us))) (sym (deliveries-spans r n)) ∙ sym (h .1))
+      pub judges-bad : {u : DeliveredUnit} {d : Cursor} → stepOf r n x c ≡ step.Unit u d → isStreamable (spanBytes r (spanFor (u .span))) ≡ false → streamSize r n ≡ refused unitNotStreamable size
+      judges-bad {u} {d} e t =
+          stream-units (w .us ++ (unitFor u ∷ rest r n x d)) (folded-split r n x (Judges size) c w same good e)
+          ∙ rw (bytes-append r (w .us) (unitFor u ∷ rest r n x d)) (here-bad (bytesOf r (spans (w .us))) size (w .holds) (spanBytes r (spanFor (u .span))) t (bytesOf r (spans (rest r n x d))))
+
+      pub judges-end : stepOf r n x c ≡ step.Done → streamSize r n ≡ ok size
+      unfolding toStream
+      judges-end e = let h = folded-done r n x (Judges size) c w same good e in stream-units (deliveries r n) refl ∙ rw (h .0, h .1)
 
 -- the sums fit
 pub judges-fit :
-    (b t : List ℕ) (n : ℕ) (x : Sample) (a : Answer ℕ) (c : Cursor) → Folded (recordingIn b t) n x (Judges (recordingIn b t) n x a) c →
-    x ≡ sampleOf (recordingIn b t) n → length b ≤ bundleMost → {u : DeliveredUnit} {d : Cursor} → stepOf (recordingIn b t) n x c ≡ step.Unit u d →
-    countOf a + (4 + u .span .size) ≤ streamMost
-judges-fit b t n x a c w same few {u} e =
+    (b t : List ℕ) (n : ℕ) (x : Sample) (size : ℕ) (c : Cursor) → Folded (recordingIn b t) n x (Judges (recordingIn b t) n x size) c →
+    x ≡ own (recordingIn b t) n → length b ≤ bundleMost → {u : DeliveredUnit} {d : Cursor} → stepOf (recordingIn b t) n x c ≡ step.Unit u d →
+    size + (4 + u .span .size) ≤ streamMost
+judges-fit b t n x size c w same few {u} e =
     let r = recordingIn b t in
-    let f = folded-fits r n x (Judges r n x a) c w e in
+    let f = folded-fits r n x (Judges r n x size) c w e in
     let l = bound-most b t n x same few in
     let m = stream-most r (w .us) in
-    let k : countOf a ≤ length (streamOf (bytesOf r (spans (w .us)))) = rw (w .holds) (counted-most (bytesOf r (spans (w .us)))) in
+    let k = w .holds .1 in
     omega arith

@@ -76,10 +76,6 @@ pub(crate) fn write_units(
             Stepped::Done => {
                 return;
             }
-            // does not come: the sample is good
-            Stepped::Refused(_) => {
-                return;
-            }
             Stepped::Moved(d) => {
                 c = d;
             }
@@ -107,7 +103,7 @@ pub(crate) fn resolve_sample(b: &[u8], t: &[u64], n: SampleNumber, out: &mut [u8
     ensures { λ r. ⌜ Wrote (now (out .entry)) (now (out .exit)) (answerOf r)
         (within (length (now (out .entry))) (resolve (recordingIn (now (b .entry)) (now (t .entry))) (n .0))) ⌝ }
 {
-    let judged = judging::judge(b, t, n);
+    let judged = verdicts::judge(b, t, n);
     match judged {
         Judged::Refused(f) => Written::Refused(f),
         Judged::Good(a) => {

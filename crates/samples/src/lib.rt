@@ -29,14 +29,14 @@ fn check_top(k: Track, s: &[u8]) -> Checked
     let n = l.bytes();
     let mut at: usize = 0;
     while at < s.len() {
-        let f = units::unit_fault(k, s, ByteOffset(at), ByteOffset(s.len()));
-        if f != 0 {
+        let u = units::judge_unit(k, s, ByteOffset(at), ByteOffset(s.len()));
+        if u.fault != 0 {
             return Checked::Refused(Refusal {
-                number: f,
+                number: u.fault,
                 place: ByteOffset(at),
             });
         }
-        at = at + n + l.number(s, at);
+        at = at + n + u.size;
     }
     Checked::WellFormed
 }
@@ -86,12 +86,13 @@ fn check_contents(k: Track, s: &[u8]) -> Checked
         if units::type_at(k, s, ByteOffset(at)) == units::AGGREGATOR {
             let mut q = at + n + LengthSize::HEADER + n;
             while q < end {
-                number = units::included_fault(k, s, ByteOffset(q), ByteOffset(end));
+                let u = units::judge_included(k, s, ByteOffset(q), ByteOffset(end));
+                number = u.fault;
                 if number != 0 {
                     place = q;
                     break 'walk;
                 }
-                q = q + n + l.number(s, q);
+                q = q + n + u.size;
             }
             number = cover_fault(k, s, at);
         } else {

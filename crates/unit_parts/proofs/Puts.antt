@@ -4,7 +4,6 @@
 --   Puts, puts-start           what a loop has written
 --   puts-length                how many numbers there are stays
 --   puts-end                   all
---   puts-never                 no refusal comes
 --   puts-inside                the unit at hand lies in the bundle
 --   puts-room, puts-take       there is room for it; one unit more
 use Prim.Native.Nat.{ℕ, _+_, _≤_}
@@ -16,10 +15,7 @@ use Rattle.words.specs.Refusals.{ok}
 use Rattle.words.specs.Buffers.{writeAt, overwrite}
 use Rattle.words.proofs.Entries.{map-append}
 use Rattle.words.proofs.Buffers.{write-none, write-first, write-length, write-write}
-use Rattle.words.proofs.Refusals.{ok-refused}
-use Rattle.numbers.specs.declared.Refusal.{Refusal}
 use Rattle.units.specs.Units.{Sample}
-use Rattle.samples.specs.Check.{check}
 use Rattle.bundles.specs.Recordings.{Recording}
 use Rattle.tables.specs.Tables.{recordingIn, startIn}
 use Rattle.resolution_rules.specs.Resolving.{Span, own, delivered, judged}
@@ -33,7 +29,7 @@ use Rattle.delivery.specs.declared.DeliveredUnit.{DeliveredUnit}
 use Rattle.delivery.specs.declared.Stepped.the-variants as step
 use Rattle.delivery.proofs.Rests.{rest}
 use Rattle.delivery.proofs.Deliveries.{deliveries-spans}
-use Rattle.delivery.proofs.Folds.{Folded, folded-start, folded-unit, folded-split, folded-refused, folded-done}
+use Rattle.delivery.proofs.Folds.{Folded, folded-start, folded-unit, folded-split, folded-done}
 use Rattle.unit_parts.specs.Answers.{partsIn}
 use Rattle.unit_parts.proofs.Parts.{parts-none, parts-append, parts-more, parts-length, part-inside}
 
@@ -56,24 +52,18 @@ module _ (b t : List ℕ) (n : ℕ) (x : Sample) where
     puts-length = rw (w .holds .0) (write-length o 0 (Parts (w .us)) (let h = w .holds .2 in omega arith))
 
     module _ (same : x ≡ own (recordingIn b t) n) (good : judged (recordingIn b t) n ≡ ok tt) where
-      formed : check x ≡ ok tt
-      formed = rw same (good-rules R n good .formed)
-
       pub puts-end : stepOf (recordingIn b t) n x c ≡ step.Done → out ≡ overwrite o (partsIn b t n)
-      puts-end e = let h = folded-done R n x (Puts o out at) c w same formed e in rw (deliveries-spans R n) at (h .1 .0) ∙ write-first o (partsIn b t n)
-
-      pub puts-never : {G : Type 0} {f : Refusal} → stepOf (recordingIn b t) n x c ≡ step.Refused f → G
-      puts-never e = ok-refused (sym (folded-refused R n x (Puts o out at) c w same formed e) ∙ good)
+      puts-end e = let h = folded-done R n x (Puts o out at) c w same good e in rw (deliveries-spans R n) at (h .0) ∙ write-first o (partsIn b t n)
 
       module _ {u : DeliveredUnit} {d : Cursor} (e : stepOf (recordingIn b t) n x c ≡ step.Unit u d) where
         abbrev U : Span
         U = spanFor (u .span)
 
         -- the units so far, the one at hand, and those after it
-        split : delivered R n ≡ spans (w .us) ++ (U ∷ spans (rest R n x d .units))
+        split : delivered R n ≡ spans (w .us) ++ (U ∷ spans (rest R n x d))
         split =
-            sym (deliveries-spans R n) ∙ ap spans (folded-split R n x (Puts o out at) c w same formed good e)
-            ∙ map-append (λ (a : Delivery). a .span) (w .us) (unitFor u ∷ rest R n x d .units)
+            sym (deliveries-spans R n) ∙ ap spans (folded-split R n x (Puts o out at) c w same good e)
+            ∙ map-append (λ (a : Delivery). a .span) (w .us) (unitFor u ∷ rest R n x d)
 
         pub puts-inside : startIn t (u .span .sample .0) + (u .span .start .0 + u .span .size) ≤ length b
         puts-inside =
@@ -87,7 +77,7 @@ module _ (b t : List ℕ) (n : ℕ) (x : Sample) where
         module _ (room : length (partsIn b t n) ≤ length o) where
           pub puts-room : at + 2 ≤ length o
           puts-room =
-              let vs = spans (rest R n x d .units) in
+              let vs = spans (rest R n x d) in
               let a = ap (λ us. length (partsBy (startIn t) us)) split ∙ ap length (parts-append (startIn t) (spans (w .us)) (U ∷ vs)) ∙ length-append (Parts (w .us)) (partsBy (startIn t) (U ∷ vs)) in
               let l = parts-length (startIn t) (U ∷ vs) in
               let h = w .holds .1 in

@@ -50,10 +50,6 @@ fn write_parts(out: &mut [u64], b: &[u8], t: &[u64], n: SampleNumber, k: Track, 
             Stepped::Done => {
                 return;
             }
-            // does not come: the sample is good
-            Stepped::Refused(_) => {
-                return;
-            }
             Stepped::Moved(d) => {
                 c = d;
             }
@@ -81,7 +77,7 @@ pub(crate) fn place_units(b: &[u8], t: &[u64], n: SampleNumber, out: &mut [u64])
     requires { ⌜ length (now b) ≤ bundleMost ⌝ }
     ensures { λ r. ⌜ Wrote (now (out .entry)) (now (out .exit)) (answerOf r) (within (length (now (out .entry))) (partsOf (recordingIn (now (b .entry)) (now (t .entry))) (n .0) (startIn (now (t .entry))))) ⌝ }
 {
-    let judged = judging::judge(b, t, n);
+    let judged = verdicts::judge(b, t, n);
     match judged {
         Judged::Refused(f) => Written::Refused(f),
         Judged::Good(a) => {

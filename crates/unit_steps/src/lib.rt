@@ -54,22 +54,33 @@ pub fn item_at(k: Track, s: &[u8], at: ByteOffset) -> Item
     })
 }
 
-// The fields of the extractor at a place, if it is one and has none of 14 to 18 and 22 in what ends at an offset.
+// The fields of the extractor at a place, if it is one and has none of 14 to 18 and 22 in what ends at an offset: its length is that of an
+// extractor, it ends at or before that offset, and its first byte is of type 31 without the top bit. Each is read once.
 pub fn extractor_at(k: Track, s: &[u8], at: ByteOffset, end: ByteOffset) -> MaybeExtractor
     ensures { λ r. ⌜ r ≡ extractorAt (sample k (now (s .entry))) (end .0) (at .0) ⌝ }
 {
-    if units::unit_fault(k, s, at, end) != 0 {
-        return MaybeExtractor::Nothing;
-    }
-    if units::type_at(k, s, at) != units::EXTRACTOR {
-        return MaybeExtractor::Nothing;
-    }
-    if units::extractor_fault(k, s, at) != 0 {
-        return MaybeExtractor::Nothing;
-    }
+    let p = at.0;
+    let e = end.0;
     let l = k.length_size;
     let n = l.bytes();
-    let fields = at.0 + n + LengthSize::HEADER;
+    let bytes = l.extractor_size();
+    if e <= p {
+        return MaybeExtractor::Nothing;
+    }
+    if e - p < n + bytes {
+        return MaybeExtractor::Nothing;
+    }
+    if l.number(s, p) != bytes {
+        return MaybeExtractor::Nothing;
+    }
+    let head = numbers::byte(s, p + n);
+    if numbers::FORBIDDEN_BIT <= head {
+        return MaybeExtractor::Nothing;
+    }
+    if head % numbers::NAL_TYPES != units::EXTRACTOR {
+        return MaybeExtractor::Nothing;
+    }
+    let fields = p + n + LengthSize::HEADER;
     let index = numbers::byte(s, fields);
     let offset = numbers::byte(s, fields + 1);
     let from = l.number(s, fields + 2);

@@ -1,9 +1,13 @@
 // The units of a sample: what stands at a place, and what is wrong with it.
 ghost use mathlib.Core.Path.{_≡_};
 ghost use mathlib.Core.List.{[]};
-ghost use mathlib.Core.Bool.{_&&_};
+ghost use mathlib.Core.Bool.{_&&_, not};
+ghost use Rattle.words.specs.Tests.{_≡?_};
+ghost use Rattle.words.specs.Refusals.{_if_};
+ghost use Rattle.words.specs.RefusalNumbers.{badExtractorSize};
 ghost use Rattle.numbers.specs.Kinds.{isAvc};
-ghost use Rattle.units.specs.Units.{sample, type, leastSize, unitFault};
+ghost use Rattle.numbers.specs.Sizes.{extractorSize};
+ghost use Rattle.units.specs.Units.{sample, size, type, leastSize, extractorType, unitFault};
 ghost use Rattle.units.specs.Extractors.{extractorFault};
 ghost use Rattle.units.specs.Aggregators.{isSlice, includedFault};
 use numbers::ByteOffset;
@@ -47,6 +51,12 @@ pub enum MaybeExtractor {
     Nothing,
 }
 
+// What a walk needs of a unit: its first refusal, 0 for none, and its size. Its length is read once for both.
+pub struct Judged {
+    pub fault: u8,
+    pub size: usize,
+}
+
 // The type of the unit at a place; 0 where there is no byte.
 pub fn type_at(k: Track, s: &[u8], at: ByteOffset) -> u8
     ensures { λ r. ⌜ r ≡ type (sample k (now (s .entry))) (at .0) ⌝ }
@@ -83,8 +93,9 @@ fn least_size(k: Track, t: u8) -> usize
     1
 }
 
-// The first of 14 to 18 for the unit at a place, in what ends at an offset; 0 for none.
-pub fn unit_fault(k: Track, s: &[u8], at: ByteOffset, end: ByteOffset) -> u8
+// The first of 14 to 18 for the unit at a place, which has this many bytes, in what ends at an offset; 0 for none.
+fn unit_fault(k: Track, s: &[u8], at: ByteOffset, end: ByteOffset, bytes: usize) -> u8
+    requires { ⌜ bytes ≡ size (sample k (now s)) (at .0) ⌝ }
     ensures { λ r. ⌜ r ≡ unitFault (sample k (now (s .entry))) (end .0) (at .0) ⌝ }
 {
     let p = at.0;
@@ -97,35 +108,56 @@ pub fn unit_fault(k: Track, s: &[u8], at: ByteOffset, end: ByteOffset) -> u8
     if e - p < n {
         return refusals::LENGTH_FIELD_CUT;
     }
-    let size = l.number(s, p);
-    if e - p - n < size {
+    if e - p - n < bytes {
         return refusals::UNIT_TOO_LONG;
     }
-    if size == 0 {
+    if bytes == 0 {
         return refusals::EMPTY_UNIT;
     }
     let head = numbers::byte(s, p + n);
     if numbers::FORBIDDEN_BIT <= head {
         return refusals::TOP_BIT_SET;
     }
-    if size < least_size(k, head % numbers::NAL_TYPES) {
+    if bytes < least_size(k, head % numbers::NAL_TYPES) {
         return refusals::UNIT_TOO_SHORT;
     }
     0
 }
 
-// 22 for the unit at a place: an extractor of another size; 0 for none.
-pub fn extractor_fault(k: Track, s: &[u8], at: ByteOffset) -> u8
-    ensures { λ r. ⌜ r ≡ extractorFault (sample k (now (s .entry))) (at .0) ⌝ }
+// The same, and its size.
+pub fn judge_unit(k: Track, s: &[u8], at: ByteOffset, end: ByteOffset) -> Judged
+    ensures { λ r. ⌜ (r .fault ≡ unitFault (sample k (now (s .entry))) (end .0) (at .0)) × (r .size ≡ size (sample k (now (s .entry))) (at .0)) ⌝ }
 {
-    if type_at(k, s, at) != EXTRACTOR {
+    let l = k.length_size;
+    let bytes = l.number(s, at.0);
+    let f = unit_fault(k, s, at, end, bytes);
+    Judged {
+        fault: f,
+        size: bytes,
+    }
+}
+
+// 22 by the size and the type of a unit: an extractor of another size; 0 for none.
+fn size_fault(l: LengthSize, bytes: usize, t: u8) -> u8
+    ensures { λ r. ⌜ r ≡ badExtractorSize if (t ≡? extractorType) && not (bytes ≡? extractorSize l) ⌝ }
+{
+    if t != EXTRACTOR {
         return 0;
     }
-    let l = k.length_size;
-    if l.number(s, at.0) == l.extractor_size() {
+    if bytes == l.extractor_size() {
         return 0;
     }
     refusals::BAD_EXTRACTOR_SIZE
+}
+
+// 22 for the unit at a place; 0 for none.
+pub fn extractor_fault(k: Track, s: &[u8], at: ByteOffset) -> u8
+    ensures { λ r. ⌜ r ≡ extractorFault (sample k (now (s .entry))) (at .0) ⌝ }
+{
+    let l = k.length_size;
+    let bytes = l.number(s, at.0);
+    let t = type_at(k, s, at);
+    size_fault(l, bytes, t)
 }
 
 // Whether an aggregator of a track of this kind may not include this type.
@@ -138,11 +170,12 @@ fn barred(kind: Kind, t: u8) -> bool
     }
 }
 
-// The first of 14 to 20 and 22 for the unit at a place in an aggregator that ends at an offset; 0 for none.
-pub fn included_fault(k: Track, s: &[u8], at: ByteOffset, end: ByteOffset) -> u8
+// The first of 14 to 20 and 22 for the unit at a place, which has this many bytes, in an aggregator that ends at an offset; 0 for none.
+fn included_fault(k: Track, s: &[u8], at: ByteOffset, end: ByteOffset, bytes: usize) -> u8
+    requires { ⌜ bytes ≡ size (sample k (now s)) (at .0) ⌝ }
     ensures { λ r. ⌜ r ≡ includedFault (sample k (now (s .entry))) (end .0) (at .0) ⌝ }
 {
-    let f = unit_fault(k, s, at, end);
+    let f = unit_fault(k, s, at, end, bytes);
     if f != 0 {
         return f;
     }
@@ -154,5 +187,19 @@ pub fn included_fault(k: Track, s: &[u8], at: ByteOffset, end: ByteOffset) -> u8
     if barred(kind, t) {
         return refusals::SLICE_IN_AVC_AGGREGATOR;
     }
-    extractor_fault(k, s, at)
+    let l = k.length_size;
+    size_fault(l, bytes, t)
+}
+
+// The same, and its size.
+pub fn judge_included(k: Track, s: &[u8], at: ByteOffset, end: ByteOffset) -> Judged
+    ensures { λ r. ⌜ (r .fault ≡ includedFault (sample k (now (s .entry))) (end .0) (at .0)) × (r .size ≡ size (sample k (now (s .entry))) (at .0)) ⌝ }
+{
+    let l = k.length_size;
+    let bytes = l.number(s, at.0);
+    let f = included_fault(k, s, at, end, bytes);
+    Judged {
+        fault: f,
+        size: bytes,
+    }
 }

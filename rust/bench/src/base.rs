@@ -8,6 +8,7 @@ use std::time::Duration;
 
 use puddockle::{SampleNumber, LINE, NAMES_ENTRY};
 
+use crate::audit::{passed, Made};
 use crate::{settings, timed, MIB};
 
 const SIZES: [usize; 2] = [16 * MIB, 4 * MIB];
@@ -26,7 +27,7 @@ pub fn run(rounds: usize) {
     settings();
     println!("call      bytes  extractors  library ms     peer ms  library/peer");
     for size in SIZES {
-        let (bundle, extractors) = make(size);
+        let Made { bundle, extractors, .. } = make(size);
         let print = |call: &str, best: Times| {
             let [library, peer] = best.map(|time| time.as_secs_f64() * 1000.0);
             println!("{call}  {size:8}  {extractors:10}  {library:10.2}  {peer:10.2}  {:12.2}", library / peer);
@@ -78,9 +79,9 @@ fn measure(room: usize, rounds: usize, library: impl Fn(&mut [u8]), peer: impl F
     best
 }
 
-/// A bundle of exactly `size` bytes, and how many extractors it has. Times rise from 0 in the linked track; the own
-/// time is that of its last sample. What is left after the extractors is one unit.
-fn make(size: usize) -> (Vec<u8>, usize) {
+/// A bundle of exactly `size` bytes. Times rise from 0 in the linked track; the own time is that of its last sample. What
+/// is left after the extractors is one unit.
+pub fn make(size: usize) -> Made {
     let mut bundle = vec![2];
     bundle.extend([0, 0, 7, 1, 66, 0, 30, 0xFC, 0xE0, 0]);
     bundle.extend([1, 0, 7, 1, 83, 0, 30, 0xFC, 0, 0]);
@@ -108,5 +109,7 @@ fn make(size: usize) -> (Vec<u8>, usize) {
         bundle.resize(size, 0x65);
     }
     assert_eq!(bundle.len(), size);
-    (bundle, extractors)
+    let mut lines = passed(1).repeat(LINKED);
+    lines.extend(passed((extractors + (left > 0) as usize) as u64));
+    Made { bundle, extractors, lines }
 }

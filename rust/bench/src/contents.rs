@@ -9,9 +9,6 @@ use puddockle::*;
 
 use crate::timed;
 
-/// All tracks have this length size.
-pub const LENGTH_SIZE: usize = 4;
-
 pub fn run(rounds: usize) {
     println!("contents, best of {rounds} rounds, one thread; library: libpuddockle.a as it was built");
     for samples in [1024, 2048, 4096] {
@@ -72,7 +69,7 @@ fn us(time: Duration) -> f64 {
 fn alternating(samples: usize) -> Vec<u8> {
     let nothing = [&[0, 0, 0, 8][..], &[0x7E, 0x80, 0, 3, 0, 0, 0, 0]].concat();
     let lengths: Vec<usize> = (0..samples).map(|index| index % 2 * nothing.len()).collect();
-    let mut bundle = head(&[1], &[], &lengths.iter().map(|&length| (1, length)).collect::<Vec<_>>());
+    let mut bundle = head(4, &[1], &[], &lengths.iter().map(|&length| (1, length)).collect::<Vec<_>>());
     for _ in 0..samples / 2 {
         bundle.extend(&nothing);
     }
@@ -86,16 +83,16 @@ fn delivering(units: usize) -> Vec<u8> {
     let own = unit.repeat(units);
     let mut extractor = vec![0, 0, 0, 14, 0x7F, 0x80, 0, 3, 1, 0, 0, 0, 0, 0];
     extractor.extend((own.len() as u32).to_be_bytes());
-    let mut bundle = head(&[0, 1], &[2, 1], &[(1, own.len()), (2, extractor.len())]);
+    let mut bundle = head(4, &[0, 1], &[2, 1], &[(1, own.len()), (2, extractor.len())]);
     bundle.extend(own);
     bundle.extend(extractor);
     bundle
 }
 
-/// The sections before the sample bytes, and their count: tracks by kind, reference entries, samples by track and
-/// length. Times rise from 0 in each track.
-pub fn head(kinds: &[u8], references: &[u8], samples: &[(u8, usize)]) -> Vec<u8> {
-    let size = LENGTH_SIZE as u8 - 1;
+/// The sections before the sample bytes, and their count: tracks by kind, all with this length size, reference entries,
+/// samples by track and length. Times rise from 0 in each track.
+pub fn head(length_size: usize, kinds: &[u8], references: &[u8], samples: &[(u8, usize)]) -> Vec<u8> {
+    let size = length_size as u8 - 1;
     let mut bundle = vec![kinds.len() as u8];
     for &kind in kinds {
         let (profile, sets) = if kind == 0 { (66, 0xE0) } else { (83, 0) };

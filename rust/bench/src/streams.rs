@@ -8,10 +8,12 @@ use std::time::Duration;
 use puddockle::SampleNumber;
 
 use crate::bundle::Random;
-use crate::contents::{head, LENGTH_SIZE};
+use crate::contents::head;
 use crate::{settings, timed, MIB};
 
 const SIZES: [(usize, usize, usize); 3] = [(16 * MIB, 64, 1), (4 * MIB, 16, 4), (MIB, 4, 16)];
+/// Bytes of a length in the bundle.
+const LENGTH_SIZE: usize = 4;
 const UNITS: [(&str, usize); 2] = [("large", 1 << 16), ("small", 16)];
 
 /// The best times of the library and the peer.
@@ -68,9 +70,9 @@ fn measure(bundle: &[u8], samples: usize, rounds: usize) -> Times {
 /// A bundle of exactly `size` bytes: an AVC track with `samples` samples, all of units of about `unit` bytes. And how
 /// many units that is.
 fn make(size: usize, samples: usize, unit: usize) -> (Vec<u8>, usize) {
-    let total = size - head(&[0], &[], &vec![(1, 0); samples]).len();
+    let total = size - head(LENGTH_SIZE, &[0], &[], &vec![(1, 0); samples]).len();
     let lengths: Vec<usize> = (0..samples).map(|index| total / samples + (index < total % samples) as usize).collect();
-    let mut bundle = head(&[0], &[], &lengths.iter().map(|&length| (1, length)).collect::<Vec<_>>());
+    let mut bundle = head(LENGTH_SIZE, &[0], &[], &lengths.iter().map(|&length| (1, length)).collect::<Vec<_>>());
     let (mut random, mut units) = (Random(1), 0);
     for length in lengths {
         // Even parts: the first units have a byte more where bytes are left over.

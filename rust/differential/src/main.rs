@@ -9,6 +9,7 @@ mod call;
 mod contents;
 mod fixed;
 mod fixed_bases;
+mod fixed_blocks;
 mod fixed_streams;
 mod make;
 mod places;
@@ -100,6 +101,7 @@ impl Run {
             }
         }
         self.fixed_bases();
+        self.fixed_blocks();
         self.fixed_streams();
         for (index, bundle) in fixed::longest().iter().enumerate() {
             self.whence = format!("longest bundle {index}");
@@ -153,6 +155,20 @@ impl Run {
                 self.ask(Call::Audit { bundle, room: 13 * own as usize });
                 for sample in [1, own / 2 + 1, own - 1] {
                     self.ask(Call::Names { bundle, sample, room: 6 * offsets.len() });
+                }
+            }
+        }
+    }
+
+    /// The audit has all samples; the other calls are made for the first ones and for some of the rest.
+    fn fixed_blocks(&mut self) {
+        for (bundles, step) in [(fixed_blocks::at_borders(), 97), (fixed_blocks::longest(), 499)] {
+            for (index, bundle) in bundles.iter().enumerate() {
+                self.whence = format!("fixed bundle with blocks {index} of {} bytes", bundle.len());
+                let samples = peer::calls::counts(bundle).values[2];
+                self.ask(Call::Audit { bundle, room: 13 * samples as usize });
+                for sample in (1..=samples).filter(|&sample| sample <= 11 || sample % step == 0) {
+                    rounds::fixed_sample_round(bundle, sample, &mut |call| self.ask(call));
                 }
             }
         }

@@ -3,6 +3,7 @@
 use peer::calls;
 
 use crate::call::Call;
+use crate::make::blocks::make_blocks;
 use crate::make::bundle::make_bundle;
 use crate::make::fields::{make_fields, MadeFields};
 use crate::make::long::{make_long, Long};
@@ -26,6 +27,9 @@ fn kind(random: &mut Random) -> u32 {
 pub fn round(random: &mut Random, ask: &mut impl FnMut(Call)) {
     if random.once_in(13) {
         return long_round(random, ask);
+    }
+    if random.once_in(15) {
+        return blocks_round(random, ask);
     }
     match random.below(9) {
         0 => record_round(random, ask),
@@ -179,6 +183,14 @@ fn long_round(random: &mut Random, ask: &mut impl FnMut(Call)) {
     ask(Call::Names { bundle, sample, room: room(random, needed) });
 }
 
+/// All calls on a bundle with samples longer than a block.
+fn blocks_round(random: &mut Random, ask: &mut impl FnMut(Call)) {
+    let bundle = make_blocks(random);
+    let samples = calls::counts(&bundle).values[2] as usize;
+    ask(Call::Audit { bundle: &bundle, room: 13 * samples });
+    bundle_round(random, &bundle, ask);
+}
+
 /// What is in the bundle, the units of its samples, and what extractors name.
 fn contents_round(random: &mut Random, bundle: &[u8], ask: &mut impl FnMut(Call)) {
     ask(Call::Counts { bundle });
@@ -245,6 +257,19 @@ pub fn fixed_round(bundle: &[u8], ask: &mut impl FnMut(Call)) {
     fixed_contents(bundle, ask);
 }
 
+/// The calls on one sample of a fixed bundle, in exact room; of its extractors the first.
+pub fn fixed_sample_round(bundle: &[u8], sample: u64, ask: &mut impl FnMut(Call)) {
+    let (units, bytes) = delivered(bundle, sample);
+    ask(Call::Resolve { bundle, sample, room: bytes as usize });
+    ask(Call::Stream { bundle, sample, room: bytes as usize });
+    ask(Call::Units { bundle, sample, room: 2 * units as usize });
+    for unit in [1, units] {
+        ask(Call::Unit { bundle, sample, unit });
+    }
+    ask(Call::Named { bundle, sample, extractor: 0 });
+    ask(Call::Names { bundle, sample, room: names_length(bundle, sample) as usize });
+}
+
 /// Places that are asked one by one in a fixed bundle.
 const MOST_PLACES: u64 = 24;
 
@@ -278,7 +303,7 @@ fn room(random: &mut Random, needed: u64) -> usize {
 
 /// How long the sample's resolved units are; 0 where it is refused.
 fn resolved_length(bundle: &[u8], sample: u64) -> u64 {
-    (1..=unit_count(bundle, sample)).map(|unit| 4 + calls::one_unit(bundle, sample, unit).length).sum()
+    delivered(bundle, sample).1
 }
 
 /// How long the sample is that a byte stream is read into; 0 where it is refused.
@@ -299,13 +324,22 @@ pub fn fixed_stream(stream: &[u8], ask: &mut impl FnMut(Call)) {
 
 /// How many units the sample delivers; 0 where it is refused.
 fn unit_count(bundle: &[u8], sample: u64) -> u64 {
-    let Ok(bundle) = peer::bundle::Bundle::read(bundle) else { return 0 };
-    let Ok(number) = bundle.number(sample) else { return 0 };
-    let mut units = 0;
+    delivered(bundle, sample).0
+}
+
+/// Units and resolved bytes of a sample; none where it is refused.
+fn delivered(bundle: &[u8], sample: u64) -> (u64, u64) {
+    let Ok(bundle) = peer::bundle::Bundle::read(bundle) else { return (0, 0) };
+    let Ok(number) = bundle.number(sample) else { return (0, 0) };
+    let (mut units, mut bytes) = (0, 0);
     let mut forms = peer::forms::Forms::new(&bundle);
-    match peer::deliver::deliver(&bundle, &mut forms, number, &mut |_| units += 1) {
-        Ok(()) => units,
-        Err(_) => 0,
+    let result = peer::deliver::deliver(&bundle, &mut forms, number, &mut |part| {
+        units += 1;
+        bytes += 4 + part.length as u64;
+    });
+    match result {
+        Ok(()) => (units, bytes),
+        Err(_) => (0, 0),
     }
 }
 

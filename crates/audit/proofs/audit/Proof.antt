@@ -27,7 +27,7 @@ slice-aggregate-audit-accepted : tie.Need-slice-aggregate-audit-accepted
 slice-aggregate-audit-accepted c = search needs
 
 audit-accepted-requires : tie.Need-audit-accepted-requires
-audit-accepted-requires c κs = table-short _ _ (sym (c .before .before .before .before .before .fill-table .ensures .0) ∙ c .before .before .enum-told .given .1)
+audit-accepted-requires c κs = let f = c .before .before .before .before .before .fill-table in (table-short _ _ (sym (f .ensures .0) ∙ c .before .before .enum-told .given .1), omega (arith, f .kept .1))
 
 returns : tie.Need-returns
 returns c =
@@ -40,11 +40,11 @@ same-length c = search needs
 
 returns-2 : tie.Need-returns-2
 returns-2 c =
-    let a = c .before .before .before .before .before .before .before .before .before .before .before .before .args in
+    let a = c .before .before .before .before .before .before .before .before .before .before .before .before .before .args in
     let room = length (a .lines .now) in
-    let done = sym (c .before .before .before .before .before .before .before .before .fill-table .ensures .0) ∙ c .before .before .before .before .before .enum-told .given .1 in
-    let e = c .before .before .audit-accepted .ensures in
-    (rw (← lines-filled _ _ done (c .before .before .before .before .before .before .before .before .fill-table .ensures .1) room) (e .0), e .1 ∙ tally-filled _ _ done (c .before .before .before .before .before .before .before .before .fill-table .ensures .1) room)
+    let done = sym (c .before .before .before .before .before .before .before .before .before .fill-table .ensures .0) ∙ c .before .before .before .before .before .before .enum-told .given .1 in
+    let e = c .before .before .before .audit-accepted .ensures in
+    (rw (← lines-filled _ _ done (c .before .before .before .before .before .before .before .before .before .fill-table .ensures .1) room) (e .0), e .1 ∙ tally-filled _ _ done (c .before .before .before .before .before .before .before .before .before .fill-table .ensures .1) room)
 
 pub audit-spec : {M : Type 1} → statement M
 audit-spec =

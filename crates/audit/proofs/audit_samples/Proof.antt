@@ -54,7 +54,7 @@ use denote.Triple.Table.{entered, cited}
 use denote.Triple.Walked.{says, needs, Stays, stay-none, stay-none-slice, stay-slice, walkOf, AllGo, goes-none, goes-none-slice, goes-slice, Walks, ends-at, walked, walk-meets}
 use denote.Exit.{yes}
 use Rattle.words.specs.Buffers.{put}
-use Rattle.bundles.specs.Limits.{bundleMost}
+use Rattle.audit.specs.Steps.{JudgementsKept}
 use Rattle.bundles.specs.Recordings.{Recording, sampleCount}
 use Rattle.tables.specs.Tables.{recordingIn}
 use Rattle.tally.specs.Tallies.{tallied, raisedBy}
@@ -134,7 +134,7 @@ module _ {M : Type 1} (𝓤 : URA M) (H : Heap 𝓤) (A : Atoms 𝓤) (mem : Mem
 
 -- the arguments: the slices s and t, how many samples there are, and the buffer at (b, o) under the name γ, which holds ys on entry
 module _ {M : Type 1} (𝓤 : URA M) (H : Heap 𝓤) (A : Atoms 𝓤) (W : Given 𝓤 H A) (at-mem : Memory → SProp 𝓤) (run : Routine → Fun 𝓤) (κ₀ κ₁ κ₂ : Lft) (q₀ q₁ q₂ : Share) (s t : RefT (List ℕ)) (count b o : ℕ) (γ : GName) (ys : List ℕ)
-    (short : length (s .now) ≤ bundleMost) (all : count ≡ sampleCount (recordingIn (s .now) (t .now) .layout)) (fits : lineSize * count ≤ length ys) (count-fits : count < 2 ^ 64) (room : Room u8 (length ys)) where
+    (kept : JudgementsKept (s .now) (t .now)) (all : count ≡ sampleCount (recordingIn (s .now) (t .now) .layout)) (fits : lineSize * count ≤ length ys) (count-fits : count < 2 ^ 64) (room : Room u8 (length ys)) where
   abbrev R : Recording
   R = recordingIn (s .now) (t .now)
 
@@ -214,7 +214,7 @@ module _ {M : Type 1} (𝓤 : URA M) (H : Heap 𝓤) (A : Atoms 𝓤) (W : Given
   goes-sample : (α : ℕ) (δ : GName) (n : ℕ) (zs : List ℕ) → n < count → lineSize * n + lineSize ≤ length zs
       → ent 𝓤 (⋆ 𝓤 H A (‵ S-own ∷ ‵ T-own ∷ ‵ (Lent-out α δ zs) ∷ ‵ (flft κ₀ q₀) ∷ ‵ (flft κ₁ q₁) ∷ ‵ (flft (α ∷ []) fullShare) ∷ [])) (Sample 𝓤 H A at-mem run .pre (to-sample α δ n zs))
   goes-sample α δ n zs more there =
-      qed W (‵ S-own ∷ ‵ T-own ∷ ‵ (Lent-out α δ zs) ∷ ‵ (flft κ₀ q₀) ∷ ‵ (flft κ₁ q₁) ∷ ‵ (flft (α ∷ []) fullShare) ∷ []) ∵ says ! (short, there, omega (arith, all, more)) $
+      qed W (‵ S-own ∷ ‵ T-own ∷ ‵ (Lent-out α δ zs) ∷ ‵ (flft κ₀ q₀) ∷ ‵ (flft κ₁ q₁) ∷ ‵ (flft (α ∷ []) fullShare) ∷ []) ∵ says ! (kept, there, omega (arith, all, more)) $
       nothing ! $ move ! (6 ∷ 0 ∷ []) $ join ! $ move ! (5 ∷ 0 ∷ []) $ join ! $ move ! (4 ∷ 0 ∷ []) $ join ! $ frame ! $
       nothing ! $ move ! (3 ∷ 0 ∷ []) $ fjoin ! $ owned ! usize (Is usize) (uint-makes 𝓤 H A W w64) n _ (refl, omega (arith, more, count-fits)) $ fjoin ! $ move ! (2 ∷ 0 ∷ []) $ fjoin ! $ move ! (1 ∷ 0 ∷ []) $ fjoin ! $ done !
 

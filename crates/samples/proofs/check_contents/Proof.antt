@@ -58,10 +58,10 @@ fits c = (whole-aggregator _ _ _ (unit (c .before .before .before)) (aggregator 
 
 -- an included unit is whole, and ends where the next one starts
 included : (c : tie.Else2 Inv-loop μ-loop Inv-walk μ-walk) → Whole (X (c .before .before .before .before .before .before .before)) (P (c .before .before .before .before .before .before .before) + c .before .before .before .before .before .before .before .before .before .bytes .result + c .before .before .before .before .before .before .number .result) (c .before .before .before .loop .q)
-included c = included-rules _ _ _ (sym (c .before .included-fault .ensures) ∙ c .if2 .left) .unit
+included c = included-rules _ _ _ (sym (c .before .judge-included .ensures .0) ∙ c .if2 .left) .unit
 
-goes : (c : tie.After-number2 Inv-loop μ-loop Inv-walk μ-walk) → c .before .before .before .before .loop .q + c .before .before .before .before .before .before .before .before .before .before .bytes .result + c .number2 .result ≡ next (X (c .before .before .before .before .before .before .before .before)) (c .before .before .before .before .loop .q)
-goes c = let a = c .before .before .before .before .before .before .before .before .before .before .before .before .args in next-is (a .k) (a .s .now) _ _ _ (c .before .before .before .before .before .before .before .before .before .before .bytes .ensures .0) (c .number2 .ensures)
+goes : (c : tie.After-struct-known Inv-loop μ-loop Inv-walk μ-walk) → c .before .before .before .before .loop .q + c .before .before .before .before .before .before .before .before .before .before .bytes .result + c .before .before .judge-included .result .size ≡ next (X (c .before .before .before .before .before .before .before .before)) (c .before .before .before .before .loop .q)
+goes c = rw (c .before .before .before .before .before .before .before .before .before .before .bytes .ensures .0, c .before .before .judge-included .ensures .1)
 
 -- no included unit has a fault
 passed : (c : tie.After-loop Inv-loop μ-loop Inv-walk μ-walk) → let x = X (c .before .before .before .before .before) in walk x (includedJudge x (next x (P (c .before .before .before .before .before)))) (includedStart x (P (c .before .before .before .before .before))) (next x (P (c .before .before .before .before .before))) ≡ ok tt
@@ -79,8 +79,8 @@ judged c =
 leaves : (c : At) {n q : ℕ} → contentVerdict (X c) (P c) ≡ refused n q → refused n q ≡ contentsVerdict (X c)
 leaves c e = sym (walk-here _ _ _ _ (c .walk-test .taken) e) ∙ c .before .walk .inv .3
 
-left-included : (c : tie.Then2 Inv-loop μ-loop Inv-walk μ-walk) → refused (c .before .included-fault .result) (c .before .before .before .loop .q) ≡ contentsVerdict (X (c .before .before .before .before .before .before .before))
-left-included c = leaves (c .before .before .before .before .before .before .before) (content-included _ _ (aggregator (c .before .before .before .before)) (rw (ends (c .before .before .before .before .before .before)) at (sym (c .before .before .before .loop .inv) ∙ walk-here _ _ _ _ (c .before .before .loop-test .taken) (at-refused _ (c .before .included-fault .ensures) (c .if2 .taken)))))
+left-included : (c : tie.Then2 Inv-loop μ-loop Inv-walk μ-walk) → refused (c .before .judge-included .result .fault) (c .before .before .before .loop .q) ≡ contentsVerdict (X (c .before .before .before .before .before .before .before))
+left-included c = leaves (c .before .before .before .before .before .before .before) (content-included _ _ (aggregator (c .before .before .before .before)) (rw (ends (c .before .before .before .before .before .before)) at (sym (c .before .before .before .loop .inv) ∙ walk-here _ _ _ _ (c .before .before .loop-test .taken) (at-refused _ (c .before .judge-included .ensures .0) (c .if2 .taken)))))
 
 left-unit : (c : tie.Then3 Inv-loop μ-loop Inv-walk μ-walk) → refused (c .before .if1 .number) (P (c .before .before .before .before)) ≡ contentsVerdict (X (c .before .before .before .before))
 left-unit c = leaves (c .before .before .before .before) (sym (judged (c .before)) ∙ at-refused _ refl (c .if3 .taken))
@@ -91,7 +91,7 @@ left c =
     ⊎-elim
     (λ w. rw (w .1 ∙ c .before .walk .inv .1) (sym (walk-none _ _ _ _ (w .0 .left)) ∙ c .before .walk .inv .3))
     (⊎-elim
-    (λ w. rw (w .8, w .9) (at-refused _ refl (w .7 .taken) ∙ left-included (record { before = record { before = record { before = record { before = record { before = record { before = record { before = record { before = c .before; walk-test = w .0 }; number = w .1 }; type-at = w .2 }; if1 = w .3 }; loop = w .4 }; loop-test = w .5 }; included-fault = w .6 }; if2 = w .7 })))
+    (λ w. rw (w .8, w .9) (at-refused _ refl (w .7 .taken) ∙ left-included (record { before = record { before = record { before = record { before = record { before = record { before = record { before = record { before = c .before; walk-test = w .0 }; number = w .1 }; type-at = w .2 }; if1 = w .3 }; loop = w .4 }; loop-test = w .5 }; judge-included = w .6 }; if2 = w .7 })))
     (λ w. rw (w .5, w .6) (at-refused _ refl (w .4 .taken) ∙ left-unit (record { before = record { before = record { before = record { before = record { before = c .before; walk-test = w .0 }; number = w .1 }; type-at = w .2 }; if1 = w .3 }; if3 = w .4 }))))
     (c .walk-test .came)
 
@@ -126,14 +126,11 @@ add-q-3 c = let f = fits c in omega arith
 loop-holds : tie.Need-loop-holds Inv-loop μ-loop Inv-walk μ-walk
 loop-holds c = rw (c .before .before .before .before .before .bytes .ensures .0)
 
-included-fault-requires : tie.Need-included-fault-requires Inv-loop μ-loop Inv-walk μ-walk
-included-fault-requires c κs = search needs
+judge-included-requires : tie.Need-judge-included-requires Inv-loop μ-loop Inv-walk μ-walk
+judge-included-requires c κs = search needs
 
 add-q-4 : tie.Need-add-q-4 Inv-loop μ-loop Inv-walk μ-walk
 add-q-4 c = let i = included c in let f = fits (c .before .before .before .before) in let e = ends (c .before .before .before .before .before .before) in omega arith
-
-number-requires-2 : tie.Need-number-requires-2 Inv-loop μ-loop Inv-walk μ-walk
-number-requires-2 c κs = search needs
 
 add-q-5 : tie.Need-add-q-5 Inv-loop μ-loop Inv-walk μ-walk
 add-q-5 c = let i = whole-end _ _ _ (included (c .before)) in let f = fits (c .before .before .before .before .before) in let e = ends (c .before .before .before .before .before .before .before) in let g = goes c in omega arith
@@ -142,7 +139,7 @@ loop-less : tie.Need-loop-less Inv-loop μ-loop Inv-walk μ-walk
 loop-less c = let i = whole-end _ _ _ (included (c .before)) in let g = goes c in let n = next-after (X (c .before .before .before .before .before .before .before .before)) (c .before .before .before .before .loop .q) in omega arith
 
 loop-again : tie.Need-loop-again Inv-loop μ-loop Inv-walk μ-walk
-loop-again c = rw (goes c) (sym (walk-on _ _ _ _ (c .before .before .before .loop-test .taken) (at-none _ (sym (c .before .before .included-fault .ensures) ∙ c .before .if2 .left))) ∙ c .before .before .before .before .loop .inv)
+loop-again c = rw (goes c) (sym (walk-on _ _ _ _ (c .before .before .before .loop-test .taken) (at-none _ (sym (c .before .before .judge-included .ensures .0) ∙ c .before .if2 .left))) ∙ c .before .before .before .before .loop .inv)
 
 cover-fault-requires : tie.Need-cover-fault-requires Inv-loop μ-loop Inv-walk μ-walk
 cover-fault-requires c κs = (c .before .before .before .before .before .before .before .before .before .pre, top-has _ _ (c .before .before .before .before .before .before .walk .inv .2) (c .before .before .before .before .before .walk-test .taken), aggregator (c .before .before))
@@ -186,9 +183,8 @@ check-contents-spec =
     add-q-2
     add-q-3
     loop-holds
-    included-fault-requires
+    judge-included-requires
     add-q-4
-    number-requires-2
     add-q-5
     loop-less
     loop-again

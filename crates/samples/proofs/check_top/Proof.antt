@@ -11,22 +11,22 @@ use Rattle.units.specs.Rules.{Whole}
 use Rattle.units.proofs.Units.{whole, whole-end, next-after}
 use Rattle.units.proofs.Walks.{walk, walk-none, walk-here, walk-on}
 use Rattle.samples.specs.Check.{topVerdict}
-use Rattle.samples.proofs.Walks.{topJudge, next-is}
+use Rattle.samples.proofs.Walks.{topJudge}
 use Rattle.samples.proofs.check_top.Tie as tie
 
 abbrev Inv-loop : tie.InvT-loop
-Inv-loop k s l n at₀ at = (at ≤ length s) × (walk (sample k s) (topJudge (sample k s)) at (length s) ≡ topVerdict (sample k s))
+Inv-loop k s n at₀ at = (at ≤ length s) × (walk (sample k s) (topJudge (sample k s)) at (length s) ≡ topVerdict (sample k s))
 
 abbrev μ-loop : tie.MeasureT-loop
-μ-loop k s l n at₀ at = length s - at
+μ-loop k s n at₀ at = length s - at
 
 -- the unit at hand has no fault
-here : (c : tie.Else1 Inv-loop μ-loop) → let a = c .before .before .before .before .before .before .args in Whole (sample (a .k) (a .s .now)) (length (a .s .now)) (c .before .before .before .loop .at)
-here c = whole _ _ _ (sym (c .before .unit-fault .ensures) ∙ c .if1 .left)
+here : (c : tie.Else1 Inv-loop μ-loop) → let a = c .before .before .before .before .before .before .before .args in Whole (sample (a .k) (a .s .now)) (length (a .s .now)) (c .before .before .before .before .loop .at)
+here c = whole _ _ _ (sym (c .before .before .judge-unit .ensures .0) ∙ c .if1 .left)
 
 -- where the next one starts
-goes : (c : tie.After-number Inv-loop μ-loop) → let a = c .before .before .before .before .before .before .before .args in c .before .before .before .before .loop .at + c .before .before .before .before .before .bytes .result + c .number .result ≡ next (sample (a .k) (a .s .now)) (c .before .before .before .before .loop .at)
-goes c = let a = c .before .before .before .before .before .before .before .args in next-is (a .k) (a .s .now) _ _ _ (c .before .before .before .before .before .bytes .ensures .0) (c .number .ensures)
+goes : (c : tie.After-struct-known2 Inv-loop μ-loop) → let a = c .before .before .before .before .before .before .before .before .args in c .before .before .before .before .before .loop .at + c .before .before .before .before .before .before .bytes .result + c .before .before .before .judge-unit .result .size ≡ next (sample (a .k) (a .s .now)) (c .before .before .before .before .before .loop .at)
+goes c = rw (c .before .before .before .before .before .before .bytes .ensures .0, c .before .before .before .judge-unit .ensures .1)
 
 bytes-requires : tie.Need-bytes-requires Inv-loop μ-loop
 bytes-requires c κs = search needs
@@ -35,28 +35,25 @@ loop-holds : tie.Need-loop-holds Inv-loop μ-loop
 unfolding topUnits
 loop-holds c = (search needs, refl)
 
-unit-fault-requires : tie.Need-unit-fault-requires Inv-loop μ-loop
-unit-fault-requires c κs = search needs
+judge-unit-requires : tie.Need-judge-unit-requires Inv-loop μ-loop
+judge-unit-requires c κs = search needs
 
 returns : tie.Need-returns Inv-loop μ-loop
-returns c = sym (walk-here _ _ _ _ (c .before .before .loop-test .taken) (at-refused _ (c .before .unit-fault .ensures) (c .if1 .taken))) ∙ c .before .before .before .loop .inv .1
+returns c = sym (walk-here _ _ _ _ (c .before .before .before .loop-test .taken) (at-refused _ (c .before .before .judge-unit .ensures .0) (c .if1 .taken))) ∙ c .before .before .before .before .loop .inv .1
 
 add-at : tie.Need-add-at Inv-loop μ-loop
 add-at c = let w = whole-end _ _ _ (here c) in let h = here c in omega arith
-
-number-requires : tie.Need-number-requires Inv-loop μ-loop
-number-requires c κs = search needs
 
 add-at-2 : tie.Need-add-at-2 Inv-loop μ-loop
 add-at-2 c = let w = whole-end _ _ _ (here (c .before)) in let e = goes c in omega arith
 
 loop-less : tie.Need-loop-less Inv-loop μ-loop
-loop-less c = let w = whole-end _ _ _ (here (c .before)) in let e = goes c in let a = c .before .before .before .before .before .before .before .args in let n = next-after (sample (a .k) (a .s .now)) (c .before .before .before .before .loop .at) in omega arith
+loop-less c = let w = whole-end _ _ _ (here (c .before)) in let e = goes c in let a = c .before .before .before .before .before .before .before .before .args in let n = next-after (sample (a .k) (a .s .now)) (c .before .before .before .before .before .loop .at) in omega arith
 
 loop-again : tie.Need-loop-again Inv-loop μ-loop
 loop-again c =
     let w = whole-end _ _ _ (here (c .before)) in
-    rw (goes c) (w .1, sym (walk-on _ _ _ _ (c .before .before .before .loop-test .taken) (at-none _ (sym (c .before .before .unit-fault .ensures) ∙ c .before .if1 .left))) ∙ c .before .before .before .before .loop .inv .1)
+    rw (goes c) (w .1, sym (walk-on _ _ _ _ (c .before .before .before .before .loop-test .taken) (at-none _ (sym (c .before .before .before .judge-unit .ensures .0) ∙ c .before .if1 .left))) ∙ c .before .before .before .before .before .loop .inv .1)
 
 returns-2 : tie.Need-returns-2 Inv-loop μ-loop
 returns-2 c = sym (walk-none _ _ _ _ (c .loop-test .left)) ∙ c .before .loop .inv .1
@@ -69,10 +66,9 @@ check-top-spec =
     μ-loop
     bytes-requires
     loop-holds
-    unit-fault-requires
+    judge-unit-requires
     returns
     add-at
-    number-requires
     add-at-2
     loop-less
     loop-again

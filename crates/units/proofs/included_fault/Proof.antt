@@ -8,7 +8,7 @@ use Rattle.units.specs.Aggregators.{includedFault}
 use Rattle.units.proofs.included_fault.Tie as tie
 
 unit-fault-requires : tie.Need-unit-fault-requires
-unit-fault-requires c κs = search needs
+unit-fault-requires c κs = c .before .pre
 
 returns : tie.Need-returns
 unfolding includedFault
@@ -28,12 +28,12 @@ returns-3 : tie.Need-returns-3
 unfolding includedFault
 returns-3 c = rw (sym (c .before .before .before .before .before .unit-fault .ensures) ∙ c .before .before .before .before .if1 .left, ← c .before .before .before .type-at .ensures, ← c .before .barred .ensures, c .if3 .taken) (search tests)
 
-extractor-fault-requires : tie.Need-extractor-fault-requires
-extractor-fault-requires c κs = search needs
+size-fault-requires : tie.Need-size-fault-requires
+size-fault-requires c κs = search needs
 
 returns-4 : tie.Need-returns-4
 unfolding includedFault
-returns-4 c = rw (c .extractor-fault .ensures, sym (c .before .before .before .before .before .before .unit-fault .ensures) ∙ c .before .before .before .before .before .if1 .left, ← c .before .before .before .before .type-at .ensures, ← c .before .before .barred .ensures, c .before .if3 .left) (search tests)
+returns-4 c = rw (c .size-fault .ensures, sym (c .before .before .before .before .before .before .unit-fault .ensures) ∙ c .before .before .before .before .before .if1 .left, ← c .before .before .before .before .type-at .ensures, ← c .before .before .barred .ensures, c .before .if3 .left, ← c .before .before .before .before .before .before .before .before .pre) (search tests)
 
 pub included-fault-spec : {M : Type 1} → statement M
 included-fault-spec =
@@ -45,5 +45,5 @@ included-fault-spec =
     returns-2
     barred-requires
     returns-3
-    extractor-fault-requires
+    size-fault-requires
     returns-4)

@@ -1,5 +1,6 @@
 //! Cases made at random, mostly good.
 
+pub mod blocks;
 pub mod bundle;
 pub mod fields;
 pub mod long;

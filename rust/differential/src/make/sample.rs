@@ -3,8 +3,8 @@
 use super::{patch, put, AVC};
 use crate::random::Random;
 
-const AGGREGATOR: u8 = 30;
-const EXTRACTOR: u8 = 31;
+pub const AGGREGATOR: u8 = 30;
+pub const EXTRACTOR: u8 = 31;
 
 /// A sample and what is known of it.
 #[derive(Default)]
@@ -32,9 +32,9 @@ pub struct Manner {
 }
 
 /// An aggregator whose additional_bytes are to be set: the index of its unit, and where they stand.
-struct Covering {
-    unit: usize,
-    at: usize,
+pub struct Covering {
+    pub unit: usize,
+    pub at: usize,
 }
 
 pub fn make_sample(random: &mut Random, manner: &Manner) -> MadeSample {
@@ -71,7 +71,7 @@ fn put_unit(bytes: &mut Vec<u8>, unit: &[u8], length_size: usize) {
     bytes.extend_from_slice(unit);
 }
 
-fn header(random: &mut Random, unit_type: u8) -> [u8; 4] {
+pub fn header(random: &mut Random, unit_type: u8) -> [u8; 4] {
     [unit_type | (random.byte() & 3) << 5, random.byte(), random.byte(), random.byte()]
 }
 
@@ -163,7 +163,7 @@ fn aggregator(random: &mut Random, manner: &Manner, sample: &mut MadeSample) -> 
 }
 
 /// Sets additional_bytes: to a border before the next aggregator, or, as a fault, near one.
-fn cover(random: &mut Random, manner: &Manner, sample: &mut MadeSample, covering: Covering) {
+pub fn cover(random: &mut Random, manner: &Manner, sample: &mut MadeSample, covering: Covering) {
     let (first, last) = (covering.unit + 1, sample.borders.len() - 1);
     let is_aggregator =
         |unit: usize| sample.bytes.get(sample.borders[unit] + manner.length_size).is_some_and(|b| b & 31 == AGGREGATOR);

@@ -7,7 +7,7 @@ use Rattle.tables.specs.Tables.{recordingIn}
 use Rattle.delivery.proofs.Falling.{bound}
 use Rattle.delivery.proofs.Rests.{moved-less, unit-less}
 use Rattle.delivery.proofs.Folds.{Folded, folded-moved}
-use Rattle.delivered_unit.proofs.Seeks.{Seeks, seeks-start, seeks-take, seeks-never, seeks-none, seeks-found}
+use Rattle.delivered_unit.proofs.Seeks.{Seeks, seeks-start, seeks-take, seeks-none, seeks-found}
 use Rattle.delivered_unit.proofs.finding.find.Statement.{statement}
 use Rattle.delivered_unit.proofs.finding.find.Tie as tie
 
@@ -35,15 +35,6 @@ no-unit-requires c κs = search needs
 returns : tie.Need-returns Inv-loop μ-loop
 returns c = let h = c .before .before .before .before .before .before .before .before .before .pre in c .no-unit .ensures ∙ sym (seeks-none _ _ _ _ _ _ (c .before .before .before .before .loop .inv) (h .0) (h .1) (sym (c .before .before .before .step .ensures) ∙ c .before .enum-told .given .1))
 
-enum-told-2 : tie.Need-enum-told-2 Inv-loop μ-loop
-enum-told-2 c = search needs
-
-no-unit-requires-2 : tie.Need-no-unit-requires-2 Inv-loop μ-loop
-no-unit-requires-2 c κs = search needs
-
-returns-2 : tie.Need-returns-2 Inv-loop μ-loop
-returns-2 c = let h = c .before .before .before .before .before .before .before .before .before .pre in seeks-never _ _ _ _ _ _ (c .before .before .before .before .loop .inv) (h .0) (h .1) (sym (c .before .before .before .step .ensures) ∙ c .before .enum-told2 .given .1)
-
 enum-known-s : tie.Need-enum-known-s Inv-loop μ-loop
 enum-known-s c = search needs
 
@@ -59,8 +50,8 @@ enum-known-s-2 c = search needs
 sub-left : tie.Need-sub-left Inv-loop μ-loop
 sub-left c = let h = c .before .before .before .before .loop .inv .holds in omega arith
 
-returns-3 : tie.Need-returns-3 Inv-loop μ-loop
-returns-3 c = let h = c .before .before .before .before .before .before .before .before .before .before .pre in sym (seeks-found _ _ _ _ _ _ (c .before .before .before .before .before .loop .inv) (h .0) (h .1) (sym (c .before .before .before .before .step .ensures) ∙ c .before .before .s2 .given .1) (c .if1 .taken))
+returns-2 : tie.Need-returns-2 Inv-loop μ-loop
+returns-2 c = let h = c .before .before .before .before .before .before .before .before .before .before .pre in sym (seeks-found _ _ _ _ _ _ (c .before .before .before .before .before .loop .inv) (h .0) (h .1) (sym (c .before .before .before .before .step .ensures) ∙ c .before .before .s2 .given .1) (c .if1 .taken))
 
 loop-less-2 : tie.Need-loop-less-2 Inv-loop μ-loop
 loop-less-2 c = let l = unit-less _ _ _ _ (sym (c .before .before .before .before .step .ensures) ∙ c .before .before .s2 .given .1) in omega arith
@@ -80,14 +71,11 @@ find-spec =
     enum-told
     no-unit-requires
     returns
-    enum-told-2
-    no-unit-requires-2
-    returns-2
     enum-known-s
     loop-less
     loop-again
     enum-known-s-2
     sub-left
-    returns-3
+    returns-2
     loop-less-2
     loop-again-2)

@@ -9,7 +9,7 @@ use Rattle.tables.specs.Tables.{recordingIn}
 use Rattle.delivery.proofs.Falling.{bound}
 use Rattle.delivery.proofs.Rests.{moved-less, unit-less}
 use Rattle.delivery.proofs.Folds.{Folded, folded-moved}
-use Rattle.unit_parts.proofs.Puts.{Puts, puts-start, puts-length, puts-end, puts-never, puts-inside, puts-room, puts-take}
+use Rattle.unit_parts.proofs.Puts.{Puts, puts-start, puts-length, puts-end, puts-inside, puts-room, puts-take}
 use Rattle.unit_parts.proofs.writing.write_parts.Statement.{statement}
 use Rattle.unit_parts.proofs.writing.write_parts.Tie as tie
 
@@ -40,15 +40,6 @@ same-length c = puts-length _ _ _ _ _ _ _ _ (c .before .before .before .loop .in
 
 returns : tie.Need-returns Inv-loop μ-loop
 returns c = let h = c .before .before .before .before .before .before .before .before .before .pre in puts-end _ _ _ _ _ _ _ _ (c .before .before .before .loop .inv) (h .0) (h .1) (sym (c .before .before .step .ensures) ∙ c .enum-told .given .1)
-
-enum-told-2 : tie.Need-enum-told-2 Inv-loop μ-loop
-enum-told-2 c = search needs
-
-same-length-2 : tie.Need-same-length-2 Inv-loop μ-loop
-same-length-2 c = puts-length _ _ _ _ _ _ _ _ (c .before .before .before .loop .inv)
-
-returns-2 : tie.Need-returns-2 Inv-loop μ-loop
-returns-2 c = let h = c .before .before .before .before .before .before .before .before .before .pre in puts-never _ _ _ _ _ _ _ _ (c .before .before .before .loop .inv) (h .0) (h .1) (sym (c .before .before .step .ensures) ∙ c .enum-told2 .given .1)
 
 enum-known-s : tie.Need-enum-known-s Inv-loop μ-loop
 enum-known-s c = search needs
@@ -91,9 +82,6 @@ write-parts-spec =
     enum-told
     same-length
     returns
-    enum-told-2
-    same-length-2
-    returns-2
     enum-known-s
     loop-less
     loop-again

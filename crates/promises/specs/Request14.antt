@@ -1,0 +1,101 @@
+-- Request [14] of document 02, 'Audit speed', as far as theorems can say it: 'no named sample needs checking anew for each
+-- extractor. Lines and tally stay as they are.' The proofs stand in crates/mark_rules, crates/marks and crates/verdicts. Assumes
+-- nothing.
+--
+--   WalkState              what a walk over all units of a sample knows: its place; the end of the last aggregator that it met;
+--                          how many units it has met besides aggregators, their bytes, how many of them are extractors
+--   stateAt x d            the state when it first stands at d or past it (crates/mark_rules/specs/States)
+--   reachFrom x d n s      the state after at most n steps from s, fewer if it stands at d or past it before
+--   UnitBorder x d         d is the start of a unit, top-level or included, or the end of the sample (copies/specs/Flat)
+--   copyBetween z o n a e  26 to 28 of an extractor with data_offset o and data_length n that names z, or how many units and
+--                          bytes it copies, by the states a at its start and e at its end (mark_rules/specs/Amounts)
+--   copyBy z rows base o n the same by rows of numbers (marks/specs/Marks); the public function `copy_of` of crates/marks answers
+--                          with it, for any rows
+--   marks z base rows      the rows with the states of z at the ends of its blocks of 1,280 bytes; `mark` leaves these
+--   copyFault, copied      25 to 28; the units in a copy: the rules (copies/specs/Copies)
+--   withJudgements b t     a table with the judgement of every sample kept beside it; `judge_all` of crates/verdicts leaves it
+--
+-- That lines and tally stay is said by what stays by text: the audit's definition and contract, Demands (`line-each`, `tally-each`,
+-- and what refuses a sample), Contents and Request01 to Request05. How long a call takes is measured; what bounds it is here: a
+-- walk of less than a block from a mark (`few-steps`), two for an extractor (`copy-by-marks`), whatever the sample named holds.
+use Prim.Native.Nat.{ℕ, _+_, _*_, _/_, _%_, _≤_, _<_}
+use mathlib.Core.Path.{_≡_, refl}
+use mathlib.Core.List.{List, [], _∷_, map}
+use mathlib.Core.Logic.{_↔_}
+use lib.ListN.{length}
+use Rattle.words.specs.Tests.{_<?_}
+use Rattle.words.specs.Refusals.{refused, ok}
+use Rattle.words.specs.Lists.{keep, sum}
+use Rattle.numbers.specs.declared.Kind.the-variants.{Svc}
+use Rattle.numbers.specs.declared.LengthSize.the-variants.{One}
+use Rattle.units.specs.Units.{Sample, end, size, isExtractor}
+use Rattle.units.specs.Aggregators.{units}
+use Rattle.samples.specs.Check.{check}
+use Rattle.copies.specs.Copies.{withoutAggregators, copyEnd, copied, copyFault}
+use Rattle.copies.specs.Flat.{UnitBorder}
+use Rattle.bundles.specs.Limits.{bundleMost}
+use Rattle.bundles.specs.Recordings.{sampleCount}
+use Rattle.tables.specs.Tables.{layoutIn, recordingIn, tableMost, keptCountIn}
+use Rattle.resolution_rules.specs.Resolving.{delivered, judged}
+use Rattle.mark_rules.specs.declared.CopyCounted.the-variants.{Refused, Units}
+use Rattle.mark_rules.specs.States.{front, stateStep, reachFrom, reach, stateAt}
+use Rattle.mark_rules.specs.Amounts.{copyBetween}
+use Rattle.mark_rules.proofs.States as states
+use Rattle.mark_rules.proofs.Standing as standing
+use Rattle.mark_rules.proofs.Counts as counting
+use Rattle.mark_rules.proofs.Copying as copying
+use Rattle.marks.specs.Marks.{marks, copyBy}
+use Rattle.marks.proofs.Marking as marking
+use Rattle.marks.proofs.Copying as marked
+use Rattle.verdicts.specs.Kept.{verdictIn, withJudgements}
+use Rattle.verdicts.proofs.Keeping as keeping
+
+-- Any bytes: going on from a state that was kept gives what going from the front gives, and from the last mark at or before a
+-- place the walk comes to it in less than 1,280 steps
+module _ (x : Sample) where
+  pub goes-on : (c d : ℕ) → c ≤ d → reach x d (stateAt x c) ≡ stateAt x d
+  goes-on = states.state-on x
+
+  pub few-steps : (d : ℕ) → stateAt x d ≡ reachFrom x d (d % 1280) (stateAt x (d / 1280 * 1280))
+  few-steps = marking.few-steps x
+
+-- A well-formed sample: the walk stands just where units start and at the end, and its state there counts the units before
+module _ (x : Sample) (formed : check x ≡ ok tt) where
+  pub stands : (d : ℕ) → d ≤ end x → (stateAt x d .place ≡ d) ↔ UnitBorder x d
+  stands d h = (standing.state-border x formed d h, standing.border-state x formed d)
+
+  pub counts : (d : ℕ) → UnitBorder x d → let before = keep (λ q. q <? d) (withoutAggregators x (units x)) in
+      (stateAt x d .count ≡ length before)
+      × (stateAt x d .bytes ≡ sum (map (size x) before))
+      × (stateAt x d .extractors ≡ length (keep (isExtractor x) before))
+  counts = counting.state-counts x formed
+
+  -- An extractor is answered by two states: refused as the rules say, or its copy counted
+  module _ (o n : ℕ) where
+    pub copy-refused : (copyFault x o n ≡ 0 → ⊥) →
+        copyBetween x o n (stateAt x o) (stateAt x (copyEnd x o n)) ≡ Refused (copyFault x o n)
+    copy-refused = copying.states-refused x formed o n
+
+    pub copy-counted : copyFault x o n ≡ 0 →
+        copyBetween x o n (stateAt x o) (stateAt x (copyEnd x o n))
+        ≡ Units (record { count = length (copied x o n); bytes = sum (map (size x) (copied x o n)) })
+    copy-counted = copying.states-counted x formed o n
+
+    -- by the rows that hold its marks, wherever they stand
+    pub copy-by-marks : (base : ℕ) (rows : List ℕ) → end x ≤ bundleMost → (base + end x / 1280) * 5 ≤ length rows →
+        copyBy x (marks x base rows) base o n ≡ copyBetween x o n (stateAt x o) (stateAt x (copyEnd x o n))
+    copy-by-marks = marked.marks-copy x formed o n
+
+-- All samples of a bundle are judged in one call: beside each its judgement is kept, 14 to 28 and the place, or how many units it
+-- delivers; and the table says what it said
+module _ (b t : List ℕ) where
+  pub says-the-same : recordingIn b (withJudgements b t) ≡ recordingIn b t
+  says-the-same = keeping.all-recording b t
+
+  module _ (short : length b ≤ bundleMost) (room : tableMost ≤ length t) (n : ℕ) (some : 0 < n) (there : n ≤ sampleCount (layoutIn t)) where
+    pub refused-kept : (m p : ℕ) → judged (recordingIn b t) n ≡ refused m p → verdictIn (keptCountIn (withJudgements b t) n) ≡ refused m p
+    refused-kept = keeping.refused-kept b t short room n some there
+
+    pub units-kept : judged (recordingIn b t) n ≡ ok tt →
+        verdictIn (keptCountIn (withJudgements b t) n) ≡ ok (length (delivered (recordingIn b t) n))
+    units-kept = keeping.units-kept b t short room n some there
