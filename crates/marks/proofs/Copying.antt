@@ -20,14 +20,16 @@ use Rattle.words.specs.RefusalNumbers.{badDataOffset, badDataLength}
 use Rattle.words.proofs.Tests.{by-bool, and-both, not-true}
 use Rattle.units.specs.Units.{Sample, end, next, isAggregator}
 use Rattle.units.specs.Aggregators.{coverEnd}
+use Rattle.units.proofs.Units.{next-after}
 use Rattle.samples.specs.Check.{check}
 use Rattle.copies.specs.Copies.{copyEnd}
 use Rattle.copies.proofs.Copies.{end-length, end-unit, end-aggregator}
 use Rattle.mark_rules.specs.declared.WalkState.{WalkState}
 use Rattle.mark_rules.specs.declared.CopyCounted.{CopyCounted}
 use Rattle.mark_rules.specs.declared.CopyCounted.the-variants.{Refused}
-use Rattle.mark_rules.specs.States.{stateStep, stateAt}
+use Rattle.mark_rules.specs.States.{stateStep, reach, stateAt}
 use Rattle.mark_rules.specs.Amounts.{standsAtEnd, between, copyBetween, copyAmount}
+use Rattle.mark_rules.proofs.States.{step-other, reach-here, reach-step}
 use Rattle.mark_rules.proofs.Counts.{state-next}
 use Rattle.mark_rules.proofs.Copying.{copy-states}
 use Rattle.marks.specs.Marks.{block, rowSize, marks, stateBy, endState, copyBy, Marked}
@@ -96,9 +98,15 @@ module _ (x : Sample) (rows : List ℕ) (base : ℕ) where
       unfolding copyBy
       unit-long l = sym (between-long x o 0 _ _ h here (rw (end-unit x o 0 refl t) l))
 
-      pub unit-good : next x (a .place) ≤ end x → between a (stateStep x a) ≡ copyBy x rows base (a .place) 0
+      one-step : reach x (next x (a .place)) a ≡ stateStep x a
+      one-step =
+          let n = next-after x o in
+          let j = step-other x a t in
+          reach-step x (next x o) a n ∙ reach-here x (next x o) (stateStep x a) (rw j (omega arith))
+
+      pub unit-good : next x (a .place) ≤ end x → between a (reach x (next x (a .place)) a) ≡ copyBy x rows base (a .place) 0
       unfolding copyBy
-      unit-good l = sym (between-zero x o 0 _ _ h here refl (rw (end-unit x o 0 refl t) l) ∙ rw (end-step o t, ← s))
+      unit-good l = rw one-step (sym (between-zero x o 0 _ _ h here refl (rw (end-unit x o 0 refl t) l) ∙ rw (end-step o t, ← s)))
 
     module _ (t : isAggregator x (a .place) ≡ true) where
       pub cover-long : end x < coverEnd x (a .place) → Refused badDataLength ≡ copyBy x rows base (a .place) 0

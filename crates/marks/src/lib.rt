@@ -237,7 +237,7 @@ fn copy_unit(k: Track, z: &[u8], rows: &[u32], base: usize, a: WalkState) -> Cop
         if z.len() < next {
             return CopyCounted::Refused(refusals::BAD_DATA_LENGTH);
         }
-        return between(a, step(k, z, a));
+        return between(a, reach(k, z, a, next));
     }
     let to = next + length_at(l, z, p + n + LengthSize::HEADER);
     if z.len() < to {

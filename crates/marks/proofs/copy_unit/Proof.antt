@@ -67,8 +67,8 @@ returns : tie.Need-returns
 returns c = let d = c .before .before in unit-long (X d) (A d .args .rows .now) (A d .args .base) (A d .args .a) (A d .pre .2) (A d .pre .0) (other d (c .before .if1 .taken)) (rw (ends d) at (c .if2 .taken))
 
 -- src/lib.rt:240:27
-step-requires : tie.Need-step-requires
-step-requires c κs = let d = c .before .before in (A d .pre .0, A d .pre .1)
+reach-requires : tie.Need-reach-requires
+reach-requires c κs = let d = c .before .before in (A d .pre .1, c .if2 .left)
 
 -- src/lib.rt:240:9
 between-requires : tie.Need-between-requires
@@ -76,7 +76,7 @@ between-requires c κs = search needs
 
 -- src/lib.rt:240:9
 returns-2 : tie.Need-returns-2
-returns-2 c = let d = c .before .before .before .before in rw (c .between .ensures, c .before .step .ensures) (unit-good (X d) (A d .args .rows .now) (A d .args .base) (A d .args .a) (A d .pre .2) (A d .pre .0) (other d (c .before .before .before .if1 .taken)) (rw (ends d) at (c .before .before .if2 .left)))
+returns-2 c = let d = c .before .before .before .before in rw (c .between .ensures, c .before .reach .ensures .0, ends d) (unit-good (X d) (A d .args .rows .now) (A d .args .base) (A d .args .a) (A d .pre .2) (A d .pre .0) (other d (c .before .before .before .if1 .taken)) (rw (ends d) at (c .before .before .if2 .left)))
 
 -- src/lib.rt:242:37
 add-length-at : tie.Need-add-length-at
@@ -120,7 +120,7 @@ copy-unit-spec =
     add-next-2
     type-at-requires
     returns
-    step-requires
+    reach-requires
     between-requires
     returns-2
     add-length-at
