@@ -1,25 +1,19 @@
 -- What a judgement says of a copy, by parts. Assumes nothing.
 --
 --   copy-ill, copy-border, copy-formed    25; 26 and 27; 28 or none
---   chained-copy                          28 or none is what one walk over the copy finds
 --   good-formed, good-border              a copy without a refusal: of a well-formed sample, without 26 and 27
---   good-flat, good-plain, good-whole     its units are those of one walk, none an extractor, and whole
+--   good-flat                             its units are those of one walk
 use Prim.Native.Nat.{ℕ}
-use mathlib.Core.Path.{_≡_, sym, _∙_}
-use mathlib.Core.List.{List·Memᴰ}
+use mathlib.Core.Path.{_≡_}
 use borrow.Author.Tests.{not-false}
 use Rattle.words.specs.Refusals.{ok, refused}
 use Rattle.words.specs.RefusalNumbers.{namedIllFormed}
 use Rattle.words.proofs.Refusals.{if-none, orElse-none, orElse-here}
-use Rattle.words.proofs.Lists.{keep-from}
-use Rattle.units.specs.Units.{Sample, end}
-use Rattle.units.specs.Rules.{Whole}
+use Rattle.units.specs.Units.{Sample}
 use Rattle.samples.specs.Check.{check}
 use Rattle.samples.proofs.Laws.{formed-ok}
 use Rattle.copies.specs.Copies.{copyEnd, copied, formFault, borderFault, chainFault, copyFault}
-use Rattle.copies.specs.Flat.{flatPlaces}
-use Rattle.copies.proofs.Flat.{flat-good}
-use Rattle.copies.proofs.Copies.{copy-cut, copied-flat}
+use Rattle.copies.proofs.Copies.{copied-flat}
 use Rattle.copies.proofs.Rest.{rest}
 
 module _ (z : Sample) where
@@ -36,9 +30,6 @@ module _ (z : Sample) where
     unfolding copyFault
     copy-formed k e = rw (k, e)
 
-    pub chained-copy : check z ≡ ok tt → borderFault z o n ≡ 0 → chainFault z (rest z (copyEnd z o n) o) ≡ copyFault z o n
-    chained-copy k e = rw (← copied-flat z o n e k) (sym (copy-formed k e))
-
     -- a copy without a refusal
     module _ (g : copyFault z o n ≡ 0) where
       pub good-formed : check z ≡ ok tt
@@ -51,9 +42,3 @@ module _ (z : Sample) where
 
       pub good-flat : copied z o n ≡ rest z (copyEnd z o n) o
       good-flat = copied-flat z o n good-border good-formed
-
-      pub good-plain : chainFault z (rest z (copyEnd z o n) o) ≡ 0
-      good-plain = rw (← good-flat) (sym (copy-formed good-formed good-border) ∙ g)
-
-      pub good-whole : (q : ℕ) → List·Memᴰ q (copied z o n) → Whole z (end z) q
-      good-whole q m = flat-good z o (copyEnd z o n) (copy-cut z o n good-border good-formed) q (keep-from _ (flatPlaces z o (copyEnd z o n)) (rw good-flat at m) .0) .0

@@ -3,12 +3,11 @@
 --   starts-unit, unit-starts, starts-not    data_offset is a unit of the sample, or none
 --   end-length, end-unit, end-aggregator    where a copy ends
 --   ends-top, ends-included     on which borders, by its start
---   Run, run                    the units that a copy starts and ends among
---   run-none, run-some          whether a unit starts at data_offset
+--   Run                         the units that a copy starts and ends among
 --   top-ends                    a top-level unit ends in the sample
 --   end-zero                    what data_length 0 takes ends on a border
 --   border-none                 a copy without 26 and 27 starts and ends where it may; of such a copy:
---   copy-whole, copy-cut, copy-most    its first unit is whole, it lies between two borders of units, and in the sample
+--   copy-cut, copy-most         it lies between two borders of units, and in the sample
 --   copied-flat                 its units are those of one walk over it, aggregators dropped
 use Prim.Native.Nat.{ℕ, _+_, _≤_, _<_}
 use mathlib.Core.Path.{_≡_, refl, ap, sym, _∙_, subst}
@@ -20,20 +19,18 @@ use borrow.Author.Tests.{eq-eqb, ne-eqb, eqb-true, eqb-false, not-false}
 use Rattle.words.specs.Tests.{_≤?_, _<?_, _≡?_}
 use Rattle.words.specs.Refusals.{ok}
 use Rattle.words.specs.Lists.{has}
-use Rattle.words.proofs.Tests.{by-bool, true-false}
+use Rattle.words.proofs.Tests.{by-bool}
 use Rattle.words.proofs.Refusals.{if-none, orElse-none}
 use Rattle.words.proofs.Lists.{some-none, has-from, has-mem, is-or-from, is-or-mem}
 use Rattle.words.proofs.Kept.{keep-keep}
 use Rattle.units.specs.Units.{Sample, end, next, isAggregator, places, topUnits, border}
 use Rattle.units.specs.Aggregators.{includedStart, included, coverEnd, units}
-use Rattle.units.specs.Rules.{Whole}
 use Rattle.units.proofs.Units.{next-after}
-use Rattle.units.proofs.Walks.{in-top, units-top, units-included, units-from}
+use Rattle.units.proofs.Walks.{units-top, units-included, units-from}
 use Rattle.samples.specs.Check.{check}
-use Rattle.samples.proofs.Laws.{included-inside, covered-border, unit-whole, unit-inside}
+use Rattle.samples.proofs.Laws.{included-inside, covered-border, unit-inside}
 use Rattle.copies.specs.Copies.{withoutAggregators, includedBorder, copyStarts, copyEnd, copyEnds, copied, startFault, borderFault}
 use Rattle.copies.specs.Flat.{flatPlaces, UnitBorder, BetweenBorders}
-use Rattle.copies.specs.Runs.{RunEnd}
 use Rattle.copies.proofs.Flat.{border-most, flat-between}
 use Rattle.copies.proofs.Runs.{places-next, top-apart, includes-one}
 
@@ -84,18 +81,6 @@ pub record Run (z : Sample) (a e o : ℕ) : Type 0 where
   pub stop : UnitBorder z e
   pub ends : (n : ℕ) → copyEnds z o n ≡ ((copyEnd z o n ≡? e) || has (copyEnd z o n) (places z a e))
 
--- whether a unit starts at o
-module _ (z : Sample) (o : ℕ) where
-  pub run-none : (e : ℕ) → RunEnd z o e → e ≡ 0 → copyStarts z o ≡ false
-  run-none e (RunEnd.none h) i = h
-  run-none e (RunEnd.top m) i = let l = in-top z o m in absurd (omega arith)
-  run-none e (RunEnd.inside p m t j) i = let l = next-after z p in absurd (omega arith)
-
-  pub run-some : (e : ℕ) → RunEnd z o e → (e ≡ 0 → ⊥) → copyStarts z o ≡ true
-  run-some e (RunEnd.none h) i = absurd (i refl)
-  run-some e (RunEnd.top m) i = unit-starts z o (units-top z o m)
-  run-some e (RunEnd.inside p m t j) i = unit-starts z o (units-included z p o m t j)
-
 pub top-ends : (z : Sample) → check z ≡ ok tt → (p : ℕ) → List·Memᴰ p (topUnits z) → next z p ≤ end z
 top-ends z k p m = unit-inside z k p (units-top z p m) .1
 
@@ -119,11 +104,6 @@ module _ (z : Sample) (k : check z ≡ ok tt) (o : ℕ) where
     where
       after : (q : ℕ) → (q ≡ end z) ⊎ List·Memᴰ q (topUnits z) → UnitBorder z q
       after q h = ⊎-elim (λ e. inl e) (λ i. inr (units-top z q i)) h
-
-  pub run : (e : ℕ) → RunEnd z o e → copyStarts z o ≡ true → (a : ℕ) × Run z a e o
-  run e (RunEnd.none h) s = true-false _ s h
-  run e (RunEnd.top m) s = (0, run-top m)
-  run e (RunEnd.inside p m t j) s = (includedStart z p, run-included p m t j)
 
   -- each unit stands in a run
   some-run : {G : Type 0} → copyStarts z o ≡ true → ((a e : ℕ) → Run z a e o → G) → G
@@ -168,9 +148,6 @@ module _ (z : Sample) (o n : ℕ) where
       stop = ends-border z k o n (border-none b .0) (border-none b .1);
       order = (let a = end-after z o n in omega arith);
     }
-
-    pub copy-whole : check z ≡ ok tt → Whole z (end z) o
-    copy-whole k = unit-whole z k o copy-unit
 
     pub copy-most : check z ≡ ok tt → copyEnd z o n ≤ end z
     copy-most k = border-most z k (copyEnd z o n) (copy-cut k .stop)

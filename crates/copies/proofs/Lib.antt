@@ -3,7 +3,6 @@
 --   Flat      all units of a well-formed sample as one walk
 --   Runs      units that stand one after another: top-level ones, or those of one aggregator
 --   Copies    where a copy starts and ends, and its units
---   Starts    what code finds of its start and its end by walks
 --   Rest      what is left of a walk, and what a loop has counted or looked for before
 --   Answers   what code says of a copy, by parts
 --   Copied    what a copy has; what is copied, exactly
@@ -14,7 +13,6 @@
 pub mod Flat
 pub mod Runs
 pub mod Copies
-pub mod Starts
 pub mod Rest
 pub mod Answers
 pub mod Copied

@@ -1,19 +1,17 @@
 -- Units that stand one after another: the top-level units of a sample, or those that one aggregator includes. Assumes nothing.
 --
---   places-sooner, places-later   the places up to an earlier end, and from a later unit on, are among them
+--   places-later                  the places from a later unit on are among them
 --   places-next                   the next place is their end, or one of them
---   run-has                       inside a unit no other starts
---   walk-start, walk-next         a walk from a up to the unit that t lies in
 --   holder-one, in-holder         a place lies in one top-level unit; an included unit in its aggregator
 --   top-apart, aggregator-one     an included unit is no top-level one, and one aggregator includes it
 --   includes-one                  a test of the one aggregator that includes a unit
-use Prim.Native.Nat.{ℕ, zero, suc, _+_, _-_, _≤_, _<_}
+use Prim.Native.Nat.{ℕ, zero, suc, _-_, _≤_, _<_}
 use mathlib.Core.Path.{_≡_, refl, sym, _∙_}
 use mathlib.Core.List.{List·Memᴰ, List·Memᴰ·not-nil, List·Memᴰ·cases-cons, List·Memᴰ·head, List·Memᴰ·tail}
 use mathlib.Core.Logic.{_⊎_, inl, inr, ⊎-elim}
 use mathlib.Core.Bool.{Bool, true, _&&_}
 use native.Mathlib.Omega.{arith}
-use borrow.Author.Tests.{leb-true, leb-false, ne-eqb, eqb-true, eqb-false}
+use borrow.Author.Tests.{leb-true, leb-false, eqb-true, eqb-false}
 use lib.Dec.{leb}
 use Rattle.words.specs.Tests.{_≡?_}
 use Rattle.words.specs.Lists.{some, has}
@@ -24,22 +22,10 @@ use Rattle.numbers.proofs.Laws.{L-some}
 use Rattle.units.specs.Units.{Sample, next, isAggregator, places, topUnits}
 use Rattle.units.specs.Aggregators.{includedStart, included}
 use Rattle.units.proofs.Units.{next-after}
-use Rattle.units.proofs.Walks.{places-end, places-step, in-places, places-rise, top-rise, Before}
+use Rattle.units.proofs.Walks.{places-end, places-step, in-places, top-rise, Before}
 use Rattle.copies.specs.Copies.{includes}
 
 module _ (x : Sample) where
-  sooner : (k a t e q : ℕ) → t + 1 - a ≤ k → t < e → List·Memᴰ q (places x a (t + 1)) → List·Memᴰ q (places x a e)
-  sooner zero a t e q h l m = absurd (List·Memᴰ·not-nil (rw (places-end x a (t + 1) (omega arith)) at m))
-  sooner (suc k) a t e q h l m = by-bool (leb (t + 1) a)
-      (λ u. absurd (List·Memᴰ·not-nil (rw (places-end x a (t + 1) (leb-true _ _ u)) at m)))
-      (λ u. let i = leb-false (t + 1) a u in let n = next-after x a in rw (places-step x a e (omega arith)) (⊎-elim
-      (λ j. List·Memᴰ·head j)
-      (λ j. List·Memᴰ·tail (sooner k (next x a) t e q (omega arith) l j))
-      (List·Memᴰ·cases-cons (rw (places-step x a (t + 1) i) at m))))
-
-  pub places-sooner : (a t e q : ℕ) → t < e → List·Memᴰ q (places x a (t + 1)) → List·Memᴰ q (places x a e)
-  places-sooner a t e q l m = sooner (t + 1) a t e q (omega arith) l m
-
   later : (k p e a q : ℕ) → e - p ≤ k → List·Memᴰ a (places x p e) → List·Memᴰ q (places x a e) → List·Memᴰ q (places x p e)
   later zero p e a q h m j = absurd (List·Memᴰ·not-nil (rw (places-end x p e (omega arith)) at m))
   later (suc k) p e a q h m j = by-bool (leb e p)
@@ -58,21 +44,6 @@ module _ (x : Sample) where
       (λ t. let n = eqb-false (next x q) e t in
       let i = in-places x a e q m in
       inr (places-later a e q (next x q) m (rw (places-step x q e (i .1), places-step x (next x q) e (omega arith)) (List·Memᴰ·tail (List·Memᴰ·head refl)))))
-
-  pub run-has : (a e q t : ℕ) → List·Memᴰ q (places x a e) → q ≤ t → t < next x q → has t (places x a e) ≡ (q ≡? t)
-  run-has a e q t m l h = by-bool (q ≡? t)
-      (λ u. has-mem t (places x a e) (rw (← eqb-true q t u) m) ∙ sym u)
-      (λ u. let i = eqb-false q t u in some-none (λ j. t ≡? j) (places x a e) (λ j k. ne-eqb t j (λ e'. ⊎-elim
-      (λ s. i (s ∙ sym e'))
-      (λ s. ⊎-elim (λ b. absurd (omega arith)) (λ b. let n = next-after x j in absurd (omega arith)) s)
-      (rising-apart (Before x) (places x a e) (places-rise x a e) q j m k))) ∙ sym u)
-
-  -- a walk from a up to the unit that t lies in
-  pub walk-start : (a t : ℕ) → a ≤ t → List·Memᴰ a (places x a (t + 1))
-  walk-start a t l = rw (places-step x a (t + 1) (omega arith)) (List·Memᴰ·head refl)
-
-  pub walk-next : (a t q : ℕ) → List·Memᴰ q (places x a (t + 1)) → next x q ≤ t → List·Memᴰ (next x q) (places x a (t + 1))
-  walk-next a t q m h = ⊎-elim (λ e. absurd (omega arith)) (λ k. k) (places-next a (t + 1) q m (omega arith))
 
   -- top-level units do not overlap
   pub holder-one : (p r t : ℕ) → List·Memᴰ p (topUnits x) → List·Memᴰ r (topUnits x) → p ≤ t → t < next x p → r ≤ t → t < next x r → p ≡ r

@@ -6,7 +6,7 @@
 --   ownSize, copiedSize                       own and copied bytes as a loop adds them up
 --   own-none, -add, -append, copied-none, -add, -append    none, a unit more, and some more
 --   copied-own, copied-all, copies-length     units that are copied: none of their bytes is own; how many they are
---   all-parts, parts-one                      all bytes are own or copied
+--   parts-one                                 all bytes are own or copied
 --   deliveries-own, deliveries-copied         own and copied bytes of what a sample delivers
 use Prim.Native.Nat.{ℕ, suc, _+_}
 use mathlib.Core.Path.{_≡_, refl, ap, sym, _∙_}
@@ -79,11 +79,6 @@ parts-of (Copy p k) n = omega arith
 
 pub parts-one : (d : Delivery) → ownPart d + copiedPart d ≡ d .span .size
 parts-one d = parts-of (d .source) (d .span .size)
-
-pub all-parts : (ds : List Delivery) → allSize ds ≡ ownSize ds + copiedSize ds
-unfolding allSize ownSize copiedSize sum
-all-parts [] = refl
-all-parts (d ∷ ds) = let below = all-parts ds in let p = parts-one d in omega arith
 
 -- units that are copied
 pub copied-own : (p k : ℕ) (us : List Span) → ownSize (copiesFrom p k us) ≡ 0

@@ -4,7 +4,6 @@
 --   form-refused, refused-judged   a form that is refused: so is any call on a good sample, and the judgement
 --   form-good, good-judged         a form that is not: the bundle is not too long, the number is good, and the sample is judged
 --   judged-refused                 30 or 14 to 28: so is any call on a good sample
---   judged-sample                  14 to 28, where the number is good
 --   judged-number, judged-good     a sample that is good, and how much it delivers
 --   judged-size, judged-most       the length of its output, and that it fits a word
 use Prim.Native.Nat.{ℕ, _+_, _*_, _≤_, _<_}
@@ -17,7 +16,7 @@ use lib.ListN.{length}
 use Rattle.words.specs.RefusalNumbers.{bundleTooLong}
 use Rattle.words.specs.Refusals.{Verdict, Answer, refused, ok, _andThen_, _atPlace_}
 use Rattle.words.proofs.Tests.{by-bool}
-use Rattle.words.proofs.Refusals.{at-ok, at-refused, and-ok, by-verdict, ok-same, ok-refused, refused-same}
+use Rattle.words.proofs.Refusals.{at-ok, at-refused, and-ok, ok-same, ok-refused, refused-same}
 use Rattle.samples.specs.Check.{check}
 use Rattle.bundles.specs.Limits.{bundleMost}
 use Rattle.bundles.specs.Recordings.{Recording, sampleCount}
@@ -35,12 +34,6 @@ use Rattle.judging.specs.Steps.{amountFor, onSampleIn, judgement, judgem
 use Rattle.judging.specs.declared.Amount.{Amount}
 
 module _ (r : Recording) (n : ℕ) where
-  judgement-refused : {m q : ℕ} → judgement r n ≡ refused m q → judged r n ≡ refused m q
-  unfolding judgement
-  judgement-refused {m} {q} e = by-verdict (judged r n)
-      (λ a b v. let s : refused a b ≡ refused m q = rw v at e in let i : a ≡ m = cc in let j : b ≡ q = cc in v ∙ rw (i, j))
-      (λ v. ok-refused (sym (rw v at e)))
-
   judgement-good : (a : Amount) → judgement r n ≡ ok a → (judged r n ≡ ok tt) × (a .count ≡ length (delivered r n)) × (a .«own_bytes» ≡ ownBytes r n) × (a .«copied_bytes» ≡ copiedBytes r n)
   unfolding judgement
   judgement-good a e =
@@ -94,9 +87,6 @@ module _ (b t : List ℕ) (n : ℕ) where
     pub judged-refused : {m q : ℕ} → judgementIn b t n ≡ refused m q → {A : Type 0} (a : Answer A) → onGood (recordingIn b t) n a ≡ refused m q
     unfolding judgement
     judged-refused e a = on-refused (Fault atPlace 0) (judged R n) (amountFor R n) a (sym short ∙ e)
-
-    pub judged-sample : numberFault (sampleCount (recordingIn b t .layout)) n ≡ 0 → {m q : ℕ} → judgementIn b t n ≡ refused m q → judged (recordingIn b t) n ≡ refused m q
-    judged-sample g e = judgement-refused R n (sym (judgement-in g) ∙ e)
 
   module _ (h : length b ≤ bundleMost) (a : Amount) (e : judgementIn b t n ≡ ok a) where
     both : (Fault atPlace 0 ≡ ok tt) × (judgement R n ≡ ok a)

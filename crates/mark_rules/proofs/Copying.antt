@@ -5,34 +5,29 @@
 --   end-states         27 by both states
 --   copy-states        26 to 28, or the copy counted
 --   states-refused, states-counted    the same, by the refusal
-use Prim.Native.Nat.{ℕ, _+_, _-_, _≤_, _<_}
-use mathlib.Core.Path.{_≡_, refl, ap, sym, _∙_}
-use mathlib.Core.List.{List, map, List·Memᴰ}
-use mathlib.Core.Logic.{_⊎_, inl, inr, ⊎-elim}
-use mathlib.Core.Bool.{Bool, true, false, _&&_, _||_, and-false}
+use Prim.Native.Nat.{ℕ, _-_, _≤_, _<_}
+use mathlib.Core.Path.{_≡_, ap, sym, _∙_}
+use mathlib.Core.List.{map, List·Memᴰ}
+use mathlib.Core.Logic.{_⊎_, inr, ⊎-elim}
+use mathlib.Core.Bool.{Bool, true, _&&_, and-false}
 use native.Mathlib.Omega.{arith}
 use borrow.Author.Tests.{lt-ltb, le-ltb, le-leb, lt-leb, ltb-true, ltb-false, leb-true, leb-false, eq-eqb, ne-eqb, eqb-true, eqb-false}
 use lib.ListN.{length}
-use Rattle.words.specs.Tests.{_≤?_, _<?_, _≡?_, pick}
+use Rattle.words.specs.Tests.{_≤?_, _<?_, _≡?_}
 use Rattle.words.specs.Refusals.{ok}
-use Rattle.words.specs.RefusalNumbers.{badDataOffset, badDataLength, extractorCopied}
 use Rattle.words.specs.Lists.{some, sum, has}
 use Rattle.words.proofs.Tests.{by-bool, true-false}
 use Rattle.words.proofs.Lists.{has-mem, has-from, some-none}
 use Rattle.units.specs.Units.{Sample, end, size, next, isAggregator, isExtractor, topUnits, border}
 use Rattle.units.specs.Aggregators.{included, units}
-use Rattle.units.proofs.Units.{next-after}
-use Rattle.units.proofs.Walks.{border-past, units-top, units-included, units-from}
+use Rattle.units.proofs.Walks.{border-past, units-included, units-from}
 use Rattle.samples.specs.Check.{check}
 use Rattle.samples.proofs.Laws.{unit-inside}
 use Rattle.copies.specs.Copies.{copyStarts, copyEnd, copyEnds, copied, includedBorder, borderFault, copyFault}
-use Rattle.copies.specs.Flat.{UnitBorder}
 use Rattle.copies.proofs.Runs.{in-holder, holder-one, top-apart, aggregator-one}
 use Rattle.copies.proofs.Rest.{rest}
 use Rattle.copies.proofs.Copies.{starts-unit, unit-starts, starts-not, ends-top, ends-included, end-length, end-zero, top-ends, copy-cut, copy-most, copied-flat}
 use Rattle.copies.proofs.Answers.{copy-border, copy-formed}
-use Rattle.mark_rules.specs.declared.WalkState.{WalkState}
-use Rattle.mark_rules.specs.declared.CopyCounted.{CopyCounted}
 use Rattle.mark_rules.specs.declared.CopyCounted.the-variants.{Refused, Units}
 use Rattle.mark_rules.specs.Standing.{Standing}
 use Rattle.mark_rules.specs.States.{stateAt}

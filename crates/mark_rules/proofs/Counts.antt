@@ -10,12 +10,12 @@
 use Prim.Native.Nat.{ℕ, zero, suc, _+_, _-_, _≤_, _<_}
 use mathlib.Core.Path.{_≡_, refl, ap, sym, _∙_, subst}
 use mathlib.Core.List.{List, [], _∷_, map}
-use mathlib.Core.Bool.{Bool, true, false, not, _&&_}
+use mathlib.Core.Bool.{true, false, not, _&&_}
 use native.Mathlib.Omega.{arith}
 use borrow.Author.Tests.{le-leb, leb-true, leb-false, eq-eqb, ne-eqb}
 use lib.Dec.{leb}
 use lib.ListN.{length}
-use Rattle.words.specs.Tests.{_<?_, _≤?_, _≡?_, pick}
+use Rattle.words.specs.Tests.{_<?_, _≤?_, pick}
 use Rattle.words.specs.Refusals.{ok}
 use Rattle.words.specs.Lists.{keep, some, sum}
 use Rattle.words.specs.RefusalNumbers.{extractorCopied}
@@ -23,7 +23,7 @@ use Rattle.words.proofs.Tests.{by-bool, true-false}
 use Rattle.words.proofs.Kept.{keep-keep, keep-same}
 use Rattle.numbers.proofs.Laws.{L-some}
 use Rattle.units.specs.Units.{Sample, size, next, isAggregator, isExtractor}
-use Rattle.units.specs.Aggregators.{includedStart, units}
+use Rattle.units.specs.Aggregators.{units}
 use Rattle.units.proofs.Units.{next-after}
 use Rattle.samples.specs.Check.{check}
 use Rattle.copies.specs.Copies.{withoutAggregators}
@@ -31,7 +31,6 @@ use Rattle.copies.specs.Flat.{UnitBorder, BetweenBorders}
 use Rattle.copies.proofs.Flat.{Walking, walking-start, flat-between}
 use Rattle.copies.proofs.Rest.{rest, rest-end, rest-skip, rest-take, walking-skip, walking-take}
 use Rattle.mark_rules.specs.declared.WalkState.{WalkState}
-use Rattle.mark_rules.specs.declared.CopyCounted.{CopyCounted}
 use Rattle.mark_rules.specs.declared.CopyCounted.the-variants.{Refused, Units}
 use Rattle.mark_rules.specs.States.{entered, passed, stateStep, reach, stateAt}
 use Rattle.mark_rules.specs.Amounts.{between}

@@ -10,8 +10,8 @@
 --   from-front                    a stretch from the start of the sample
 --   border-state                  at a border of units the state stands
 --   state-border                  and only there
-use Prim.Native.Nat.{ℕ, zero, suc, _+_, _-_, _≤_, _<_}
-use mathlib.Core.Path.{_≡_, refl, ap, sym, _∙_}
+use Prim.Native.Nat.{ℕ, zero, suc, _-_, _≤_, _<_}
+use mathlib.Core.Path.{_≡_, refl}
 use mathlib.Core.List.{List·Memᴰ, List·Memᴰ·head}
 use mathlib.Core.Logic.{inl, inr, ⊎-elim}
 use mathlib.Core.Bool.{true, false}
@@ -22,16 +22,16 @@ use Rattle.words.specs.Refusals.{ok}
 use Rattle.words.proofs.Tests.{by-bool, true-false}
 use Rattle.words.proofs.Lists.{is-or-from, is-or-mem}
 use Rattle.numbers.proofs.Laws.{L-some}
-use Rattle.units.specs.Units.{Sample, end, size, next, isAggregator, isExtractor, topUnits, border}
-use Rattle.units.specs.Aggregators.{includedStart, included, units}
+use Rattle.units.specs.Units.{Sample, end, next, isAggregator, isExtractor, topUnits, border}
+use Rattle.units.specs.Aggregators.{includedStart, units}
 use Rattle.units.specs.Rules.{Whole}
 use Rattle.units.proofs.Units.{next-after, whole-end, whole-aggregator}
-use Rattle.units.proofs.Walks.{places-step, reached-top, border-inside, in-top, in-places, units-top, units-included}
+use Rattle.units.proofs.Walks.{places-step, reached-top, border-inside, units-top, units-included}
 use Rattle.samples.specs.Check.{check}
 use Rattle.samples.proofs.Laws.{rules, included-inside, unit-whole}
-use Rattle.copies.specs.Flat.{flatStep, UnitBorder, BetweenBorders}
-use Rattle.copies.proofs.Flat.{Walking, walking-start, walking-next, walking-step}
-use Rattle.copies.proofs.Runs.{places-next, in-holder}
+use Rattle.copies.specs.Flat.{UnitBorder, BetweenBorders}
+use Rattle.copies.proofs.Flat.{Walking, walking-start, walking-next}
+use Rattle.copies.proofs.Runs.{places-next}
 use Rattle.mark_rules.specs.declared.WalkState.{WalkState}
 use Rattle.mark_rules.specs.Standing.{Standing, Settled}
 use Rattle.mark_rules.specs.States.{front, entered, passed, stateStep, reach, stateAt}

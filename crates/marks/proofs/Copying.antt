@@ -10,7 +10,7 @@
 use Prim.Native.Nat.{ℕ, _+_, _-_, _*_, _/_, _≤_, _<_}
 use mathlib.Core.Path.{_≡_, refl, ap, sym, _∙_}
 use mathlib.Core.List.{List}
-use mathlib.Core.Bool.{Bool, true, false, _&&_, not}
+use mathlib.Core.Bool.{true, false, _&&_, not}
 use native.Mathlib.Omega.{arith}
 use borrow.Author.Tests.{lt-ltb, le-ltb, le-leb, lt-leb, ltb-true, ltb-false, leb-true, leb-false, eq-eqb, ne-eqb, eqb-true, eqb-false}
 use lib.ListN.{length}
@@ -25,7 +25,6 @@ use Rattle.samples.specs.Check.{check}
 use Rattle.copies.specs.Copies.{copyEnd}
 use Rattle.copies.proofs.Copies.{end-length, end-unit, end-aggregator}
 use Rattle.mark_rules.specs.declared.WalkState.{WalkState}
-use Rattle.mark_rules.specs.declared.CopyCounted.{CopyCounted}
 use Rattle.mark_rules.specs.declared.CopyCounted.the-variants.{Refused}
 use Rattle.mark_rules.specs.States.{stateStep, reach, stateAt}
 use Rattle.mark_rules.specs.Amounts.{standsAtEnd, between, copyBetween, copyAmount}

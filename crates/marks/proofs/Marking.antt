@@ -10,13 +10,12 @@
 use Prim.Native.Nat.{ℕ, zero, suc, _+_, _-_, _*_, _/_, _%_, _≤_, _<_}
 use mathlib.Core.Path.{_≡_, refl, ap, sym, _∙_}
 use mathlib.Core.List.{List}
-use mathlib.Core.Bool.{true, false}
 use native.Mathlib.Omega.{arith}
 use native.Mathlib.Numerals.{add-one}
 use borrow.Author.Tests.{eq-eqb, ne-eqb, ltb-true, ltb-false, eqb-true, eqb-false}
 use lib.Dec.{ltb}
 use lib.ListN.{length}
-use Rattle.words.specs.Tests.{_≡?_, pick}
+use Rattle.words.specs.Tests.{_≡?_}
 use Rattle.words.specs.Refusals.{ok}
 use Rattle.words.specs.Buffers.{put}
 use Rattle.words.proofs.Tests.{by-bool}

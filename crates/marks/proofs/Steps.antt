@@ -4,7 +4,7 @@
 --   step-in, step-extractor, step-plain    an aggregator, an extractor, another unit
 --   next-read, cover-read                  where a unit ends, and what an aggregator covers
 --   fits-front, fits-step, fits-reach      the numbers of a state do not get too large
-use Prim.Native.Nat.{ℕ, zero, suc, _+_, _-_, _^_, _≤_, _<_}
+use Prim.Native.Nat.{ℕ, zero, suc, _+_, _-_, _^_, _≤_}
 use mathlib.Core.Path.{_≡_, sym, _∙_}
 use mathlib.Core.List.{List}
 use native.Mathlib.Omega.{arith}
@@ -20,7 +20,7 @@ use Rattle.units.specs.Units.{Sample, sample, size, type, next, isAggregator, i
 use Rattle.units.specs.Aggregators.{coverEnd}
 use Rattle.units.specs.declared.Track.{Track}
 use Rattle.mark_rules.specs.declared.WalkState.{WalkState}
-use Rattle.mark_rules.specs.States.{front, entered, passed, stateStep, reach}
+use Rattle.mark_rules.specs.States.{front, stateStep, reach}
 use Rattle.mark_rules.proofs.States.{step-aggregator, step-other, step-after, reach-here, reach-step}
 use Rattle.marks.specs.Fits.{Fits}
 

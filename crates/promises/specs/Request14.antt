@@ -19,15 +19,13 @@
 -- and what refuses a sample), Contents and Request01 to Request05. How long a call takes is measured; what bounds it is here: a
 -- walk of less than a block from a mark (`few-steps`), two for an extractor (`copy-by-marks`), whatever the sample named holds.
 use Prim.Native.Nat.{ℕ, _+_, _*_, _/_, _%_, _≤_, _<_}
-use mathlib.Core.Path.{_≡_, refl}
-use mathlib.Core.List.{List, [], _∷_, map}
+use mathlib.Core.Path.{_≡_}
+use mathlib.Core.List.{List, map}
 use mathlib.Core.Logic.{_↔_}
 use lib.ListN.{length}
 use Rattle.words.specs.Tests.{_<?_}
 use Rattle.words.specs.Refusals.{refused, ok}
 use Rattle.words.specs.Lists.{keep, sum}
-use Rattle.numbers.specs.declared.Kind.the-variants.{Svc}
-use Rattle.numbers.specs.declared.LengthSize.the-variants.{One}
 use Rattle.units.specs.Units.{Sample, end, size, isExtractor}
 use Rattle.units.specs.Aggregators.{units}
 use Rattle.samples.specs.Check.{check}
@@ -38,7 +36,7 @@ use Rattle.bundles.specs.Recordings.{sampleCount}
 use Rattle.tables.specs.Tables.{layoutIn, recordingIn, tableMost, keptCountIn}
 use Rattle.resolution_rules.specs.Resolving.{delivered, judged}
 use Rattle.mark_rules.specs.declared.CopyCounted.the-variants.{Refused, Units}
-use Rattle.mark_rules.specs.States.{front, stateStep, reachFrom, reach, stateAt}
+use Rattle.mark_rules.specs.States.{reachFrom, reach, stateAt}
 use Rattle.mark_rules.specs.Amounts.{copyBetween}
 use Rattle.mark_rules.proofs.States as states
 use Rattle.mark_rules.proofs.Standing as standing

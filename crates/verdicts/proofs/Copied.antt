@@ -5,36 +5,33 @@
 --   extract-refused, extract-named   23, 24; what is copied of the sample named
 --   CopyIs, is-refused, is-good, extractor-amount    the extractor at p: its refusal, or how much it copies
 use Prim.Native.Nat.{ℕ, _+_, _≤_, _<_}
-use mathlib.Core.Path.{_≡_, refl, ap, sym, _∙_}
+use mathlib.Core.Path.{_≡_, refl, sym, _∙_}
 use mathlib.Core.List.{List, [], _∷_, map, List·Memᴰ}
 use native.Mathlib.Omega.{arith}
-use borrow.Author.Tests.{eq-eqb, ne-eqb, eqb-true, eqb-false}
+use borrow.Author.Tests.{ne-eqb, eqb-true, eqb-false}
 use lib.ListN.{length, length-map}
 use Rattle.words.specs.Tests.{_≡?_, pick}
-use Rattle.words.specs.Refusals.{ok, refused, _orElse_}
+use Rattle.words.specs.Refusals.{ok, refused}
 use Rattle.words.specs.RefusalNumbers.{namedIllFormed}
 use Rattle.words.specs.Lists.{sum}
 use Rattle.words.proofs.Tests.{by-bool, by-number}
 use Rattle.units.specs.Units.{Sample, L, end, size}
-use Rattle.units.specs.Extractors.{trackRefIndex, sampleOffset, dataOffset, dataLength}
+use Rattle.units.specs.Extractors.{dataOffset, dataLength}
 use Rattle.units.specs.Aggregators.{extractors}
 use Rattle.units.specs.Steps.{extractorOf, extractorAt}
 use Rattle.units.specs.declared.Extractor as fields
-use Rattle.units.specs.declared.MaybeExtractor.the-variants as extractor
 use Rattle.samples.specs.Check.{check}
 use Rattle.samples.proofs.Laws.{extractor-step}
 use Rattle.bundles.specs.Recordings.{Recording}
-use Rattle.links.specs.Links.{sampleNamed, nameFault}
 use Rattle.links.specs.Named.{naming}
 use Rattle.links.specs.declared.Named.the-variants as name
 use Rattle.links.proofs.Naming.{naming-refused, naming-sample}
 use Rattle.numbers.specs.declared.SampleNumber.{SampleNumber}
 use Rattle.copies.specs.Copies.{copied, copyFault}
-use Rattle.copies.specs.Rules.{CopyRules}
 use Rattle.copies.proofs.Answers.{copy-ill}
 use Rattle.copies.proofs.Copied.{copy-rules, copied-count}
 use Rattle.copies.proofs.Sizes.{copied-size}
-use Rattle.resolution_rules.specs.Resolving.{sampleOf, Span, spanOf, own, named, linked, nameFaultAt, copyFaultAt, extractFault, copiedAt}
+use Rattle.resolution_rules.specs.Resolving.{sampleOf, spanOf, own, named, linked, nameFaultAt, copyFaultAt, extractFault, copiedAt}
 use Rattle.resolution_rules.specs.Amounts.{totalSize}
 use Rattle.mark_rules.specs.declared.CopyAmount.{CopyAmount}
 use Rattle.mark_rules.specs.declared.CopyCounted.{CopyCounted}

@@ -16,14 +16,14 @@ use Rattle.words.proofs.Refusals.{at-refused}
 use Rattle.words.proofs.Lists.{keep-mem}
 use Rattle.units.specs.Units.{Sample, end, size, next, isAggregator, isExtractor}
 use Rattle.units.specs.Aggregators.{includedStart, units, extractors}
-use Rattle.units.specs.Steps.{unitOf, extractorAt}
+use Rattle.units.specs.Steps.{extractorAt}
 use Rattle.units.proofs.Units.{next-after, whole-end}
 use Rattle.numbers.proofs.Laws.{L-some}
 use Rattle.samples.specs.Check.{check}
 use Rattle.bundles.specs.Limits.{bundleMost}
 use Rattle.bundles.specs.Recordings.{Recording}
 use Rattle.copies.proofs.Flat.{walking-whole}
-use Rattle.resolution_rules.specs.Resolving.{Span, own, spanOf, sampleOf, copiedAt, extractFault, delivered, judged}
+use Rattle.resolution_rules.specs.Resolving.{own, spanOf, sampleOf, copiedAt, extractFault, delivered, judged}
 use Rattle.resolution_rules.specs.Amounts.{totalSize}
 use Rattle.resolution_rules.proofs.Delivered.{unit-judge, unit-passes}
 use Rattle.delivery.specs.Deliveries.{Delivery, delivery, copiesFrom, deliveriesAt, deliveries}

@@ -9,7 +9,7 @@
 --   kept-judgement                      what is kept beside a sample is its judgement
 --   units-refused, units-good           what a judgement says of a sample
 --   refused-kept, units-kept            what is kept, read back
-use Prim.Native.Nat.{ℕ, zero, suc, _+_, _*_, _≤_, _<_}
+use Prim.Native.Nat.{ℕ, zero, suc, _+_, _≤_, _<_}
 use mathlib.Core.Path.{_≡_, refl, ap, sym, _∙_}
 use mathlib.Core.List.{List}
 use native.Mathlib.Omega.{arith}
@@ -17,14 +17,14 @@ use native.Mathlib.Numerals.{add-one}
 use borrow.Author.Tests.{lt-ltb, le-ltb, ltb-true, ltb-false, ne-eqb, eqb-true, eqb-false}
 use lib.Dec.{eqb}
 use lib.ListN.{length, length-set}
-use Rattle.words.specs.Tests.{_<?_, pick}
+use Rattle.words.specs.Tests.{_<?_}
 use Rattle.words.specs.Lists.{some}
 use Rattle.words.specs.Refusals.{Verdict, Answer, refused, ok, _andThen_}
 use Rattle.words.specs.RefusalNumbers.{sampleRefusals}
 use Rattle.words.proofs.Tests.{by-bool}
 use Rattle.words.proofs.Refusals.{by-verdict, refused-same, ok-same, ok-refused}
 use Rattle.words.proofs.Kept.{some-false}
-use Rattle.bundles.specs.Limits.{bundleMost, sampleMost}
+use Rattle.bundles.specs.Limits.{bundleMost}
 use Rattle.bundles.specs.Recordings.{Recording, sampleCount}
 use Rattle.tables.specs.Tables.{layoutIn, recordingIn, tableMost, sampleTotal, keptCountIn, withKeptCount}
 use Rattle.tables.proofs.Layouts.{samples-count, samples-most}

@@ -28,7 +28,7 @@ use Rattle.tables.specs.Tables.{recordingIn}
 use Rattle.resolution_rules.specs.Resolving.{sampleOf}
 use Rattle.marks.specs.Marks.{block, rowSize, stateIn, marks, Marked}
 use Rattle.marks.proofs.Marking.{marks-marked, marks-kept, upto-length}
-use Rattle.verdicts.specs.Surveys.{packed, formed, Tells, Ready, Survey, Told}
+use Rattle.verdicts.specs.Surveys.{packed, formed, Tells, Survey, Told}
 
 pub low : (n v : ℕ) → n < 256 → packed n v % 256 ≡ n
 low n v h = omega arith

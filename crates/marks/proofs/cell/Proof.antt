@@ -1,32 +1,24 @@
 -- A number past the end of the rows reads as 0. Assumes nothing.
 use borrow.Author.Needs.{needs}
 use native.Mathlib.Omega.{arith}
-use mathlib.Core.Path.{_≡_, refl, sym, ap, _∙_}
-use Prim.Native.Nat.{ℕ, zero, suc, _+_, _-_, _*_, _≤_, _<_}
-use lib.ListN.{length, getD, take, drop}
+use mathlib.Core.Path.{refl, sym}
+use Prim.Native.Nat.{_-_}
 use Rattle.marks.proofs.cell.Statement.{statement}
 use Rattle.marks.proofs.cell.Tie as tie
-use Rattle.marks.proofs.cell.Reads as reads
-use Rattle.marks.proofs.cell.Lts as lts
 use lib.ListN.{List·getD-eq-default}
 
--- src/lib.rt:132:9
 returns : tie.Need-returns
 returns c = let a = c .before .args in (sym (List·getD-eq-default (a .rows .now) 0 (c .if1 .taken)), omega arith)
 
--- src/lib.rt:134:5
 mul-result : tie.Need-mul-result
 mul-result c = search needs
 
--- src/lib.rt:134:5
 shared-slice-read-result : tie.Need-shared-slice-read-result
 shared-slice-read-result c = search needs
 
--- src/lib.rt:134:5
 cast-result : tie.Need-cast-result
 cast-result c = let k = c .shared-slice-known .given (c .before .before .args .at) in omega arith
 
--- src/lib.rt:128:1
 returns-2 : tie.Need-returns-2
 returns-2 c = let k = c .shared-slice-known .given (c .before .before .args .at) in (refl, omega arith)
 

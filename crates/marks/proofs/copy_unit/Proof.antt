@@ -1,19 +1,9 @@
 -- One unit, or an aggregator and what it covers. Assumes nothing.
 use borrow.Author.Needs.{needs}
-use native.Mathlib.Omega.{arith}
-use mathlib.Core.Path.{_≡_, refl, sym, ap, _∙_}
-use Prim.Native.Nat.{ℕ, zero, suc, _+_, _-_, _*_, _≤_, _<_}
-use lib.ListN.{length, getD, take, drop}
+use mathlib.Core.Path.{_≡_, sym, _∙_}
+use Prim.Native.Nat.{_+_, _-_}
 use Rattle.marks.proofs.copy_unit.Statement.{statement}
 use Rattle.marks.proofs.copy_unit.Tie as tie
-use Rattle.marks.proofs.copy_unit.Reads as reads
-use Rattle.marks.proofs.copy_unit.Lts as lts
-use Rattle.marks.proofs.between.Reads as between-reads
-use Rattle.marks.proofs.length_at.Reads as length-at-reads
-use Rattle.marks.proofs.state_at.Reads as state-at-reads
-use Rattle.marks.proofs.step.Reads as step-reads
-use Rattle.numbers.proofs.LengthSize.bytes.Reads as bytes-reads
-use Rattle.units.proofs.type_at.Reads as type-at-reads
 use borrow.Author.Tests.{eq-eqb, ne-eqb}
 use mathlib.Core.Bool.{true, false}
 use Rattle.units.specs.Units.{Sample, sample, next, isAggregator}
@@ -42,71 +32,54 @@ covers : (c : tie.After-length-at2) → let d = c .before .before in let a = d .
     a .a .place + d .before .before .bytes .result + d .before .length-at .result + c .length-at2 .result ≡ coverEnd (X d) (a .a .place)
 covers c = let d = c .before .before in let a = d .before .before .before .before .before .args in cover-read (a .k) (a .z .now) (a .a .place) (d .before .before .bytes .ensures .0) (d .before .length-at .ensures .0) (c .length-at2 .ensures .0)
 
--- src/lib.rt:233:9
 bytes-requires : tie.Need-bytes-requires
 bytes-requires c κs = search needs
 
--- src/lib.rt:235:16
 add-next : tie.Need-add-next
 add-next c = search needs
 
--- src/lib.rt:235:24
 length-at-requires : tie.Need-length-at-requires
 length-at-requires c κs = search needs
 
--- src/lib.rt:235:16
 add-next-2 : tie.Need-add-next-2
 add-next-2 c = search needs
 
--- src/lib.rt:236:8
 type-at-requires : tie.Need-type-at-requires
 type-at-requires c κs = search needs
 
--- src/lib.rt:238:13
 returns : tie.Need-returns
 returns c = let d = c .before .before in unit-long (X d) (A d .args .rows .now) (A d .args .base) (A d .args .a) (A d .pre .2) (A d .pre .0) (other d (c .before .if1 .taken)) (rw (ends d) at (c .if2 .taken))
 
--- src/lib.rt:240:27
 reach-requires : tie.Need-reach-requires
 reach-requires c κs = let d = c .before .before in (A d .pre .1, c .if2 .left)
 
--- src/lib.rt:240:9
 between-requires : tie.Need-between-requires
 between-requires c κs = search needs
 
--- src/lib.rt:240:9
 returns-2 : tie.Need-returns-2
 returns-2 c = let d = c .before .before .before .before in rw (c .between .ensures, c .before .reach .ensures .0, ends d) (unit-good (X d) (A d .args .rows .now) (A d .args .base) (A d .args .a) (A d .pre .2) (A d .pre .0) (other d (c .before .before .before .if1 .taken)) (rw (ends d) at (c .before .before .if2 .left)))
 
--- src/lib.rt:242:37
 add-length-at : tie.Need-add-length-at
 add-length-at c = search needs
 
--- src/lib.rt:242:37
 add-length-at-2 : tie.Need-add-length-at-2
 add-length-at-2 c = search needs
 
--- src/lib.rt:242:21
 length-at-requires-2 : tie.Need-length-at-requires-2
 length-at-requires-2 c κs = search needs
 
--- src/lib.rt:242:14
 add-to : tie.Need-add-to
 add-to c = search needs
 
--- src/lib.rt:244:9
 returns-3 : tie.Need-returns-3
 returns-3 c = let d = c .before .before .before in cover-long (X d) (A d .args .rows .now) (A d .args .base) (A d .args .a) (A d .pre .2) (A d .pre .0) (head d (c .before .before .if1 .left)) (rw (covers (c .before)) at (c .if3 .taken))
 
--- src/lib.rt:246:16
 state-at-requires : tie.Need-state-at-requires
 state-at-requires c κs = search needs
 
--- src/lib.rt:246:5
 between-requires-2 : tie.Need-between-requires-2
 between-requires-2 c κs = search needs
 
--- src/lib.rt:228:1
 returns-4 : tie.Need-returns-4
 returns-4 c = let d = c .before .before .before .before .before in rw (c .between2 .ensures, c .before .state-at .ensures .0, covers (c .before .before .before)) (cover-good (X d) (A d .args .rows .now) (A d .args .base) (A d .args .a) (A d .pre .2) (A d .pre .0) (head d (c .before .before .before .before .if1 .left)) (rw (covers (c .before .before .before)) at (c .before .before .if3 .left)))
 

@@ -1,16 +1,10 @@
 -- The invariant: the first i blocks are marked. Assumes nothing.
 use borrow.Author.Needs.{needs}
 use native.Mathlib.Omega.{arith}
-use mathlib.Core.Path.{_≡_, refl, sym, ap, _∙_}
-use Prim.Native.Nat.{ℕ, zero, suc, _+_, _-_, _*_, _≤_, _<_}
-use lib.ListN.{length, getD, take, drop}
+use mathlib.Core.Path.{sym}
+use Prim.Native.Nat.{_-_, _≤_}
 use Rattle.marks.proofs.mark.Statement.{statement}
 use Rattle.marks.proofs.mark.Tie as tie
-use Rattle.marks.proofs.mark.Reads as reads
-use Rattle.marks.proofs.mark.Lts as lts
-use Rattle.marks.proofs.front.Reads as front-reads
-use Rattle.marks.proofs.put_row.Reads as put-row-reads
-use Rattle.marks.proofs.reach.Reads as reach-reads
 use Prim.Native.Nat.{_/_}
 use Rattle.units.specs.Units.{sample, end}
 use Rattle.marks.proofs.Marking.{Marking, marking-start, marking-step, marking-length, marking-end, upto-past}
@@ -21,58 +15,45 @@ Inv-loop k z rows₀ base most s₀ i₀ rows s i = Marking (sample k z) base ro
 abbrev μ-loop : tie.MeasureT-loop
 μ-loop k z rows₀ base most s₀ i₀ rows s i = most - i
 
--- src/lib.rt:164:9
 returns : tie.Need-returns Inv-loop μ-loop
 returns c = let a = c .before .before .before .args in let x = sample (a .k) (a .z .now) in sym (upto-past x (a .base) (a .rows .now) (end x / 1280) (c .if1 .taken))
 
--- src/lib.rt:167:9
 front-requires : tie.Need-front-requires Inv-loop μ-loop
 front-requires c κs = search needs
 
--- src/lib.rt:169:5
 loop-holds : tie.Need-loop-holds Inv-loop μ-loop
 loop-holds c = let a = c .before .before .before .before .args in (rw (c .front .ensures) (marking-start (sample (a .k) (a .z .now)) (a .base) (a .rows .now)), omega arith)
 
--- src/lib.rt:170:29
 add-reach : tie.Need-add-reach Inv-loop μ-loop
 add-reach c = search needs
 
--- src/lib.rt:170:28
 mul-reach : tie.Need-mul-reach Inv-loop μ-loop
 mul-reach c = search needs
 
--- src/lib.rt:170:9
 reach-requires : tie.Need-reach-requires Inv-loop μ-loop
 reach-requires c κs = (c .before .loop .inv .0 .fits, omega (arith, c .loop-test .taken))
 
--- src/lib.rt:171:23
 add-put-row : tie.Need-add-put-row Inv-loop μ-loop
 add-put-row c = search needs
 
--- src/lib.rt:171:9
 put-row-requires : tie.Need-put-row-requires Inv-loop μ-loop
 put-row-requires c κs = search needs
 
--- src/lib.rt:172:9
 add-i : tie.Need-add-i Inv-loop μ-loop
 add-i c = search needs
 
--- src/lib.rt:169:5
 loop-less : tie.Need-loop-less Inv-loop μ-loop
 loop-less c = omega (arith, c .before .before .before .before .before .loop-test .taken)
 
--- src/lib.rt:169:5
 loop-again : tie.Need-loop-again Inv-loop μ-loop
 loop-again c = let l = c .before .before .before .before .before in
     let a = l .before .before .before .before .before .before .args in
     let r = c .before .before .before .before .reach .ensures .0 in
     (rw (c .before .before .put-row .ensures, r) (marking-step (sample (a .k) (a .z .now)) (a .base) (a .rows .now) (l .before .loop .rows) (l .before .loop .s) (l .before .loop .i) (l .before .loop .inv .0)), omega (arith, l .loop-test .taken))
 
--- src/lib.rt:160:1
 same-length : tie.Need-same-length Inv-loop μ-loop
 same-length c = let a = c .before .before .before .before .before .before .args in let l = c .before .loop in marking-length (sample (a .k) (a .z .now)) (a .base) (a .rows .now) (l .rows) (l .s) (l .i) (l .inv .0)
 
--- src/lib.rt:160:1
 returns-2 : tie.Need-returns-2 Inv-loop μ-loop
 returns-2 c = let a = c .before .before .before .before .before .before .args in let l = c .before .loop in marking-end (sample (a .k) (a .z .now)) (a .base) (a .rows .now) (l .rows) (l .s) (l .i) (l .inv .0) (omega (arith, l .inv .1, c .loop-test .left))
 

@@ -1,116 +1,87 @@
 -- Five stores in a row. Assumes nothing.
 use borrow.Author.Needs.{needs}
 use native.Mathlib.Omega.{arith}
-use mathlib.Core.Path.{_≡_, refl, sym, ap, _∙_}
-use Prim.Native.Nat.{ℕ, zero, suc, _+_, _-_, _*_, _≤_, _<_}
-use lib.ListN.{length, getD, take, drop}
+use mathlib.Core.Path.{sym, _∙_}
+use Prim.Native.Nat.{_-_, _*_}
 use Rattle.marks.proofs.put_row.Statement.{statement}
 use Rattle.marks.proofs.put_row.Tie as tie
-use Rattle.marks.proofs.put_row.Reads as reads
-use Rattle.marks.proofs.put_row.Lts as lts
-use Rattle.marks.proofs.kept.Reads as kept-reads
 use lib.ListN.{length-set}
 use Rattle.words.proofs.Buffers.{put-fits, put-not}
 use Rattle.marks.specs.Marks.{rowOf}
 use Rattle.marks.proofs.Rows.{row-write}
 
--- src/lib.rt:114:9
 returns : tie.Need-returns
 returns c = let a = c .before .before .args in sym (put-not (a .rows .now) (a .i * 5) (rowOf (a .s)) (omega (arith, c .if1 .taken)))
 
--- src/lib.rt:116:14
 mul-at : tie.Need-mul-at
 mul-at c = search needs
 
--- src/lib.rt:117:21
 add-if2 : tie.Need-add-if2
 add-if2 c = search needs
 
--- src/lib.rt:118:9
 returns-2 : tie.Need-returns-2
 returns-2 c = let a = c .before .before .before .args in sym (put-not (a .rows .now) (a .i * 5) (rowOf (a .s)) (c .if2 .taken))
 
--- src/lib.rt:120:9
 kept-requires : tie.Need-kept-requires
 kept-requires c κs = search needs
 
--- src/lib.rt:121:9
 kept-requires-2 : tie.Need-kept-requires-2
 kept-requires-2 c κs = search needs
 
--- src/lib.rt:122:9
 kept-requires-3 : tie.Need-kept-requires-3
 kept-requires-3 c κs = search needs
 
--- src/lib.rt:123:9
 kept-requires-4 : tie.Need-kept-requires-4
 kept-requires-4 c κs = search needs
 
--- src/lib.rt:124:9
 kept-requires-5 : tie.Need-kept-requires-5
 kept-requires-5 c κs = search needs
 
--- src/lib.rt:125:5
 mul-rows : tie.Need-mul-rows
 mul-rows c = search needs
 
--- src/lib.rt:125:5
 slice-write-rows : tie.Need-slice-write-rows
 slice-write-rows c = search needs
 
--- src/lib.rt:126:10
 add-rows : tie.Need-add-rows
 add-rows c = search needs
 
--- src/lib.rt:126:5
 mul-rows-2 : tie.Need-mul-rows-2
 mul-rows-2 c = search needs
 
--- src/lib.rt:126:5
 slice-write-rows-2 : tie.Need-slice-write-rows-2
 slice-write-rows-2 c = simp length-set (omega (arith, c .before .before .before .before .before .if2 .left))
 
--- src/lib.rt:127:10
 add-rows-2 : tie.Need-add-rows-2
 add-rows-2 c = search needs
 
--- src/lib.rt:127:5
 mul-rows-3 : tie.Need-mul-rows-3
 mul-rows-3 c = search needs
 
--- src/lib.rt:127:5
 slice-write-rows-3 : tie.Need-slice-write-rows-3
 slice-write-rows-3 c = simp length-set (omega (arith, c .before .before .before .before .before .if2 .left))
 
--- src/lib.rt:128:10
 add-rows-3 : tie.Need-add-rows-3
 add-rows-3 c = search needs
 
--- src/lib.rt:128:5
 mul-rows-4 : tie.Need-mul-rows-4
 mul-rows-4 c = search needs
 
--- src/lib.rt:128:5
 slice-write-rows-4 : tie.Need-slice-write-rows-4
 slice-write-rows-4 c = simp length-set (omega (arith, c .before .before .before .before .before .if2 .left))
 
--- src/lib.rt:129:10
 add-rows-4 : tie.Need-add-rows-4
 add-rows-4 c = search needs
 
--- src/lib.rt:129:5
 mul-rows-5 : tie.Need-mul-rows-5
 mul-rows-5 c = search needs
 
--- src/lib.rt:129:5
 slice-write-rows-5 : tie.Need-slice-write-rows-5
 slice-write-rows-5 c = simp length-set (omega (arith, c .before .before .before .before .before .if2 .left))
 
--- src/lib.rt:110:1
 same-length : tie.Need-same-length
 same-length c = search needs
 
--- src/lib.rt:110:1
 returns-3 : tie.Need-returns-3
 returns-3 c = let r = c .before .before .before .before .before in
     let a = r .before .before .before .args in

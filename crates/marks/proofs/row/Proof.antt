@@ -1,69 +1,50 @@
 -- Five numbers, each below 2 to the 32nd. Assumes nothing.
 use borrow.Author.Needs.{needs}
 use native.Mathlib.Omega.{arith}
-use mathlib.Core.Path.{_≡_, refl, sym, ap, _∙_}
-use Prim.Native.Nat.{ℕ, zero, suc, _+_, _-_, _*_, _≤_, _<_}
-use lib.ListN.{length, getD, take, drop}
+use mathlib.Core.Path.{sym, _∙_}
+use Prim.Native.Nat.{_-_}
 use Rattle.marks.proofs.row.Statement.{statement}
 use Rattle.marks.proofs.row.Tie as tie
-use Rattle.marks.proofs.row.Reads as reads
-use Rattle.marks.proofs.row.Lts as lts
-use Rattle.marks.proofs.cell.Reads as cell-reads
-use Rattle.marks.proofs.front.Reads as front-reads
 use Rattle.marks.specs.Marks.{stateIn}
-use Rattle.marks.specs.Fits.{Fits}
 use Rattle.marks.proofs.Steps.{fits-front}
 use Rattle.marks.proofs.Rows.{row-past}
 
--- src/lib.rt:142:9
 front-requires : tie.Need-front-requires
 front-requires c κs = search needs
 
--- src/lib.rt:142:9
 returns : tie.Need-returns
 returns c = let a = c .before .before .before .args in let e = c .front .ensures ∙ sym (row-past (a .rows .now) (a .i) (c .before .if1 .taken)) in (e, rw (c .front .ensures) fits-front)
 
--- src/lib.rt:144:14
 mul-at : tie.Need-mul-at
 mul-at c = search needs
 
--- src/lib.rt:146:16
 cell-requires : tie.Need-cell-requires
 cell-requires c κs = search needs
 
--- src/lib.rt:147:27
 add-cell : tie.Need-add-cell
 add-cell c = search needs
 
--- src/lib.rt:147:16
 cell-requires-2 : tie.Need-cell-requires-2
 cell-requires-2 c κs = search needs
 
--- src/lib.rt:148:27
 add-cell-2 : tie.Need-add-cell-2
 add-cell-2 c = search needs
 
--- src/lib.rt:148:16
 cell-requires-3 : tie.Need-cell-requires-3
 cell-requires-3 c κs = search needs
 
--- src/lib.rt:149:27
 add-cell-3 : tie.Need-add-cell-3
 add-cell-3 c = search needs
 
--- src/lib.rt:149:16
 cell-requires-4 : tie.Need-cell-requires-4
 cell-requires-4 c κs = search needs
 
--- src/lib.rt:150:32
 add-cell-4 : tie.Need-add-cell-4
 add-cell-4 c = search needs
 
--- src/lib.rt:150:21
 cell-requires-5 : tie.Need-cell-requires-5
 cell-requires-5 c κs = search needs
 
--- src/lib.rt:138:1
 returns-2 : tie.Need-returns-2
 unfolding stateIn
 returns-2 c = let a = c .before .before .before .before .before .before .before .args in (

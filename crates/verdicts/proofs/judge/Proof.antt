@@ -1,17 +1,9 @@
 -- The form comes first, then the extractors. Assumes nothing.
 use borrow.Author.Needs.{needs}
-use native.Mathlib.Omega.{arith}
-use mathlib.Core.Path.{_≡_, refl, sym, ap, _∙_}
-use Prim.Native.Nat.{ℕ, zero, suc, _+_, _-_, _*_, _≤_, _<_}
-use lib.ListN.{length, getD, take, drop}
+use mathlib.Core.Path.{_≡_, sym, ap, _∙_}
+use Prim.Native.Nat.{_-_}
 use Rattle.verdicts.proofs.judge.Statement.{statement}
 use Rattle.verdicts.proofs.judge.Tie as tie
-use Rattle.verdicts.proofs.judge.Reads as reads
-use Rattle.verdicts.proofs.judge.Lts as lts
-use Rattle.delivery.proofs.track_of.Reads as track-of-reads
-use Rattle.judging.proofs.form.check_form.Reads as check-form-reads
-use Rattle.sample_tables.proofs.sample_bytes.Reads as sample-bytes-reads
-use Rattle.verdicts.proofs.judge_formed.Reads as judge-formed-reads
 use Rattle.words.specs.Refusals.{ok}
 use Rattle.samples.specs.Check as form
 use Rattle.delivery.proofs.Steps.{sample-from}
@@ -22,38 +14,30 @@ use Rattle.judging.proofs.Judgements.{form-good, good-judged, refused-judged}
 formed : (c : tie.After-enum-told) → let a = c .before .before .before .before .before .args in formIn (a .b .now) (a .t .now) (a .n .0) ≡ ok tt
 formed c = sym (c .before .before .check-form .ensures) ∙ ap form.answerOf (c .enum-told .given .1)
 
--- src/lib.rt:39:9
 check-form-requires : tie.Need-check-form-requires
 check-form-requires c κs = search needs
 
--- src/lib.rt:41:26
 enum-known-checked : tie.Need-enum-known-checked
 enum-known-checked c = search needs
 
--- src/lib.rt:43:17
 enum-told : tie.Need-enum-told
 enum-told c = search needs
 
--- src/lib.rt:43:17
 track-of-requires : tie.Need-track-of-requires
 track-of-requires c κs = search needs
 
--- src/lib.rt:44:17
 sample-bytes-requires : tie.Need-sample-bytes-requires
 sample-bytes-requires c κs = search needs
 
--- src/lib.rt:45:13
 judge-formed-requires : tie.Need-judge-formed-requires
 judge-formed-requires c κs = let a = c .before .before .before .before .before .before .before .args in
     let s = sample-from (a .b .now) (a .t .now) (a .n .0) (c .before .track-of .ensures) (c .sample-bytes .ensures) in
     let g = form-good (a .b .now) (a .t .now) (a .n .0) (formed (c .before .before)) in
     (s, ap form.check s ∙ g .2, g .0)
 
--- src/lib.rt:36:1
 returns : tie.Need-returns
 returns c = sym (refused-judged _ _ _ (sym (c .before .before .before .check-form .ensures) ∙ ap form.answerOf (c .before .checked .given .1)))
 
--- src/lib.rt:36:1
 returns-2 : tie.Need-returns-2
 returns-2 c = c .judge-formed .ensures ∙ sym (good-judged _ _ _ (formed (c .before .before .before)))
 

@@ -1,51 +1,37 @@
 -- All are marked, then judged. Assumes nothing.
 use borrow.Author.Needs.{needs}
 use native.Mathlib.Omega.{arith}
-use mathlib.Core.Path.{_≡_, refl, sym, ap, _∙_}
-use Prim.Native.Nat.{ℕ, zero, suc, _+_, _-_, _*_, _≤_, _<_}
-use lib.ListN.{length, getD, take, drop}
+use mathlib.Core.Path.{sym, _∙_}
+use Prim.Native.Nat.{_-_}
 use Rattle.verdicts.proofs.judge_all.Statement.{statement}
 use Rattle.verdicts.proofs.judge_all.Tie as tie
-use Rattle.verdicts.proofs.judge_all.Reads as reads
-use Rattle.verdicts.proofs.judge_all.Lts as lts
-use Rattle.verdicts.proofs.keep_all.Reads as keep-all-reads
-use Rattle.verdicts.proofs.surveys.mark_all.Reads as mark-all-reads
 use Rattle.verdicts.proofs.Known.{zeros, survey-start}
 use Rattle.verdicts.proofs.Keeping.{all-long, all-short}
 
--- src/lib.rt:81:9
 returns : tie.Need-returns
 returns c = let a = c .before .before .before .args in sym (all-long (a .b .now) (a .t .now) (c .if1 .taken))
 
--- src/lib.rt:85:29
 slice-aggregate-mark-all : tie.Need-slice-aggregate-mark-all
 slice-aggregate-mark-all c = search needs
 
--- src/lib.rt:85:41
 slice-aggregate-mark-all-2 : tie.Need-slice-aggregate-mark-all-2
 slice-aggregate-mark-all-2 c = search needs
 
--- src/lib.rt:85:5
 mark-all-requires : tie.Need-mark-all-requires
 mark-all-requires c κs = let e = c .before .before .before in (e .if1 .left, omega arith, survey-start _ _ _ _ (zeros 4097))
 
--- src/lib.rt:86:20
 slice-aggregate-keep-all : tie.Need-slice-aggregate-keep-all
 slice-aggregate-keep-all c = search needs
 
--- src/lib.rt:86:28
 slice-aggregate-keep-all-2 : tie.Need-slice-aggregate-keep-all-2
 slice-aggregate-keep-all-2 c = search needs
 
--- src/lib.rt:86:5
 keep-all-requires : tie.Need-keep-all-requires
 keep-all-requires c κs = (c .before .before .before .before .before .before .before .before .before .if1 .left, c .before .before .before .before .before .mark-all .ensures)
 
--- src/lib.rt:77:1
 same-length : tie.Need-same-length
 same-length c = search needs
 
--- src/lib.rt:77:1
 returns-2 : tie.Need-returns-2
 returns-2 c = let a = c .before .before .before .before .before .before .before .before .before .before .before .before .before .before .before .args in c .before .before .keep-all .ensures ∙ sym (all-short (a .b .now) (a .t .now) (c .before .before .before .before .before .before .before .before .before .before .before .before .if1 .left))
 

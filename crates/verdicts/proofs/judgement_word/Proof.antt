@@ -1,39 +1,27 @@
 -- By what was judged. Assumes nothing.
 use borrow.Author.Needs.{needs}
-use native.Mathlib.Omega.{arith}
-use mathlib.Core.Path.{_≡_, refl, sym, ap, _∙_}
-use Prim.Native.Nat.{ℕ, zero, suc, _+_, _-_, _*_, _≤_, _<_}
-use lib.ListN.{length, getD, take, drop}
+use mathlib.Core.Path.{sym, ap, _∙_}
+use Prim.Native.Nat.{_-_}
 use Rattle.verdicts.proofs.judgement_word.Statement.{statement}
 use Rattle.verdicts.proofs.judgement_word.Tie as tie
-use Rattle.verdicts.proofs.judgement_word.Reads as reads
-use Rattle.verdicts.proofs.judgement_word.Lts as lts
-use Rattle.verdicts.proofs.surveys.word.Reads as word-reads
 use Rattle.judging.specs.Steps.{answerOf}
-use Rattle.judging.specs.declared.Judged.{Judged}
 use Rattle.verdicts.specs.Kept.{judgementWord}
 
--- src/lib.rt:56:25
 enum-known-judged : tie.Need-enum-known-judged
 enum-known-judged c = search needs
 
--- src/lib.rt:56:31
 word-requires : tie.Need-word-requires
 word-requires c κs = let s = c .before .before .before in rw (c .before .judged .given .1) at (s .pre)
 
--- src/lib.rt:57:22
 enum-known-judged-2 : tie.Need-enum-known-judged-2
 enum-known-judged-2 c = search needs
 
--- src/lib.rt:57:28
 word-requires-2 : tie.Need-word-requires-2
 word-requires-2 c κs = let s = c .before .before .before in rw (c .before .judged2 .given .1) at (s .pre)
 
--- src/lib.rt:51:1
 returns : tie.Need-returns
 returns c = c .word .ensures ∙ ap (λ j. judgementWord (answerOf j)) (sym (c .before .before .judged .given .1))
 
--- src/lib.rt:51:1
 returns-2 : tie.Need-returns-2
 returns-2 c = c .word2 .ensures ∙ ap (λ j. judgementWord (answerOf j)) (sym (c .before .before .judged2 .given .1))
 

@@ -1,17 +1,11 @@
 -- The invariant: the judgements of n samples are kept. Assumes nothing.
 use borrow.Author.Needs.{needs}
 use native.Mathlib.Omega.{arith}
-use mathlib.Core.Path.{_≡_, refl, sym, ap, _∙_}
-use Prim.Native.Nat.{ℕ, zero, suc, _+_, _-_, _*_, _≤_, _<_}
-use lib.ListN.{length, getD, take, drop}
+use mathlib.Core.Path.{_≡_, refl, ap, _∙_}
+use Prim.Native.Nat.{_-_, _≤_}
+use lib.ListN.{length}
 use Rattle.verdicts.proofs.keep_all.Statement.{statement}
 use Rattle.verdicts.proofs.keep_all.Tie as tie
-use Rattle.verdicts.proofs.keep_all.Reads as reads
-use Rattle.verdicts.proofs.keep_all.Lts as lts
-use Rattle.sample_tables.proofs.keep_count.Reads as keep-count-reads
-use Rattle.sample_tables.proofs.sample_count.Reads as sample-count-reads
-use Rattle.verdicts.proofs.judgement_word.Reads as judgement-word-reads
-use Rattle.verdicts.proofs.measuring.judge_known.Reads as judge-known-reads
 use Rattle.tables.specs.Tables.{recordingIn}
 use Rattle.verdicts.specs.Kept.{judgementsUpto}
 use Rattle.verdicts.proofs.Keeping.{judgement-small, upto-recording, upto-length, more}
@@ -22,45 +16,35 @@ Inv-loop b t₀ forms rows count n₀ t n = (t ≡ judgementsUpto b t₀ n) × (
 abbrev μ-loop : tie.MeasureT-loop
 μ-loop b t₀ forms rows count n₀ t n = count - n
 
--- src/lib.rt:66:9
 sample-count-requires : tie.Need-sample-count-requires Inv-loop μ-loop
 sample-count-requires c κs = search needs
 
--- src/lib.rt:68:5
 loop-holds : tie.Need-loop-holds Inv-loop μ-loop
 loop-holds c = (unfold judgementsUpto in (refl, omega arith))
 
--- src/lib.rt:69:9
 add-n : tie.Need-add-n Inv-loop μ-loop
 add-n c = search needs
 
--- src/lib.rt:70:13
 judge-known-requires : tie.Need-judge-known-requires Inv-loop μ-loop
 judge-known-requires c κs = let l = c .before .before in let s = l .before .before .before .before .before .before .before in
     (s .pre .0, λ m. rw (ap (recordingIn (s .args .b .now)) (l .loop .inv .0) ∙ upto-recording (s .args .b .now) (s .args .t .now) (l .loop .n)) (s .pre .1 m))
 
--- src/lib.rt:71:55
 judgement-word-requires : tie.Need-judgement-word-requires Inv-loop μ-loop
 judgement-word-requires c κs = let l = c .before .before .before .before in let s = l .before .before .before .before .before .before .before in rw (c .before .judge-known .ensures) (judgement-small (s .args .b .now) (l .loop .t) _ (s .pre .0))
 
--- src/lib.rt:71:9
 keep-count-requires : tie.Need-keep-count-requires Inv-loop μ-loop
 keep-count-requires c κs = search needs
 
--- src/lib.rt:68:5
 loop-less : tie.Need-loop-less Inv-loop μ-loop
 loop-less c = omega (arith, c .before .before .before .before .before .before .before .loop-test .taken)
 
--- src/lib.rt:68:5
 loop-again : tie.Need-loop-again Inv-loop μ-loop
 loop-again c = let l = c .before .before .before .before .before .before .before .before in let s = l .before .before .before .before .before .before .before in
     (c .before .before .keep-count .ensures ∙ more (s .args .b .now) (s .args .t .now) (l .loop .n) (l .loop .t) (l .loop .inv .0) (c .before .before .before .before .before .judge-known .ensures) (c .before .before .before .judgement-word .ensures), omega (arith, c .before .before .before .before .before .before .before .loop-test .taken))
 
--- src/lib.rt:62:1
 same-length : tie.Need-same-length Inv-loop μ-loop
 same-length c = let s = c .before .before .before .before .before .before .before .before in ap length (c .before .loop .inv .0) ∙ upto-length (s .args .b .now) (s .args .t .now) (c .before .loop .n)
 
--- src/lib.rt:62:1
 returns : tie.Need-returns Inv-loop μ-loop
 returns c = let s = c .before .before .before .before .before .before .before .before in c .before .loop .inv .0 ∙ ap (judgementsUpto (s .args .b .now) (s .args .t .now)) (omega (arith, c .before .before .sample-count .ensures, c .loop-test .left, c .before .loop .inv .1))
 

@@ -1,37 +1,27 @@
 -- Nothing known; 25; by the marks. Assumes nothing.
 use borrow.Author.Needs.{needs}
-use native.Mathlib.Omega.{arith}
-use mathlib.Core.Path.{_≡_, refl, sym, ap, _∙_}
-use Prim.Native.Nat.{ℕ, zero, suc, _+_, _-_, _*_, _≤_, _<_}
-use lib.ListN.{length, getD, take, drop}
+use mathlib.Core.Path.{_∙_}
+use Prim.Native.Nat.{_-_}
+use lib.ListN.{length}
 use Rattle.verdicts.proofs.measuring.copy_known.Statement.{statement}
 use Rattle.verdicts.proofs.measuring.copy_known.Tie as tie
-use Rattle.verdicts.proofs.measuring.copy_known.Reads as reads
-use Rattle.verdicts.proofs.measuring.copy_known.Lts as lts
-use Rattle.marks.proofs.copy_of.Reads as copy-of-reads
-use Rattle.verdicts.proofs.measuring.copy_unknown.Reads as copy-unknown-reads
 use Prim.Native.Nat.{_/_}
 use Rattle.units.specs.Units.{sample}
 use Rattle.marks.proofs.Copying.{marked-copy}
 use Rattle.verdicts.proofs.Copied.{amount-ill}
 
--- src/measuring.rt:50:9
 copy-unknown-requires : tie.Need-copy-unknown-requires
 copy-unknown-requires c κs = search needs
 
--- src/measuring.rt:50:9
 returns : tie.Need-returns
 returns c = c .copy-unknown .ensures
 
--- src/measuring.rt:53:9
 returns-2 : tie.Need-returns-2
 returns-2 c = let s = c .before .before .before .before in let a = s .args in amount-ill (sample (a .k) (a .z .now)) (a .offset .0) (a .length) (s .pre .refusal (c .before .if1 .left) (c .if2 .taken))
 
--- src/measuring.rt:56:5
 copy-of-requires : tie.Need-copy-of-requires
 copy-of-requires c κs = search needs
 
--- src/measuring.rt:45:1
 returns-3 : tie.Need-returns-3
 returns-3 c = let e = c .before in let s = e .before .before .before .before in let a = s .args in c .copy-of .ensures ∙ marked-copy (sample (a .k) (a .z .now)) (s .pre .whole (e .if2 .left)) (a .rows .now) (a .form / 256) (s .pre .marked (e .if2 .left)) (a .offset .0) (a .length)
 

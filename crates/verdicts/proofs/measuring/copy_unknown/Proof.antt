@@ -1,41 +1,31 @@
 -- 25, or a copy from the front. Assumes nothing.
 use borrow.Author.Needs.{needs}
 use native.Mathlib.Omega.{arith}
-use mathlib.Core.Path.{_≡_, refl, sym, ap, _∙_}
-use Prim.Native.Nat.{ℕ, zero, suc, _+_, _-_, _*_, _≤_, _<_}
-use lib.ListN.{length, getD, take, drop}
+use mathlib.Core.Path.{sym, ap, _∙_}
+use Prim.Native.Nat.{_-_}
+use lib.ListN.{length}
 use Rattle.verdicts.proofs.measuring.copy_unknown.Statement.{statement}
 use Rattle.verdicts.proofs.measuring.copy_unknown.Tie as tie
-use Rattle.verdicts.proofs.measuring.copy_unknown.Reads as reads
-use Rattle.verdicts.proofs.measuring.copy_unknown.Lts as lts
-use Rattle.marks.proofs.copy_of.Reads as copy-of-reads
-use Rattle.samples.proofs.check_sample.Reads as check-sample-reads
 use Rattle.units.specs.Units.{sample}
 use Rattle.samples.specs.Check.{answerOf}
 use Rattle.marks.proofs.Copying.{unmarked-copy}
 use Rattle.verdicts.proofs.Copied.{amount-ill}
 
--- src/measuring.rt:37:9
 check-sample-requires : tie.Need-check-sample-requires
 check-sample-requires c κs = search needs
 
--- src/measuring.rt:39:32
 enum-told : tie.Need-enum-told
 enum-told c = search needs
 
--- src/measuring.rt:40:59
 enum-told-2 : tie.Need-enum-told-2
 enum-told-2 c = search needs
 
--- src/measuring.rt:40:32
 copy-of-requires : tie.Need-copy-of-requires
 copy-of-requires c κs = search needs
 
--- src/measuring.rt:34:1
 returns : tie.Need-returns
 returns c = let d = c .before .before in let a = d .before .before .before .args in amount-ill (sample (a .k) (a .z .now)) (a .offset .0) (a .length) (sym (d .check-sample .ensures) ∙ ap answerOf (c .enum-told .given .1))
 
--- src/measuring.rt:34:1
 returns-2 : tie.Need-returns-2
 returns-2 c = let d = c .before .before .before in let a = d .before .before .before .args in c .copy-of .ensures ∙ unmarked-copy (sample (a .k) (a .z .now)) (sym (d .check-sample .ensures) ∙ ap answerOf (c .before .enum-told2 .given .1)) (a .rows .now) (length (a .rows .now)) (omega arith) (a .offset .0) (a .length)
 

@@ -1,19 +1,9 @@
 -- By what is known of its form. Assumes nothing.
 use borrow.Author.Needs.{needs}
-use native.Mathlib.Omega.{arith}
-use mathlib.Core.Path.{_≡_, refl, sym, ap, _∙_, subst}
-use Prim.Native.Nat.{ℕ, zero, suc, _+_, _-_, _*_, _≤_, _<_}
-use lib.ListN.{length, getD, take, drop}
+use mathlib.Core.Path.{_≡_, sym, ap, _∙_, subst}
+use Prim.Native.Nat.{ℕ, _-_}
 use Rattle.verdicts.proofs.measuring.judge_known.Statement.{statement}
 use Rattle.verdicts.proofs.measuring.judge_known.Tie as tie
-use Rattle.verdicts.proofs.measuring.judge_known.Reads as reads
-use Rattle.verdicts.proofs.measuring.judge_known.Lts as lts
-use Rattle.delivery.proofs.track_of.Reads as track-of-reads
-use Rattle.sample_tables.proofs.sample_bytes.Reads as sample-bytes-reads
-use Rattle.samples.proofs.check_sample.Reads as check-sample-reads
-use Rattle.verdicts.proofs.measuring.measure.Reads as measure-reads
-use Rattle.verdicts.proofs.measuring.refused.Reads as refused-reads
-use Rattle.verdicts.proofs.surveys.known.Reads as known-reads
 use Rattle.words.specs.Refusals.{refused}
 use Rattle.units.specs.Units.{sample}
 use Rattle.samples.specs.Check.{check}
@@ -44,59 +34,45 @@ ill : (c : tie.After-known) {m q : ℕ} → check (sampleOf (R c) (S c .args .n 
 unfolding judgement
 ill c e = rw (judged-form (R c) (S c .args .n .0) e)
 
--- src/measuring.rt:173:9
 track-of-requires : tie.Need-track-of-requires
 track-of-requires c κs = search needs
 
--- src/measuring.rt:174:9
 sample-bytes-requires : tie.Need-sample-bytes-requires
 sample-bytes-requires c κs = search needs
 
--- src/measuring.rt:175:9
 known-requires : tie.Need-known-requires
 known-requires c κs = search needs
 
--- src/measuring.rt:177:9
 measure-requires : tie.Need-measure-requires
 measure-requires c κs = let d = c .before in (same d, ap check (same d) ∙ tells d .whole (c .if1 .taken), S d .pre .0, S d .pre .1)
 
--- src/measuring.rt:177:9
 returns : tie.Need-returns
 returns c = c .measure .ensures
 
--- src/measuring.rt:180:24
 cast-refused : tie.Need-cast-refused
 cast-refused c = search needs
 
--- src/measuring.rt:180:9
 refused-requires : tie.Need-refused-requires
 refused-requires c κs = search needs
 
--- src/measuring.rt:180:9
 returns-2 : tie.Need-returns-2
 returns-2 c = let d = c .before .before .before in c .refused .ensures ∙ ill d (tells d .refusal (c .before .if2 .taken) (c .before .before .if1 .left))
 
--- src/measuring.rt:182:9
 check-sample-requires : tie.Need-check-sample-requires
 check-sample-requires c κs = search needs
 
--- src/measuring.rt:184:26
 enum-known-checked : tie.Need-enum-known-checked
 enum-known-checked c = search needs
 
--- src/measuring.rt:185:32
 enum-told : tie.Need-enum-told
 enum-told c = search needs
 
--- src/measuring.rt:185:32
 measure-requires-2 : tie.Need-measure-requires-2
 measure-requires-2 c κs = let d = c .before .before .before .before .before in (same d, sym (c .before .before .check-sample .ensures) ∙ ap form.answerOf (c .enum-told .given .1), S d .pre .0, S d .pre .1)
 
--- src/measuring.rt:169:1
 returns-3 : tie.Need-returns-3
 returns-3 c = let d = c .before .before .before .before .before .before in ill d (sym (ap check (same d)) ∙ sym (c .before .before .before .check-sample .ensures) ∙ ap form.answerOf (c .before .checked .given .1))
 
--- src/measuring.rt:169:1
 returns-4 : tie.Need-returns-4
 returns-4 c = c .measure2 .ensures
 

@@ -1,22 +1,16 @@
 -- The invariant: what the units before p deliver is counted. Assumes nothing.
 use borrow.Author.Needs.{needs}
 use native.Mathlib.Omega.{arith}
-use mathlib.Core.Path.{_≡_, refl, sym, ap, _∙_}
-use Prim.Native.Nat.{ℕ, zero, suc, _+_, _-_, _*_, _≤_, _<_}
-use lib.ListN.{length, getD, take, drop}
+use mathlib.Core.Path.{_≡_, sym, ap, _∙_}
+use Prim.Native.Nat.{ℕ, _+_, _-_, _*_, _≤_, _<_}
+use lib.ListN.{length}
 use Rattle.verdicts.proofs.measuring.measure.Statement.{statement}
 use Rattle.verdicts.proofs.measuring.measure.Tie as tie
-use Rattle.verdicts.proofs.measuring.measure.Reads as reads
-use Rattle.verdicts.proofs.measuring.measure.Lts as lts
-use Rattle.unit_steps.proofs.item_at.Reads as item-at-reads
-use Rattle.verdicts.proofs.measuring.amount_at.Reads as amount-at-reads
-use Rattle.verdicts.proofs.measuring.good.Reads as good-reads
-use Rattle.verdicts.proofs.measuring.refused.Reads as refused-reads
 use mathlib.Core.Bool.{true, false}
 use Rattle.numbers.proofs.Laws.{L-some}
 use Rattle.units.specs.Units.{Sample, sample, end, size, next, isAggregator, isExtractor}
 use Rattle.units.specs.Aggregators.{includedStart}
-use Rattle.units.specs.Steps.{unitOf, extractorAt}
+use Rattle.units.specs.Steps.{unitOf}
 use Rattle.units.specs.declared.NalUnit.{NalUnit}
 use Rattle.units.proofs.Units.{next-after, whole-end}
 use Rattle.unit_steps.proofs.Items.{aggregator-is, extractor-is, unit-is}
@@ -30,7 +24,6 @@ use Rattle.resolution_rules.proofs.Good.{own-length}
 use Rattle.delivery.proofs.Folds.{content-most}
 use Rattle.mark_rules.specs.declared.CopyAmount.{CopyAmount}
 use Rattle.mark_rules.specs.declared.CopyCounted.the-variants as counted
-use Rattle.verdicts.specs.Amounts.{amountBy}
 use Rattle.verdicts.proofs.Counting.{Counting, counting-start, counting-skip, unit-fits, counting-unit, counting-refused, copy-fits, counting-copy, counting-end}
 
 abbrev Inv-loop : tie.InvT-loop
@@ -97,74 +90,57 @@ units-fit c =
     let s = short a in
     (omega arith, omega arith)
 
--- src/measuring.rt:135:5
 loop-holds : tie.Need-loop-holds Inv-loop μ-loop
 loop-holds c = let s = c .before .before .before .before .before in counting-start _ _ _ (s .pre .0) (s .pre .1)
 
--- src/measuring.rt:136:13
 item-at-requires : tie.Need-item-at-requires Inv-loop μ-loop
 item-at-requires c κs = search needs
 
--- src/measuring.rt:140:17
 enum-told : tie.Need-enum-told Inv-loop μ-loop
 enum-told c = search needs
 
--- src/measuring.rt:140:17
 good-requires : tie.Need-good-requires Inv-loop μ-loop
 good-requires c κs = search needs
 
--- src/measuring.rt:140:17
 returns : tie.Need-returns Inv-loop μ-loop
 returns c = let a = c .before .before .before in walking-never (X a) (end (X a)) (P a) (a .before .before .loop .inv .passing .walking) (a .before .loop-test .taken) (sym (a .item-at .ensures) ∙ c .before .enum-told .given .1)
 
--- src/measuring.rt:142:30
 enum-known-item : tie.Need-enum-known-item Inv-loop μ-loop
 enum-known-item c = search needs
 
--- src/measuring.rt:135:5
 loop-less : tie.Need-loop-less Inv-loop μ-loop
 loop-less c = let a = c .before .before .before in let l = L-some (X a .lengthSize) in let e = aggregator c .1 in omega (arith, a .before .loop-test .taken)
 
--- src/measuring.rt:135:5
 loop-again : tie.Need-loop-again Inv-loop μ-loop
 loop-again c = let a = c .before .before .before in rw (aggregator c .1) (counting-skip (R a) (S a .args .n .0) (X a) _ _ _ (P a) (a .before .before .loop .inv) (a .before .loop-test .taken) (aggregator c .0))
 
--- src/measuring.rt:145:29
 enum-known-item-2 : tie.Need-enum-known-item-2 Inv-loop μ-loop
 enum-known-item-2 c = search needs
 
--- src/measuring.rt:146:21
 amount-at-requires : tie.Need-amount-at-requires Inv-loop μ-loop
 amount-at-requires c κs = S (c .before .before .before) .pre .3
 
--- src/measuring.rt:148:42
 enum-known-copy : tie.Need-enum-known-copy Inv-loop μ-loop
 enum-known-copy c = search needs
 
--- src/measuring.rt:149:25
 refused-requires : tie.Need-refused-requires Inv-loop μ-loop
 refused-requires c κs = search needs
 
--- src/measuring.rt:149:25
 returns-2 : tie.Need-returns-2 Inv-loop μ-loop
 returns-2 c = let e = c .before .before .before .before in
     let a = e .before .before .before .before in
     let t = extractor (e .before) in
     c .refused .ensures ∙ sym (counting-refused (R a) (S a .args .n .0) (X a) _ _ _ (P a) (a .before .before .loop .inv) (a .before .loop-test .taken) (t .0) (t .1) (few a) (sym (e .amount-at .ensures) ∙ c .before .before .copy .given .1))
 
--- src/measuring.rt:151:40
 enum-known-copy-2 : tie.Need-enum-known-copy-2 Inv-loop μ-loop
 enum-known-copy-2 c = search needs
 
--- src/measuring.rt:152:25
 add-count : tie.Need-add-count Inv-loop μ-loop
 add-count c = let f = copied-fits (c .before .before .before .before) (c .before .before .copy2 .given .1) in omega arith
 
--- src/measuring.rt:153:25
 add-copied : tie.Need-add-copied Inv-loop μ-loop
 add-copied c = let f = copied-fits (c .before .before .before .before .before) (c .before .before .before .copy2 .given .1) in omega arith
 
--- src/measuring.rt:135:5
 loop-less-2 : tie.Need-loop-less-2 Inv-loop μ-loop
 loop-less-2 c = let e = c .before .before .before .before .before in
     let a = e .before .before .before .before in
@@ -172,43 +148,35 @@ loop-less-2 c = let e = c .before .before .before .before .before in
     let t = extractor (e .before) .2 in
     omega (arith, a .before .loop-test .taken)
 
--- src/measuring.rt:135:5
 loop-again-2 : tie.Need-loop-again-2 Inv-loop μ-loop
 loop-again-2 c = let e = c .before .before .before .before .before in
     let a = e .before .before .before .before in
     let t = extractor (e .before) in
     rw (t .2) (counting-copy (R a) (S a .args .n .0) (X a) _ _ _ (P a) (a .before .before .loop .inv) (a .before .loop-test .taken) (t .0) (t .1) (few a) (sym (e .amount-at .ensures) ∙ c .before .before .before .copy2 .given .1))
 
--- src/measuring.rt:158:24
 enum-known-item-3 : tie.Need-enum-known-item-3 Inv-loop μ-loop
 enum-known-item-3 c = search needs
 
--- src/measuring.rt:159:17
 add-count-2 : tie.Need-add-count-2 Inv-loop μ-loop
 add-count-2 c = let f = units-fit c in omega arith
 
--- src/measuring.rt:160:17
 add-own : tie.Need-add-own Inv-loop μ-loop
 add-own c = let a = c .before .before .before .before in let f = units-fit (c .before) in let e = unit (c .before) .2 in let s : c .before .before .item3 .given .0 .0 .size ≡ size (X a) (P a) = ap (λ (u : NalUnit). u .size) e in omega arith
 
--- src/measuring.rt:135:5
 loop-less-3 : tie.Need-loop-less-3 Inv-loop μ-loop
 loop-less-3 c = let a = c .before .before .before .before in
     let l = next-after (X a) (P a) in
     let e : c .before .before .item3 .given .0 .0 .next .0 ≡ next (X a) (P a) = ap (λ (u : NalUnit). u .next .0) (unit (c .before) .2) in
     omega (arith, a .before .loop-test .taken)
 
--- src/measuring.rt:135:5
 loop-again-3 : tie.Need-loop-again-3 Inv-loop μ-loop
 loop-again-3 c = let a = c .before .before .before .before in
     let t = unit (c .before) in
     rw (t .2) (counting-unit (R a) (S a .args .n .0) (X a) _ _ _ (P a) (a .before .before .loop .inv) (a .before .loop-test .taken) (t .0) (t .1))
 
--- src/measuring.rt:165:5
 good-requires-2 : tie.Need-good-requires-2 Inv-loop μ-loop
 good-requires-2 c κs = search needs
 
--- src/measuring.rt:118:1
 returns-3 : tie.Need-returns-3 Inv-loop μ-loop
 returns-3 c = let s = c .before .before .before .before .before .before .before .before in c .good3 .ensures ∙ sym (counting-end _ _ _ _ _ _ _ (c .before .before .loop .inv) (c .before .loop-test .left))
 

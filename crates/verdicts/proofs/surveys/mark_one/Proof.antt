@@ -1,66 +1,49 @@
 -- Refused; no room; marked. Assumes nothing.
 use borrow.Author.Needs.{needs}
 use native.Mathlib.Omega.{arith}
-use mathlib.Core.Path.{_≡_, refl, sym, ap, _∙_}
-use Prim.Native.Nat.{ℕ, zero, suc, _+_, _-_, _*_, _≤_, _<_}
-use lib.ListN.{length, getD, take, drop}
+use mathlib.Core.Path.{sym, ap, _∙_}
+use Prim.Native.Nat.{_-_}
 use Rattle.verdicts.proofs.surveys.mark_one.Statement.{statement}
 use Rattle.verdicts.proofs.surveys.mark_one.Tie as tie
-use Rattle.verdicts.proofs.surveys.mark_one.Reads as reads
-use Rattle.verdicts.proofs.surveys.mark_one.Lts as lts
-use Rattle.marks.proofs.mark.Reads as mark-reads
-use Rattle.samples.proofs.check_sample.Reads as check-sample-reads
-use Rattle.verdicts.proofs.surveys.word.Reads as word-reads
 use Rattle.units.specs.Units.{sample}
 use Rattle.samples.specs.Check.{answerOf}
 use Rattle.verdicts.proofs.Known.{form-small, told-none, told-refused, told-marked}
 
--- src/surveys.rt:51:9
 check-sample-requires : tie.Need-check-sample-requires
 check-sample-requires c κs = search needs
 
--- src/surveys.rt:53:26
 enum-known-checked : tie.Need-enum-known-checked
 enum-known-checked c = search needs
 
--- src/surveys.rt:53:32
 word-requires : tie.Need-word-requires
 word-requires c κs = let d = c .before .before .before in
     let a = d .before .before .before .args in
     let s = form-small (sample (a .k) (a .x .now)) _ _ (sym (d .check-sample .ensures) ∙ ap answerOf (c .before .checked .given .1)) in
     omega (arith, d .before .before .before .pre .0)
 
--- src/surveys.rt:55:24
 enum-told : tie.Need-enum-told
 enum-told c = search needs
 
--- src/surveys.rt:56:23
 add-if1 : tie.Need-add-if1
 add-if1 c = omega (arith, c .before .before .before .before .before .pre .0, c .before .before .before .before .before .pre .1)
 
--- src/surveys.rt:57:17
 returns : tie.Need-returns
 returns c = told-none _ _ _
 
--- src/surveys.rt:59:13
 mark-requires : tie.Need-mark-requires
 mark-requires c κs = search needs
 
--- src/surveys.rt:60:13
 word-requires-2 : tie.Need-word-requires-2
 word-requires-2 c κs = omega (arith, c .before .before .before .before .before .before .before .before .before .before .pre .1)
 
--- src/surveys.rt:47:1
 returns-2 : tie.Need-returns-2
 returns-2 c = let d = c .before .before .before .before in
     let a = d .before .before .before .args in
     rw (c .word .ensures) (told-refused (sample (a .k) (a .x .now)) (a .base) (a .rows .now) _ _ (sym (d .check-sample .ensures) ∙ ap answerOf (c .before .before .checked .given .1)))
 
--- src/surveys.rt:47:1
 same-length : tie.Need-same-length
 same-length c = search needs
 
--- src/surveys.rt:47:1
 returns-3 : tie.Need-returns-3
 returns-3 c = let e = c .before .before .before .before .before in
     let d = e .before .before .before in

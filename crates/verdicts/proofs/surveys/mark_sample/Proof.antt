@@ -1,86 +1,63 @@
 -- One sample more is known. Assumes nothing.
 use borrow.Author.Needs.{needs}
 use native.Mathlib.Omega.{arith}
-use mathlib.Core.Path.{_≡_, refl, sym, ap, _∙_}
-use Prim.Native.Nat.{ℕ, zero, suc, _+_, _-_, _*_, _≤_, _<_}
-use lib.ListN.{length, getD, take, drop}
+use Prim.Native.Nat.{_-_}
 use Rattle.verdicts.proofs.surveys.mark_sample.Statement.{statement}
 use Rattle.verdicts.proofs.surveys.mark_sample.Tie as tie
-use Rattle.verdicts.proofs.surveys.mark_sample.Reads as reads
-use Rattle.verdicts.proofs.surveys.mark_sample.Lts as lts
-use Rattle.delivery.proofs.track_of.Reads as track-of-reads
-use Rattle.sample_tables.proofs.sample_bytes.Reads as sample-bytes-reads
-use Rattle.verdicts.proofs.surveys.mark_one.Reads as mark-one-reads
 use Rattle.delivery.proofs.Folds.{content-most}
 use Rattle.delivery.proofs.Steps.{sample-from}
 use Rattle.verdicts.proofs.Known.{survey-formed, survey-other}
 
--- src/surveys.rt:72:9
 returns : tie.Need-returns
 returns c = search needs
 
--- src/surveys.rt:74:8
 mul-if2 : tie.Need-mul-if2
 mul-if2 c = search needs
 
--- src/surveys.rt:74:8
 slice-read-if2 : tie.Need-slice-read-if2
 slice-read-if2 c = search needs
 
--- src/surveys.rt:75:9
 returns-2 : tie.Need-returns-2
 returns-2 c = search needs
 
--- src/surveys.rt:77:9
 track-of-requires : tie.Need-track-of-requires
 track-of-requires c κs = search needs
 
--- src/surveys.rt:78:9
 sample-bytes-requires : tie.Need-sample-bytes-requires
 sample-bytes-requires c κs = search needs
 
--- src/surveys.rt:79:9
 mark-one-requires : tie.Need-mark-one-requires
 mark-one-requires c κs = let s = c .before .before .before .before .before .before .before .before .before .before in
     let l = content-most (s .args .b .now) (s .args .t .now) (s .args .m .0) in
     (rw (c .before .sample-bytes .ensures) (omega (arith, s .pre .0)), omega (arith, s .pre .1, s .pre .2 .room))
 
--- src/surveys.rt:80:5
 mul-forms : tie.Need-mul-forms
 mul-forms c = search needs
 
--- src/surveys.rt:80:5
 slice-write-forms : tie.Need-slice-write-forms
 slice-write-forms c = search needs
 
--- src/surveys.rt:82:16
 add-result : tie.Need-add-result
 add-result c = search needs
 
--- src/surveys.rt:82:9
 same-length : tie.Need-same-length
 same-length c = search needs
 
--- src/surveys.rt:82:9
 same-length-2 : tie.Need-same-length-2
 same-length-2 c = search needs
 
--- src/surveys.rt:82:9
 returns-3 : tie.Need-returns-3
 returns-3 c = let g = c .before .before .before .before in
     let s = g .before .before .before .before .before .before .before .before .before .before in
     let a = s .args in
     survey-formed (a .b .now) (a .t .now) (a .forms .now) (a .rows .now) (a .used) (s .pre .2) (a .m .0) _ _ _ (sample-from (a .b .now) (a .t .now) (a .m .0) (g .before .before .track-of .ensures) (g .before .sample-bytes .ensures)) (c .before .before .before .mark-one .ensures) (g .before .before .before .before .before .if1 .left) (c .if3 .taken)
 
--- src/surveys.rt:66:1
 same-length-3 : tie.Need-same-length-3
 same-length-3 c = search needs
 
--- src/surveys.rt:66:1
 same-length-4 : tie.Need-same-length-4
 same-length-4 c = search needs
 
--- src/surveys.rt:66:1
 returns-4 : tie.Need-returns-4
 returns-4 c = let g = c .before .before .before .before in
     let s = g .before .before .before .before .before .before .before .before .before .before in
