@@ -61,7 +61,7 @@ fn judgement_word(judged: Judged) -> u64
     ensures { λ r. ⌜ r ≡ judgementWord (answerOf judged) ⌝ }
 {
     match judged {
-        Judged::Refused(f) => surveys::word(f.number, f.place.0),
+        Judged::Refused(f) => surveys::word(f.number as u64, f.place.0),
         Judged::Good(a) => surveys::word(0, a.count),
     }
 }
@@ -99,8 +99,8 @@ pub fn kept_verdict(t: &[u64], n: SampleNumber) -> KeptVerdict
     ensures { λ r. ⌜ keptAnswer r ≡ verdictIn (keptCountIn (now (t .entry)) (n .0)) ⌝ }
 {
     let word = sample_tables::kept_count(t, n);
-    let value = (word / 256) as usize;
-    let number = (word % 256) as u8;
+    let value = (word / surveys::PACKED) as usize;
+    let number = (word % surveys::PACKED) as u8;
     if number == 0 {
         return KeptVerdict::Units(value);
     }

@@ -14,6 +14,7 @@ ghost use Rattle.mark_rules.specs.Amounts.{copyAmount};
 ghost use Rattle.verdicts.specs.Surveys.{Tells, Ready};
 ghost use Rattle.verdicts.specs.Amounts.{extractAmount, amountBy};
 use crate::surveys::FORMED;
+use crate::surveys::PACKED;
 use crate::surveys::known;
 use judging::Amount;
 use judging::Judged;
@@ -56,10 +57,10 @@ fn copy_known(
     if form == 0 {
         return copy_unknown(k, z, rows, offset, length);
     }
-    if form % 256 != 1 {
+    if form % PACKED != FORMED {
         return CopyCounted::Refused(refusals::NAMED_ILL_FORMED);
     }
-    let base = (form / 256) as usize;
+    let base = (form / PACKED) as usize;
     marks::copy_of(k, z, rows, base, offset, length)
 }
 
@@ -193,11 +194,11 @@ pub(crate) fn judge_known(
     let k = delivery::track_of(t, n);
     let x = sample_tables::sample_bytes(b, t, n);
     let form = known(forms, n);
-    if form % 256 == 1 {
+    if form % PACKED == FORMED {
         return measure(b, t, forms, rows, n, k, x);
     }
     if form != 0 {
-        return refused((form % 256) as u8, (form / 256) as usize);
+        return refused((form % PACKED) as u8, (form / PACKED) as usize);
     }
     let checked = samples::check_sample(k, x);
     match checked {

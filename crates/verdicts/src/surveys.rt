@@ -20,16 +20,17 @@ pub(crate) const FORMS_SIZE: usize = bundles::SAMPLE_MOST + 1;
 pub(crate) const ROWS_SIZE: usize = (bundles::BUNDLE_MOST / marks::BLOCK + 1) * marks::ROW;
 
 // What is known of a sample, in one number: 0 where nothing is; FORMED, then the row of its first mark; or its refusal, then the place.
-pub(crate) const FORMED: u8 = 1;
+pub(crate) const FORMED: u64 = 1;
 
-pub(crate) const PACKED: usize = 256;
+// The first of two numbers in one is below it.
+pub(crate) const PACKED: u64 = 256;
 
 // A small number and another in one.
-pub(crate) fn word(number: u8, value: usize) -> u64
+pub(crate) fn word(number: u64, value: usize) -> u64
     requires { ⌜ packed number value ≤ 72057594037927936 ⌝ }
     ensures { λ r. ⌜ r ≡ packed number value ⌝ }
 {
-    number as u64 + (value * PACKED) as u64
+    number + value as u64 * PACKED
 }
 
 // What is known of sample m.
@@ -50,7 +51,7 @@ fn mark_one(k: Track, x: &[u8], rows: &mut [u32], base: usize) -> u64
 {
     let checked = samples::check_sample(k, x);
     match checked {
-        Checked::Refused(f) => word(f.number, f.place.0),
+        Checked::Refused(f) => word(f.number as u64, f.place.0),
         Checked::WellFormed => {
             let most = rows.len() / marks::ROW;
             if most < base + x.len() / marks::BLOCK {
@@ -85,7 +86,7 @@ fn mark_sample(
     let x = sample_tables::sample_bytes(b, t, m);
     let form = mark_one(k, x, rows, used);
     forms[at] = form;
-    if form % 256 == 1 {
+    if form % PACKED == FORMED {
         return used + x.len() / marks::BLOCK;
     }
     used

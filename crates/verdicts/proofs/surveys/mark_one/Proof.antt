@@ -15,10 +15,13 @@ check-sample-requires c κs = search needs
 enum-known-checked : tie.Need-enum-known-checked
 enum-known-checked c = search needs
 
+cast-word : tie.Need-cast-word
+cast-word c = search needs
+
 word-requires : tie.Need-word-requires
-word-requires c κs = let d = c .before .before .before in
+word-requires c κs = let d = c .before .before .before .before in
     let a = d .before .before .before .args in
-    let s = form-small (sample (a .k) (a .x .now)) _ _ (sym (d .check-sample .ensures) ∙ ap answerOf (c .before .checked .given .1)) in
+    let s = form-small (sample (a .k) (a .x .now)) _ _ (sym (d .check-sample .ensures) ∙ ap answerOf (c .before .before .checked .given .1)) in
     omega (arith, d .before .before .before .pre .0)
 
 enum-told : tie.Need-enum-told
@@ -37,9 +40,9 @@ word-requires-2 : tie.Need-word-requires-2
 word-requires-2 c κs = omega (arith, c .before .before .before .before .before .before .before .before .before .before .pre .1)
 
 returns-2 : tie.Need-returns-2
-returns-2 c = let d = c .before .before .before .before in
+returns-2 c = let d = c .before .before .before .before .before in
     let a = d .before .before .before .args in
-    rw (c .word .ensures) (told-refused (sample (a .k) (a .x .now)) (a .base) (a .rows .now) _ _ (sym (d .check-sample .ensures) ∙ ap answerOf (c .before .before .checked .given .1)))
+    rw (c .word .ensures) (told-refused (sample (a .k) (a .x .now)) (a .base) (a .rows .now) _ _ (sym (d .check-sample .ensures) ∙ ap answerOf (c .before .before .before .checked .given .1)))
 
 same-length : tie.Need-same-length
 same-length c = search needs
@@ -57,6 +60,7 @@ mark-one-spec =
     (tie.spec
     check-sample-requires
     enum-known-checked
+    cast-word
     word-requires
     enum-told
     add-if1
