@@ -23,7 +23,8 @@
  * - Any bytes and any numbers may be given: nothing needs to be checked before a call. A number that is out of
  *   range is refused, never cut.
  * - Nothing is kept between calls, nothing is allocated, no pointer is held. Functions may be called from several
- *   threads at once on slices of their own. Calls on a bundle use up to 160 KB of stack.
+ *   threads at once on slices of their own. puddockle_audit, puddockle_resolve, puddockle_stream, puddockle_units and
+ *   puddockle_unit use up to 450 KB of stack, other calls on a bundle up to 160 KB.
  *
  * Numbers are big-endian wherever they stand in bytes. L is the length size: the number of bytes, 1, 2 or 4, of the
  * length before each NAL unit. Tracks, references, samples and delivered units are numbered from 1.
@@ -42,9 +43,10 @@
  * The head of a bundle is its sections one to three (tracks with their records, references, sample entries), at most
  * 1.1 MB. puddockle_check_bundle goes over it once, every other call on a bundle twice: checked, then put in a table of
  * 134 KB on the stack. Of the sample bytes a call reads only what it is asked for. To judge a sample takes time as its
- * own bytes and, for each of its extractors, as the bytes of the sample named, which is checked and walked for each
- * extractor anew. The base of an extractor is found with at most 12 comparisons. Each function says what it does of
- * that.
+ * own bytes and as those of the samples that its extractors name, each of which is checked once in a call, whatever the
+ * number of extractors: what is known of it is kept in 295 KB on the stack. For an extractor the sample named is not
+ * gone over: at most 2,560 bytes of it are looked at, and its base is found with at most 12 comparisons. Each function
+ * says what it does of that.
  */
 #ifndef PUDDOCKLE_H
 #define PUDDOCKLE_H
@@ -320,7 +322,7 @@ uint32_t puddockle_sample(const uint8_t *bundle, size_t bundle_len,
  * puddockle_check_sample for this sample; then for each extractor in the order of delivery 23, 24, 25, 26, 27, 28;
  * then 29. *place is an offset in the bundle for 1 to 13 and in the sample for 14 to 28, else 0.
  * Accepted: *count bytes are written (0 where nothing is delivered). Refused: nothing is written, *count is 0.
- * Time: the head of the bundle, the sample judged (see above) and once more gone over, and the bytes written.
+ * Time: the head of the bundle, the sample judged (see above), and the units delivered, which are gone over once.
  */
 uint32_t puddockle_resolve(const uint8_t *bundle, size_t bundle_len,
                            uint64_t sample,
@@ -339,7 +341,7 @@ uint32_t puddockle_resolve(const uint8_t *bundle, size_t bundle_len,
  * stream; else 0. Only the bytes of a unit itself are searched: 00 00 03 may stand in it, and it may begin with 00.
  * Accepted: *count bytes are written, as many as puddockle_resolve writes (0 where nothing is delivered), and the
  * stream has exactly the units delivered. Refused: nothing is written, *count is 0.
- * Time: as puddockle_resolve, and the bytes of the units gone over once more.
+ * Time: as puddockle_resolve, and the units delivered gone over once more, with their bytes, before 29 is judged.
  */
 uint32_t puddockle_stream(const uint8_t *bundle, size_t bundle_len,
                           uint64_t sample,
@@ -452,8 +454,7 @@ uint32_t puddockle_named(const uint8_t *bundle, size_t bundle_len,
  * 1 to 13, else 0. A refused sample does not make the audit refuse.
  * Accepted: *count bytes are written, PUDDOCKLE_LINE for each sample. Refused: nothing is written, *count and the
  * three tallies are 0.
- * Time: the head of the bundle, and every sample judged once (see above): linear in the bundle where there are no
- * extractors, else also in extractors times the size of what they name.
+ * Time: linear in the bundle, whatever it holds: every sample is checked once and judged once (see above).
  */
 uint32_t puddockle_audit(const uint8_t *bundle, size_t bundle_len,
                          uint8_t *lines, size_t lines_len,

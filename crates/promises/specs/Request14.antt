@@ -15,18 +15,22 @@
 --   copyFault, copied      25 to 28; the units in a copy: the rules (copies/specs/Copies)
 --   withJudgements b t     a table with the judgement of every sample kept beside it; `judge_all` of crates/verdicts leaves it
 --
--- That lines and tally stay is said by what stays by text: the audit's definition and contract, Demands (`line-each`, `tally-each`,
--- and what refuses a sample), Contents and Request01 to Request05. How long a call takes is measured; what bounds it is here: a
--- walk of less than a block from a mark (`few-steps`), two for an extractor (`copy-by-marks`), whatever the sample named holds.
+-- That lines and tally stay is said by what stays by text: the audit's definition and contract, Demands (`line-each`,
+-- `tally-counts`, and what refuses a sample), Contents and Request01 to Request05. How long a call takes is measured; what bounds
+-- it is here: a walk of less than a block from a mark (`few-steps`), two for an extractor (`copy-by-marks`), whatever the sample
+-- named holds.
 use Prim.Native.Nat.{ℕ, _+_, _*_, _/_, _%_, _≤_, _<_}
-use mathlib.Core.Path.{_≡_}
-use mathlib.Core.List.{List, map}
+use mathlib.Core.Path.{_≡_, refl}
+use mathlib.Core.List.{List, [], _∷_, map}
 use mathlib.Core.Logic.{_↔_}
 use lib.ListN.{length}
 use Rattle.words.specs.Tests.{_<?_}
 use Rattle.words.specs.Refusals.{refused, ok}
 use Rattle.words.specs.Lists.{keep, sum}
-use Rattle.units.specs.Units.{Sample, end, size, isExtractor}
+use Rattle.words.specs.Bytes.{big}
+use Rattle.numbers.specs.declared.Kind.the-variants.{Svc}
+use Rattle.numbers.specs.declared.LengthSize.the-variants.{One}
+use Rattle.units.specs.Units.{Sample, end, size, type, isExtractor}
 use Rattle.units.specs.Aggregators.{units}
 use Rattle.samples.specs.Check.{check}
 use Rattle.copies.specs.Copies.{withoutAggregators, copyEnd, copied, copyFault}
@@ -35,9 +39,10 @@ use Rattle.bundles.specs.Limits.{bundleMost}
 use Rattle.bundles.specs.Recordings.{sampleCount}
 use Rattle.tables.specs.Tables.{layoutIn, recordingIn, tableMost, keptCountIn}
 use Rattle.resolution_rules.specs.Resolving.{delivered, judged}
+use Rattle.mark_rules.specs.declared.CopyCounted.{CopyCounted}
 use Rattle.mark_rules.specs.declared.CopyCounted.the-variants.{Refused, Units}
-use Rattle.mark_rules.specs.States.{reachFrom, reach, stateAt}
-use Rattle.mark_rules.specs.Amounts.{copyBetween}
+use Rattle.mark_rules.specs.States.{stateStep, reachFrom, reach, stateAt}
+use Rattle.mark_rules.specs.Amounts.{between, copyBetween}
 use Rattle.mark_rules.proofs.States as states
 use Rattle.mark_rules.proofs.Standing as standing
 use Rattle.mark_rules.proofs.Counts as counting
@@ -90,10 +95,39 @@ module _ (b t : List ℕ) where
   pub says-the-same : recordingIn b (withJudgements b t) ≡ recordingIn b t
   says-the-same = keeping.all-recording b t
 
-  module _ (short : length b ≤ bundleMost) (room : tableMost ≤ length t) (n : ℕ) (some : 0 < n) (there : n ≤ sampleCount (layoutIn t)) where
-    pub refused-kept : (m p : ℕ) → judged (recordingIn b t) n ≡ refused m p → verdictIn (keptCountIn (withJudgements b t) n) ≡ refused m p
+  module _ (short : length b ≤ bundleMost) (room : tableMost ≤ length t)
+      (n : ℕ) (some : 0 < n) (there : n ≤ sampleCount (layoutIn t)) where
+    pub refused-kept : (m p : ℕ) → judged (recordingIn b t) n ≡ refused m p →
+        verdictIn (keptCountIn (withJudgements b t) n) ≡ refused m p
     refused-kept = keeping.refused-kept b t short room n some there
 
     pub units-kept : judged (recordingIn b t) n ≡ ok tt →
         verdictIn (keptCountIn (withJudgements b t) n) ≡ ok (length (delivered (recordingIn b t) n))
     units-kept = keeping.units-kept b t short room n some there
+
+-- In numbers: M8's and M7's samples of document 01, SVC, L = 1, and an extractor alone
+abbrev bytes-8 : Sample
+bytes-8 = record { kind = Svc; lengthSize = One; content = 5 ∷ 126 ∷ 128 ∷ 0 ∷ 3 ∷ 3 ∷ 2 ∷ 101 ∷ 136 ∷ [] }
+
+abbrev bytes-7 : Sample
+bytes-7 = record { kind = Svc; lengthSize = One; content = 8 ∷ 126 ∷ 128 ∷ 0 ∷ 3 ∷ 0 ∷ 2 ∷ 101 ∷ 136 ∷ [] }
+
+abbrev extractor-alone : Sample
+extractor-alone = record { kind = Svc; lengthSize = One; content = 8 ∷ 127 ∷ 128 ∷ 0 ∷ 3 ∷ 1 ∷ 0 ∷ 0 ∷ 0 ∷ [] }
+
+abbrev told : Sample → ℕ → ℕ → CopyCounted
+told z o n = copyBetween z o n (stateAt z o) (stateAt z (copyEnd z o n))
+
+abbrev units-of : ℕ → ℕ → CopyCounted
+units-of count bytes = Units (record { count = count; bytes = bytes })
+
+-- M9 and its neighbours: data_offset 0 with data_length 0, 6, 9 and 7; 1; from M7's included unit at 6 with 0, 3 and 4; 28
+pub in-numbers :
+    (stateAt bytes-8 9 ≡ record { place = 9; until = 6; count = 1; bytes = 2; extractors = 0 })
+    × (stateAt bytes-7 3 ≡ record { place = 6; until = 9; count = 0; bytes = 0; extractors = 0 })
+    × (told bytes-8 0 0 ≡ units-of 1 2) × (told bytes-8 0 6 ≡ units-of 0 0) × (told bytes-8 0 9 ≡ units-of 1 2)
+    × (told bytes-8 0 7 ≡ Refused 27) × (told bytes-8 1 0 ≡ Refused 26)
+    × (told bytes-7 6 0 ≡ units-of 1 2) × (told bytes-7 6 3 ≡ units-of 1 2) × (told bytes-7 6 4 ≡ Refused 27)
+    × (told extractor-alone 0 0 ≡ Refused 28)
+unfolding stateAt reachFrom stateStep copyBetween between copyEnd size type big
+in-numbers = (refl, refl, refl, refl, refl, refl, refl, refl, refl, refl, refl)

@@ -2,7 +2,8 @@
 --
 --   packed n v               a number below 256 and another in one
 --   formed                   the first of them for a sample that is well formed; for another it is its refusal
---   Tells x f rows           what the number f says of the sample x: 0 nothing; formed, and the row of its first mark; its refusal and the place
+--   Tells x f rows           what the number f says of the sample x: 0 nothing; formed, and the row of its first mark; its refusal and
+--                            the place
 --   Ready b t forms rows     the number of every sample tells so
 --   Survey b t forms rows used     and the marks lie in the first used rows
 --   Told x base old f new    sample x was checked, f tells so, and its marks, if any, went to the rows from base on
