@@ -45,8 +45,8 @@
  * 134 KB on the stack. Of the sample bytes a call reads only what it is asked for. To judge a sample takes time as its
  * own bytes and as those of the samples that its extractors name, each of which is checked once in a call, whatever the
  * number of extractors: what is known of it is kept in 295 KB on the stack. For an extractor the sample named is not
- * gone over: at most 2,560 bytes of it are looked at, and its base is found with at most 12 comparisons. Each function
- * says what it does of that.
+ * gone over: less than two blocks of 1,280 bytes are, and its base is found, a fixed number of times in a call, with at
+ * most 12 comparisons each. Each function says what it does of that.
  */
 #ifndef PUDDOCKLE_H
 #define PUDDOCKLE_H
@@ -400,8 +400,8 @@ uint32_t puddockle_units(const uint8_t *bundle, size_t bundle_len,
  * unit of that number). Places as in puddockle_resolve; 30 is at 0.
  * Accepted: the unit's bytes are the *length bytes from bundle + *start on. They stand in the sample itself or in
  * the sample that an extractor names. Refused: *start and *length are 0.
- * Time: as puddockle_units for every call, so over all units it grows with the square of their number: for more than
- * a few units use puddockle_units.
+ * Time: the head of the bundle, the sample judged (see above), and the units delivered before the one asked for, which are
+ * gone over. So over all units it grows with the square of their number: for more than a few units use puddockle_units.
  */
 uint32_t puddockle_unit(const uint8_t *bundle, size_t bundle_len,
                         uint64_t sample, uint64_t unit,

@@ -10,7 +10,6 @@ ghost use Rattle.bundles.specs.Limits.{bundleMost};
 ghost use Rattle.bundles.specs.Recordings.{sampleCount};
 ghost use Rattle.bundles.specs.Readers.{firstLayout};
 ghost use Rattle.tables.specs.Tables.{recordingIn, tableMost};
-ghost use Rattle.tally.specs.Tallies.{raisedBy};
 ghost use Rattle.numbers.specs.Places.{placeSize};
 ghost use Rattle.audit_rules.specs.Auditing.{refusalSize, unitsSize, lineSize, lineBytes, outcomeOf, lineOf, lines, tally, tallyWithin, auditCall, tallyCall};
 ghost use Rattle.audit.specs.Steps.{verdictOf, unitsIn, outcomeIn, JudgementsKept};

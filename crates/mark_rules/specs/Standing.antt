@@ -1,6 +1,6 @@
 -- Where a walk over a well-formed sample stands, in plain facts.
 --
---   Standing g q     q is a top-level border, or a unit that the aggregator which ends at g includes
+--   Standing g q     q is a top-level border, at g or past it, or a unit that the aggregator which ends at g includes
 --   Settled s        the state of a walk: where it stands, and that its numbers are small
 use Prim.Native.Nat.{ℕ, _+_, _≤_}
 use mathlib.Core.Path.{_≡_}

@@ -3,6 +3,7 @@
 --   front            the state at the start
 --   entered, passed  the state past the head of an aggregator; past another unit
 --   stateStep        the state one unit on
+--   reachFrom d n s  the state after at most n steps from s, fewer if it stands at d or past it before
 --   reach d s        the state that the walk from s is in when it first stands at d or past it
 --   stateAt d        the same from the front
 use Prim.Native.Nat.{ℕ, zero, suc, _+_, _-_}

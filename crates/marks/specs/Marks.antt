@@ -1,11 +1,14 @@
 -- Marks: the state of the walk over all units of a sample (mark_rules/specs/States) at the end of each block of its bytes, in rows of five
 -- numbers. Everything is said of any rows. A row of zeros, and one past the end of the rows, is the state before the first unit.
 --
---   block                  the bytes of a block
+--   block, rowSize         the bytes of a block; the numbers of a row
+--   numberLimit            numbers of a row are kept below it
 --   keptNumber, rowOf s    a number as it is kept, in 32 bits; a state as a row
 --   stateIn rows i         the state that row i says
---   marks x base rows      the rows with the marks of x from row base on
+--   marksUpto x base rows n    the rows with the first n marks of x, from row base on
+--   marks x base rows      with all of them
 --   stateBy x rows base d  the state at d, gone to from the last mark at or before d
+--   endState x rows base o n    the state at the end of a copy
 --   copyBy x rows base o n    what an extractor with data_offset o and data_length n copies of x, by the states at its start and its end
 --   Marked x base rows     the rows from base on say the states of x at the ends of its blocks
 use Prim.Native.Nat.{ℕ, zero, suc, _+_, _-_, _*_, _/_, _%_, _≤_}
@@ -28,9 +31,12 @@ block = 1280
 abbrev pub rowSize : ℕ
 rowSize = 5
 
--- in 32 bits; the numbers of a state of any sample in a bundle are smaller
+-- 2 to the 32nd; the numbers of a state of any sample in a bundle are smaller
+abbrev pub numberLimit : ℕ
+numberLimit = 4294967296
+
 abbrev pub keptNumber : ℕ → ℕ
-keptNumber n = n % 4294967296
+keptNumber n = n % numberLimit
 
 abbrev pub rowOf : WalkState → List ℕ
 rowOf s =

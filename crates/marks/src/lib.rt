@@ -1,17 +1,15 @@
 // Marks of a sample: the state of the walk over its units at the end of each block of its bytes, kept in rows of numbers; and what an
 // extractor copies, counted from them without going over the sample. Every public function takes any bytes, any rows and any numbers.
 ghost use mathlib.Core.Path.{_≡_};
-ghost use mathlib.Core.Bool.{_&&_};
-ghost use Prim.Native.Nat.{_+_, _*_, _-_, _≤_, _<_};
+ghost use Prim.Native.Nat.{_*_, _-_, _≤_, _<_};
 ghost use lib.ListN.{length, getD};
-ghost use Rattle.words.specs.Tests.{_≤?_, _<?_, _≡?_, pick};
 ghost use Rattle.words.specs.Bytes.{big};
 ghost use Rattle.words.specs.Buffers.{put};
 ghost use Rattle.numbers.specs.Sizes.{inBytes};
 ghost use Rattle.units.specs.Units.{sample};
 ghost use Rattle.mark_rules.specs.States.{front, stateStep, reach};
 ghost use Rattle.mark_rules.specs.Amounts.{standsAtEnd, between};
-ghost use Rattle.marks.specs.Marks.{rowSize, keptNumber, rowOf, stateIn, marks, stateBy, copyBy};
+ghost use Rattle.marks.specs.Marks.{rowSize, numberLimit, keptNumber, rowOf, stateIn, marks, stateBy, copyBy};
 ghost use Rattle.marks.specs.Fits.{Fits};
 use mark_rules::CopyAmount;
 use mark_rules::CopyCounted;
@@ -45,7 +43,7 @@ fn front() -> WalkState
 
 // The number in a length field at a place.
 fn length_at(l: LengthSize, z: &[u8], p: usize) -> usize
-    ensures { λ r. ⌜ (r ≡ big (now (z .entry)) p (inBytes l)) × (r < 4294967296) ⌝ }
+    ensures { λ r. ⌜ (r ≡ big (now (z .entry)) p (inBytes l)) × (r < numberLimit) ⌝ }
 {
     l.number(z, p)
 }
@@ -131,7 +129,7 @@ fn put_row(rows: &mut [u32], i: usize, s: WalkState)
 
 // A number of the rows, 0 past their end.
 fn cell(rows: &[u32], at: usize) -> usize
-    ensures { λ r. ⌜ (r ≡ getD (now (rows .entry)) at 0) × (r < 4294967296) ⌝ }
+    ensures { λ r. ⌜ (r ≡ getD (now (rows .entry)) at 0) × (r < numberLimit) ⌝ }
 {
     if rows.len() <= at {
         return 0;
@@ -173,7 +171,7 @@ pub fn mark(k: Track, z: &[u8], rows: &mut [u32], base: usize)
     }
 }
 
-// The state at a place of a sample: from the last mark at or before it, at most a block is gone over.
+// The state at a place of a sample, gone to from the last mark at or before it: by the marks of the sample less than a block is gone over.
 fn state_at(k: Track, z: &[u8], rows: &[u32], base: usize, to: usize) -> WalkState
     requires { ⌜ to ≤ length (now z) ⌝ }
     ensures { λ r. ⌜ (r ≡ stateBy (sample k (now (z .entry))) (now (rows .entry)) base to) × Fits r ⌝ }
@@ -246,7 +244,8 @@ fn copy_unit(k: Track, z: &[u8], rows: &[u32], base: usize, a: WalkState) -> Cop
     between(a, state_at(k, z, rows, base, to))
 }
 
-// A copy of a sample by data_offset and data_length: 26 to 28, or its units counted. At most two blocks are gone over.
+// A copy of a sample by data_offset and data_length: 26 to 28, or its units counted. By the marks of the sample less than two blocks are gone
+// over.
 pub fn copy_of(
     k: Track,
     z: &[u8],

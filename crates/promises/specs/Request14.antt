@@ -11,14 +11,15 @@
 --                          bytes it copies, by the states a at its start and e at its end (mark_rules/specs/Amounts)
 --   copyBy z rows base o n the same by rows of numbers (marks/specs/Marks); the public function `copy_of` of crates/marks answers
 --                          with it, for any rows
---   marks z base rows      the rows with the states of z at the ends of its blocks of 1,280 bytes; `mark` leaves these
+--   block, rowSize         1,280 bytes; the five numbers of a row
+--   marks z base rows      the rows with the states of z at the ends of its blocks; `mark` leaves these
 --   copyFault, copied      25 to 28; the units in a copy: the rules (copies/specs/Copies)
 --   withJudgements b t     a table with the judgement of every sample kept beside it; `judge_all` of crates/verdicts leaves it
 --
 -- That lines and tally stay is said by what stays by text: the audit's definition and contract, Demands (`line-each`,
--- `tally-counts`, and what refuses a sample), Contents and Request01 to Request05. How long a call takes is measured; what bounds
--- it is here: a walk of less than a block from a mark (`few-steps`), two for an extractor (`copy-by-marks`), whatever the sample
--- named holds.
+-- `tally-counts`, and what refuses a sample), Contents and Request01 to Request05. How long a call takes is measured, and no
+-- theorem shuts out a slow program: what is said here is what the code goes by, that a state is less than a block of steps from
+-- the mark before it (`few-steps`), and that by two states an extractor is answered, whatever the sample named holds.
 use Prim.Native.Nat.{ℕ, _+_, _*_, _/_, _%_, _≤_, _<_}
 use mathlib.Core.Path.{_≡_, refl}
 use mathlib.Core.List.{List, [], _∷_, map}
@@ -47,19 +48,19 @@ use Rattle.mark_rules.proofs.States as states
 use Rattle.mark_rules.proofs.Standing as standing
 use Rattle.mark_rules.proofs.Counts as counting
 use Rattle.mark_rules.proofs.Copying as copying
-use Rattle.marks.specs.Marks.{marks, copyBy}
+use Rattle.marks.specs.Marks.{block, rowSize, marks, copyBy}
 use Rattle.marks.proofs.Marking as marking
 use Rattle.marks.proofs.Copying as marked
 use Rattle.verdicts.specs.Kept.{verdictIn, withJudgements}
 use Rattle.verdicts.proofs.Keeping as keeping
 
 -- Any bytes: going on from a state that was kept gives what going from the front gives, and from the last mark at or before a
--- place the walk comes to it in less than 1,280 steps
+-- place the walk comes to it in less steps than a block has bytes
 module _ (x : Sample) where
   pub goes-on : (c d : ℕ) → c ≤ d → reach x d (stateAt x c) ≡ stateAt x d
   goes-on = states.state-on x
 
-  pub few-steps : (d : ℕ) → stateAt x d ≡ reachFrom x d (d % 1280) (stateAt x (d / 1280 * 1280))
+  pub few-steps : (d : ℕ) → stateAt x d ≡ reachFrom x d (d % block) (stateAt x (d / block * block))
   few-steps = marking.few-steps x
 
 -- A well-formed sample: the walk stands just where units start and at the end, and its state there counts the units before
@@ -85,7 +86,7 @@ module _ (x : Sample) (formed : check x ≡ ok tt) where
     copy-counted = copying.states-counted x formed o n
 
     -- by the rows that hold its marks, wherever they stand
-    pub copy-by-marks : (base : ℕ) (rows : List ℕ) → end x ≤ bundleMost → (base + end x / 1280) * 5 ≤ length rows →
+    pub copy-by-marks : (base : ℕ) (rows : List ℕ) → end x ≤ bundleMost → (base + end x / block) * rowSize ≤ length rows →
         copyBy x (marks x base rows) base o n ≡ copyBetween x o n (stateAt x o) (stateAt x (copyEnd x o n))
     copy-by-marks = marked.marks-copy x formed o n
 

@@ -52,7 +52,7 @@ pub enum MaybeExtractor {
 }
 
 // What a walk needs of a unit: its first refusal, 0 for none, and its size. Its length is read once for both.
-pub struct Judged {
+pub struct JudgedUnit {
     pub fault: u8,
     pub size: usize,
 }
@@ -125,13 +125,13 @@ fn unit_fault(k: Track, s: &[u8], at: ByteOffset, end: ByteOffset, bytes: usize)
 }
 
 // The same, and its size.
-pub fn judge_unit(k: Track, s: &[u8], at: ByteOffset, end: ByteOffset) -> Judged
+pub fn judge_unit(k: Track, s: &[u8], at: ByteOffset, end: ByteOffset) -> JudgedUnit
     ensures { λ r. ⌜ (r .fault ≡ unitFault (sample k (now (s .entry))) (end .0) (at .0)) × (r .size ≡ size (sample k (now (s .entry))) (at .0)) ⌝ }
 {
     let l = k.length_size;
     let bytes = l.number(s, at.0);
     let f = unit_fault(k, s, at, end, bytes);
-    Judged {
+    JudgedUnit {
         fault: f,
         size: bytes,
     }
@@ -192,13 +192,13 @@ fn included_fault(k: Track, s: &[u8], at: ByteOffset, end: ByteOffset, bytes: us
 }
 
 // The same, and its size.
-pub fn judge_included(k: Track, s: &[u8], at: ByteOffset, end: ByteOffset) -> Judged
+pub fn judge_included(k: Track, s: &[u8], at: ByteOffset, end: ByteOffset) -> JudgedUnit
     ensures { λ r. ⌜ (r .fault ≡ includedFault (sample k (now (s .entry))) (end .0) (at .0)) × (r .size ≡ size (sample k (now (s .entry))) (at .0)) ⌝ }
 {
     let l = k.length_size;
     let bytes = l.number(s, at.0);
     let f = included_fault(k, s, at, end, bytes);
-    Judged {
+    JudgedUnit {
         fault: f,
         size: bytes,
     }

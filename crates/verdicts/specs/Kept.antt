@@ -16,7 +16,7 @@ use Rattle.bundles.specs.Recordings.{sampleCount}
 use Rattle.tables.specs.Tables.{layoutIn, recordingIn, withKeptCount}
 use Rattle.judging.specs.Steps.{judgement}
 use Rattle.judging.specs.declared.Amount.{Amount}
-use Rattle.verdicts.specs.Surveys.{packed}
+use Rattle.verdicts.specs.Surveys.{packing, packed}
 use Rattle.verdicts.specs.declared.KeptVerdict.{KeptVerdict}
 use Rattle.verdicts.specs.declared.KeptVerdict.the-variants.{Refused, Units}
 
@@ -24,13 +24,13 @@ abbrev pub judgementWord : Answer Amount → ℕ
 judgementWord (refused n p) = packed n p
 judgementWord (ok a) = packed 0 (a .count)
 
--- the same without the bytes
+-- a judgement without the bytes that are delivered
 abbrev pub unitsOf : Answer Amount → Answer ℕ
 unitsOf (refused n p) = refused n p
 unitsOf (ok a) = ok (a .count)
 
 unfoldable pub verdictIn : ℕ → Answer ℕ
-verdictIn w = pick (w % 256 ≡? 0) (ok (w / 256)) (refused (w % 256) (w / 256))
+verdictIn w = pick (w % packing ≡? 0) (ok (w / packing)) (refused (w % packing) (w / packing))
 
 abbrev pub keptAnswer : KeptVerdict → Answer ℕ
 keptAnswer (Refused f) = refused (f .number) (f .place .0)

@@ -4,8 +4,8 @@ mod measuring;
 mod surveys;
 
 ghost use mathlib.Core.Path.{_≡_};
-ghost use Prim.Native.Nat.{ℕ, _≤_};
-ghost use lib.ListN.{length, getD};
+ghost use Prim.Native.Nat.{_≤_};
+ghost use lib.ListN.{length};
 ghost use Rattle.words.specs.Refusals.{ok};
 ghost use Rattle.units.specs.Units.{sample};
 ghost use Rattle.samples.specs.Check.{check};
@@ -14,7 +14,7 @@ ghost use Rattle.bundles.specs.Recordings.{sampleCount};
 ghost use Rattle.tables.specs.Tables.{layoutIn, recordingIn, keptCountIn};
 ghost use Rattle.resolution_rules.specs.Resolving.{sampleOf};
 ghost use Rattle.judging.specs.Steps.{judgement, judgementIn, answerOf};
-ghost use Rattle.verdicts.specs.Surveys.{Ready};
+ghost use Rattle.verdicts.specs.Surveys.{wordMost, Ready};
 ghost use Rattle.verdicts.specs.Kept.{judgementWord, judgementsUpto, withJudgements, verdictIn, keptAnswer};
 use judging::Judged;
 use numbers::ByteOffset;
@@ -57,7 +57,7 @@ pub fn judge(b: &[u8], t: &[u64], n: SampleNumber) -> Judged
 
 // A judgement as it is kept in one number: the refusal, then its place; or 0, then how many units are delivered.
 fn judgement_word(judged: Judged) -> u64
-    requires { ⌜ judgementWord (answerOf judged) ≤ 72057594037927936 ⌝ }
+    requires { ⌜ judgementWord (answerOf judged) ≤ wordMost ⌝ }
     ensures { λ r. ⌜ r ≡ judgementWord (answerOf judged) ⌝ }
 {
     match judged {
@@ -99,8 +99,8 @@ pub fn kept_verdict(t: &[u64], n: SampleNumber) -> KeptVerdict
     ensures { λ r. ⌜ keptAnswer r ≡ verdictIn (keptCountIn (now (t .entry)) (n .0)) ⌝ }
 {
     let word = sample_tables::kept_count(t, n);
-    let value = (word / surveys::PACKED) as usize;
-    let number = (word % surveys::PACKED) as u8;
+    let value = (word / surveys::PACKING) as usize;
+    let number = (word % surveys::PACKING) as u8;
     if number == 0 {
         return KeptVerdict::Units(value);
     }

@@ -1,7 +1,7 @@
 // A sample measured: what its own units and the copies of its extractors come to, by what is known of the samples that they name.
 ghost use mathlib.Core.Path.{_≡_};
-ghost use Prim.Native.Nat.{ℕ, _≤_};
-ghost use lib.ListN.{length, getD};
+ghost use Prim.Native.Nat.{_≤_};
+ghost use lib.ListN.{length};
 ghost use Rattle.words.specs.Refusals.{refused, ok};
 ghost use Rattle.units.specs.Units.{sample};
 ghost use Rattle.units.specs.Steps.{extractorAt};
@@ -14,7 +14,7 @@ ghost use Rattle.mark_rules.specs.Amounts.{copyAmount};
 ghost use Rattle.verdicts.specs.Surveys.{Tells, Ready};
 ghost use Rattle.verdicts.specs.Amounts.{extractAmount, amountBy};
 use crate::surveys::FORMED;
-use crate::surveys::PACKED;
+use crate::surveys::PACKING;
 use crate::surveys::known;
 use judging::Amount;
 use judging::Judged;
@@ -57,10 +57,10 @@ fn copy_known(
     if form == 0 {
         return copy_unknown(k, z, rows, offset, length);
     }
-    if form % PACKED != FORMED {
+    if form % PACKING != FORMED {
         return CopyCounted::Refused(refusals::NAMED_ILL_FORMED);
     }
-    let base = (form / PACKED) as usize;
+    let base = (form / PACKING) as usize;
     marks::copy_of(k, z, rows, base, offset, length)
 }
 
@@ -194,11 +194,11 @@ pub(crate) fn judge_known(
     let k = delivery::track_of(t, n);
     let x = sample_tables::sample_bytes(b, t, n);
     let form = known(forms, n);
-    if form % PACKED == FORMED {
+    if form % PACKING == FORMED {
         return measure(b, t, forms, rows, n, k, x);
     }
     if form != 0 {
-        return refused((form % PACKED) as u8, (form / PACKED) as usize);
+        return refused((form % PACKING) as u8, (form / PACKING) as usize);
     }
     let checked = samples::check_sample(k, x);
     match checked {

@@ -1,11 +1,10 @@
 // What is known of the samples of a bundle: the form of each, checked once, in a number a sample; and the marks of those that are well formed.
 ghost use mathlib.Core.Path.{_≡_};
-ghost use Prim.Native.Nat.{ℕ, _+_, _*_, _≤_, _<_};
+ghost use Prim.Native.Nat.{_≤_};
 ghost use lib.ListN.{length, getD};
 ghost use Rattle.units.specs.Units.{sample};
 ghost use Rattle.bundles.specs.Limits.{bundleMost};
-ghost use Rattle.tables.specs.Tables.{recordingIn};
-ghost use Rattle.verdicts.specs.Surveys.{packed, rowsMost, Told, Survey, Ready};
+ghost use Rattle.verdicts.specs.Surveys.{packed, wordMost, rowsMost, Told, Survey, Ready};
 use links::Named;
 use numbers::ByteOffset;
 use numbers::SampleNumber;
@@ -14,23 +13,24 @@ use unit_steps::Item;
 use units::MaybeExtractor;
 use units::Track;
 
-// As many numbers are enough for the forms of all samples, and for the marks of any bundle.
+// As many numbers are enough for the forms of all samples, numbered from 1.
 pub(crate) const FORMS_SIZE: usize = bundles::SAMPLE_MOST + 1;
 
-pub(crate) const ROWS_SIZE: usize = (bundles::BUNDLE_MOST / marks::BLOCK + 1) * marks::ROW;
+// And as many for the marks of any accepted bundle: its samples lie in it without overlap, so together they have no more blocks.
+pub(crate) const ROWS_SIZE: usize = bundles::BUNDLE_MOST / marks::BLOCK * marks::ROW;
 
 // What is known of a sample, in one number: 0 where nothing is; FORMED, then the row of its first mark; or its refusal, then the place.
 pub(crate) const FORMED: u64 = 1;
 
 // The first of two numbers in one is below it.
-pub(crate) const PACKED: u64 = 256;
+pub(crate) const PACKING: u64 = 256;
 
 // A small number and another in one.
 pub(crate) fn word(number: u64, value: usize) -> u64
-    requires { ⌜ packed number value ≤ 72057594037927936 ⌝ }
+    requires { ⌜ packed number value ≤ wordMost ⌝ }
     ensures { λ r. ⌜ r ≡ packed number value ⌝ }
 {
-    number + value as u64 * PACKED
+    number + value as u64 * PACKING
 }
 
 // What is known of sample m.
@@ -86,13 +86,13 @@ fn mark_sample(
     let x = sample_tables::sample_bytes(b, t, m);
     let form = mark_one(k, x, rows, used);
     forms[at] = form;
-    if form % PACKED == FORMED {
+    if form % PACKING == FORMED {
         return used + x.len() / marks::BLOCK;
     }
     used
 }
 
-// All samples.
+// All samples checked and marked, each once.
 pub(crate) fn mark_all(b: &[u8], t: &[u64], forms: &mut [u64], rows: &mut [u32])
     requires { ⌜ (length (now b) ≤ bundleMost) × (length (now rows) ≤ rowsMost) × Survey (now b) (now t) (now forms) (now rows) 0 ⌝ }
     ensures { λ _. ⌜ Ready (now (b .entry)) (now (t .entry)) (now (forms .exit)) (now (rows .exit)) ⌝ }
@@ -134,7 +134,7 @@ fn mark_linked(
     }
 }
 
-// The samples that the extractors of sample n name, which is x.
+// The samples checked and marked that the extractors of sample n name, which is x, each once.
 pub(crate) fn mark_named(
     b: &[u8],
     t: &[u64],

@@ -1,11 +1,13 @@
-//! Every call on a bundle in a thread with little stack, on a bundle with the most tracks, references, samples and bytes.
+//! Every call on a bundle in a thread with no more stack than include/puddockle.h says that it uses, on a bundle with the
+//! most tracks, references, samples and bytes.
 
 use std::thread;
 
 use puddockle::*;
 
-/// Bytes of stack of the thread.
-const STACK: usize = 512_000;
+/// Bytes of stack for calls that judge samples, and for the others.
+const JUDGING_STACK: usize = 450_000;
+const OTHER_STACK: usize = 160_000;
 
 /// The number of samples in each track.
 const EACH: usize = SAMPLES_MOST / TRACKS_MOST;
@@ -50,19 +52,13 @@ fn bundle() -> Vec<u8> {
     bundle
 }
 
-fn every_call(bundle: &[u8]) {
-    assert_eq!(check_bundle(bundle), Ok(()));
-    let Counts { tracks, references, samples } = counts(bundle).unwrap();
-    assert_eq!([tracks, references, samples], [TRACKS_MOST, REFERENCES_MOST, SAMPLES_MOST].map(|most| most as u64));
-    assert_eq!(track(bundle, TrackNumber(tracks)).unwrap().kind, Kind::Svc);
-    assert_eq!(reference(bundle, ReferenceNumber(references)).unwrap().to, TrackNumber(4));
+fn judging_calls(bundle: &[u8]) {
     let own = sample(bundle, LAST).unwrap().bytes;
     let copied = &sample(bundle, NAMED).unwrap().bytes[4..];
     let delivered = [copied, copied, &own[PLACES[2] + 4..]];
-
     let mut lines = vec![0; LINES_MOST];
     let audited = audit(bundle, &mut lines).unwrap();
-    assert_eq!(audited.tally, Tally { passed: samples, empty: 0, refused: 0 });
+    assert_eq!(audited.tally, Tally { passed: SAMPLES_MOST as u64, empty: 0, refused: 0 });
     assert_eq!(audited.lines().last().unwrap().units, 3);
     let mut spans = vec![0; 3 * SPAN];
     assert!(units(bundle, LAST, &mut spans).unwrap().iter().eq(delivered));
@@ -70,7 +66,15 @@ fn every_call(bundle: &[u8]) {
     let mut out = vec![0; delivered.iter().map(|unit| 4 + unit.len()).sum()];
     assert_eq!(resolve(bundle, LAST, &mut out), Ok(out.len()));
     assert_eq!(stream(bundle, LAST, &mut out), Ok(out.len()));
+}
 
+fn other_calls(bundle: &[u8]) {
+    assert_eq!(check_bundle(bundle), Ok(()));
+    let Counts { tracks, references, samples } = counts(bundle).unwrap();
+    assert_eq!([tracks, references, samples], [TRACKS_MOST, REFERENCES_MOST, SAMPLES_MOST].map(|most| most as u64));
+    assert_eq!(track(bundle, TrackNumber(tracks)).unwrap().kind, Kind::Svc);
+    assert_eq!(reference(bundle, ReferenceNumber(references)).unwrap().to, TrackNumber(4));
+    assert_eq!(sample(bundle, LAST).unwrap().track, TrackNumber(tracks));
     let entries = [PLACES[0], PLACES[1]].map(|place| NamesEntry { sample: LAST, place: place as u64 });
     let mut list = vec![0; 2 * NAMES_ENTRY];
     assert!(names(bundle, NAMED, &mut list).unwrap().entries().eq(entries));
@@ -80,8 +84,10 @@ fn every_call(bundle: &[u8]) {
 #[test]
 fn little_stack() {
     let bundle = bundle();
-    thread::scope(|scope| {
-        let thread = thread::Builder::new().stack_size(STACK).spawn_scoped(scope, || every_call(&bundle));
-        thread.unwrap().join().unwrap();
-    });
+    for (stack, calls) in [(JUDGING_STACK, judging_calls as fn(&[u8])), (OTHER_STACK, other_calls)] {
+        thread::scope(|scope| {
+            let thread = thread::Builder::new().stack_size(stack).spawn_scoped(scope, || calls(&bundle));
+            thread.unwrap().join().unwrap();
+        });
+    }
 }
