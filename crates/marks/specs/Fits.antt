@@ -1,5 +1,5 @@
--- That the numbers of a state are not too large, whatever the bytes and the rows: none is more than the limit of a row's numbers ahead of the place, and
--- the walk goes on by more than it counts.
+-- That the numbers of a state are not too large, whatever the bytes and the rows: none is more than the limit of
+-- a row's numbers ahead of the place, and the walk goes on by more than it counts.
 --
 --   Fits s     of the state s
 use Prim.Native.Nat.{_+_, _≤_}
