@@ -8,7 +8,7 @@ const struct answer unset = {0,     UNSET, UNSET, UNSET, UNSET, UNSET, UNSET,
 const char *const call_names[CALLS] = {"read_record", "write_record", "check_sample", "check_bundle", "resolve",
                                        "stream",      "from_stream",  "unit",         "names",        "audit",
                                        "counts",      "track",        "reference",    "sample",       "units",
-                                       "named"};
+                                       "named",       "salvage",      "salvage_sample"};
 
 /* One more than the largest number. */
 #define NUMBERS 35
@@ -32,6 +32,8 @@ static const uint64_t allowed[CALLS] = {
     [SAMPLE] = RANGE(0, 13) | RANGE(30, 30),
     [UNITS] = RANGE(0, 30),
     [NAMED] = RANGE(0, 24) | RANGE(30, 30),
+    [SALVAGE] = RANGE(0, 13) | RANGE(29, 30),
+    [SALVAGE_SAMPLE] = RANGE(0, 0) | RANGE(4, 4) | RANGE(11, 11) | RANGE(29, 29),
 };
 
 __attribute__((section("__libfuzzer_extra_counters"))) static uint8_t counters[CALLS * NUMBERS * 16];
@@ -58,7 +60,7 @@ void note_line(uint8_t refusal) {
 
 void print_reached(void) {
     for (int call = 0; call < CALLS; call++) {
-        fprintf(stderr, "%12s ", call_names[call]);
+        fprintf(stderr, "%14s ", call_names[call]);
         for (int number = 0; number < NUMBERS; number++)
             if (allowed[call] >> number & 1)
                 fprintf(stderr, " %d:%llu", number, (unsigned long long)reached[call][number]);

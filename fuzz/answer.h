@@ -11,7 +11,7 @@
 
 enum call {
     READ_RECORD, WRITE_RECORD, CHECK_SAMPLE, CHECK_BUNDLE, RESOLVE, STREAM, FROM_STREAM, UNIT, NAMES, AUDIT,
-    COUNTS, TRACK, REFERENCE, SAMPLE, UNITS, NAMED, CALLS
+    COUNTS, TRACK, REFERENCE, SAMPLE, UNITS, NAMED, SALVAGE, SALVAGE_SAMPLE, CALLS
 };
 
 #define MUST(condition)                                                       \
@@ -22,7 +22,8 @@ enum call {
         }                                                                     \
     } while (0)
 
-/* The numbers of `values` are those that the calls on the contents of a bundle set, in their order. */
+/* The numbers of `values` are those that the calls on the contents of a bundle set, in their order; those of salvaging
+   are the counts of its lists. */
 struct answer {
     uint32_t number;
     uint64_t place, count, start, length, passed, empty, refused, values[4];

@@ -10,7 +10,7 @@
 #define AREA_SIZE 131072
 
 /* Areas, one for each slice of a call. */
-enum area { IN_1, IN_2, IN_3, IN_4, OUT, AREAS };
+enum area { IN_1, IN_2, IN_3, IN_4, OUT, OUT_2, OUT_3, AREAS };
 
 enum side { AT_END, AT_START };
 

@@ -5,8 +5,8 @@
  * the number is one that the call may give, what is written ends at the count, nothing is written on a refusal, the
  * input is unchanged, both calls agree. Between calls: a record read and written again is the same bytes; a record is
  * accepted up to its trailer, and not with a part of it; the units of a resolved sample are those asked for one by one;
- * the audit's line agrees with resolving; stream.c has byte streams written, from_stream.c read, contents.c the calls on
- * the contents of a bundle.
+ * the audit's line agrees with resolving; stream.c has byte streams written, from_stream.c read, salvage.c samples
+ * salvaged, contents.c the calls on the contents of a bundle.
  *
  * The answers themselves are fed back to the fuzzer as counters, since the library brings none of its own.
  */
@@ -19,6 +19,7 @@
 #include "from_stream.h"
 #include "input.h"
 #include "lend.h"
+#include "salvage.h"
 #include "stream.h"
 
 /* Room for what is built and for most outputs; an output that is longer gives 29. */
@@ -30,7 +31,7 @@ static uint64_t trailers[2][3];
 static void print_all(void) {
     print_reached();
     for (int call = READ_RECORD; call <= WRITE_RECORD; call++)
-        fprintf(stderr, "%12s  trailer none:%llu absent:%llu present:%llu\n", call_names[call],
+        fprintf(stderr, "%14s  trailer none:%llu absent:%llu present:%llu\n", call_names[call],
                 (unsigned long long)trailers[call][0], (unsigned long long)trailers[call][1],
                 (unsigned long long)trailers[call][2]);
 }
@@ -341,6 +342,8 @@ static void try_bundle(const uint8_t *bundle, size_t length, struct input *in, e
         MUST(audit(bundle, length, lend(OUT, side, room), room).number == 0);
         MUST(audit(bundle, length, lend(OUT, side, room - 1), room - 1).number == 29);
     }
+    all[SALVAGE] = try_salvage(bundle, length, sample, side);
+    MUST(all[SALVAGE].number == 29 || all[NAMES].number == 29 || all[SALVAGE].number == all[NAMES].number);
     uint64_t number = take_mostly_small(in);
     all[UNIT] = unit(bundle, length, sample, number);
     try_contents(bundle, length, sample, number, side, all);
@@ -364,7 +367,7 @@ static void try_both_sides(const uint8_t *bundle, size_t length, struct input in
 int LLVMFuzzerTestOneInput(const uint8_t *data, size_t size) {
     static uint8_t built[ROOM];
     struct input in = {data, size};
-    switch (take_below(&in, 9)) {
+    switch (take_below(&in, 10)) {
     case 0:
         try_read_record(&in);
         break;
@@ -384,6 +387,9 @@ int LLVMFuzzerTestOneInput(const uint8_t *data, size_t size) {
     }
     case 4:
         try_from_stream(&in);
+        break;
+    case 5:
+        try_salvage_sample(&in);
         break;
     default: {
         struct input numbers = {in.bytes, in.left < 2 ? in.left : 2};

@@ -2,8 +2,8 @@
  * Puddockle: verified reading of inspection video, for C.
  *
  * Decoder configuration records read and written, samples checked, resolved to plain NAL units and written as a byte
- * stream, a byte stream read into a sample, what is in a recording (a bundle) told, the whole of it audited, the
- * extractors that name a sample listed.
+ * stream, a byte stream read into a sample, what is sound in a damaged sample salvaged, what is in a recording (a
+ * bundle) told, the whole of it audited, the extractors that name a sample listed.
  * Layouts are those of ISO/IEC 14496-15:2010, 5.2.4.1 and Annexes A and B, and of ISO/IEC 14496-10, Annex B.
  * docs/FORMAT.md has all rules: the bundle, records, units, resolving, and what to do about each refusal.
  *
@@ -18,8 +18,8 @@
  *   numbers. Either pointer may be NULL where the length is 0. Slices that are written to must not overlap others.
  * - Every other pointer points to one uint64_t, must not be NULL, and must not overlap anything else. All these
  *   numbers are set on every call: 0 where there is nothing to say, and on a refusal, but for *place.
- * - On a refusal the output slice is untouched and *count is 0. Where accepted, the output slice is written up to
- *   *count (puddockle_read_record: PUDDOCKLE_FIELDS) and not past it.
+ * - On a refusal every output slice is untouched and every count is 0. Where accepted, an output slice is written up to
+ *   its count (puddockle_read_record: PUDDOCKLE_FIELDS) and not past it.
  * - Any bytes and any numbers may be given: nothing needs to be checked before a call. A number that is out of
  *   range is refused, never cut.
  * - Nothing is kept between calls, nothing is allocated, no pointer is held. Functions may be called from several
@@ -37,6 +37,8 @@
  *   puddockle_stream       as puddockle_resolve
  *   puddockle_from_stream  never more bytes than stream_len + stream_len / 4; where L is 1 or 2, than stream_len
  *   puddockle_names        never more bytes than the bundle has
+ *   puddockle_salvage,     out: never more bytes than the old sample has; changes: never more than PUDDOCKLE_CHANGE for
+ *   .._salvage_sample      each L + 1 bytes of the old sample, rounded up; names: never more than the bundle has
  *
  * How time grows
  *
@@ -86,8 +88,9 @@ enum {
     PUDDOCKLE_REFUSED_RECORD_CUT = 8,               /* the track entry; 0 for a record alone */
     PUDDOCKLE_REFUSED_BAD_VERSION = 9,              /* not 1: as 8 */
     PUDDOCKLE_REFUSED_WRONG_FIXED_BITS = 10,        /* as 8 */
-    PUDDOCKLE_REFUSED_BAD_LENGTH_SIZE = 11,         /* L is 3: as 8; given to puddockle_check_sample or
-                                                       puddockle_from_stream and not 1, 2 or 4: 0 */
+    PUDDOCKLE_REFUSED_BAD_LENGTH_SIZE = 11,         /* L is 3: as 8; given to puddockle_check_sample,
+                                                       puddockle_from_stream or puddockle_salvage_sample and not 1, 2
+                                                       or 4: 0 */
     PUDDOCKLE_REFUSED_BAD_SET = 12,                 /* empty, its top bit set, or a wrong type: as 8 */
     PUDDOCKLE_REFUSED_BYTES_AFTER_RECORD = 13,      /* as 8 */
 
@@ -149,7 +152,14 @@ enum {
     PUDDOCKLE_LINE = 13,       /* bytes of an audit line: refusal 1, place 4, units delivered 8 */
     PUDDOCKLE_LINES_MOST = PUDDOCKLE_SAMPLES_MOST * PUDDOCKLE_LINE, /* bytes of the lines of any audit: 53,248 */
     PUDDOCKLE_NAMES_ENTRY = 6, /* bytes of a naming list entry: sample number 2, place 4 */
+    PUDDOCKLE_CHANGE = 5,      /* bytes of an entry of a change list: what was done 1, place 4 */
     PUDDOCKLE_SPAN = 2         /* numbers of a delivered unit: its start, its length */
+};
+
+/* What was done, in an entry of a change list. */
+enum {
+    PUDDOCKLE_CHANGE_DROP = 1,   /* the unit there is left out; at the first top-level fault, all from there on */
+    PUDDOCKLE_CHANGE_ZEROING = 2 /* the additional_bytes of the aggregator there are 0 now */
 };
 
 /*
@@ -371,6 +381,56 @@ uint32_t puddockle_from_stream(uint32_t length_size,
                                const uint8_t *stream, size_t stream_len,
                                uint8_t *out, size_t out_len,
                                uint64_t *place, uint64_t *count);
+
+/*
+ * Salvages a sample outside a bundle: writes what is sound in a damaged sample as a well-formed one.
+ *
+ * kind, length_size     of the track that it belongs to
+ * sample, sample_len    the old sample
+ * out, out_len          where the new sample goes
+ * changes, changes_len  where the change list goes: for each change, by its place, PUDDOCKLE_CHANGE_DROP or
+ *                       PUDDOCKLE_CHANGE_ZEROING in 1 byte, and in 4 bytes the offset of the unit's length field in the
+ *                       old sample
+ *
+ * Kept are the top-level units before the first top-level fault (14 to 18), but those with an inside fault 14 to 20, or
+ * a 22. In a kept aggregator additional_bytes become 0 where 21 arises, judged as if the sample ended at that first
+ * fault, or where a unit that they cover was dropped. The bytes from that fault on are one drop, at its place.
+ * Refusals, first that applies first: 4 (kind is not 0 or 1); 11 (length_size is not 1, 2 or 4); 29 (out_len or
+ * changes_len is too small, or the sample has more than 4,294,967,296 bytes, whose places do not fit the list). *place is
+ * always 0. Never 14 to 22.
+ * Accepted: *count bytes of the new sample are written, which puddockle_check_sample accepts, and *changes_count bytes
+ * of the list, none exactly if it accepts the old sample, which then comes back as it is. A new sample that is salvaged
+ * again comes back as it is. Refused: nothing is written, both counts are 0.
+ * Time: linear in the sample.
+ */
+uint32_t puddockle_salvage_sample(uint32_t kind, uint32_t length_size,
+                                  const uint8_t *sample, size_t sample_len,
+                                  uint8_t *out, size_t out_len,
+                                  uint8_t *changes, size_t changes_len,
+                                  uint64_t *place, uint64_t *count, uint64_t *changes_count);
+
+/*
+ * Salvages one sample of a bundle, and lists the extractors that name it: their offsets into it may be stale now. No
+ * extractor is rewritten, and the bundle is not changed.
+ *
+ * sample                its number, from 1
+ * out, out_len          where the new sample goes
+ * changes, changes_len  where the change list goes, as in puddockle_salvage_sample
+ * names, names_len      where the naming list of the old sample goes, as in puddockle_names
+ *
+ * Refusals, first that applies first: 1 to 13 as puddockle_check_bundle; 30 (no sample of that number); 29 (out_len,
+ * changes_len or names_len is too small). *place is an offset in the bundle for 1 to 13, else 0. Never 14 to 28.
+ * Accepted: *count and *changes_count bytes are written as puddockle_salvage_sample does with the kind and L of the
+ * sample's track, and *names_count bytes as puddockle_names does. Refused: nothing is written, all counts are 0.
+ * Time: linear in the bundle, as puddockle_names. Without the naming list puddockle_salvage_sample takes time as the
+ * sample alone.
+ */
+uint32_t puddockle_salvage(const uint8_t *bundle, size_t bundle_len,
+                           uint64_t sample,
+                           uint8_t *out, size_t out_len,
+                           uint8_t *changes, size_t changes_len,
+                           uint8_t *names, size_t names_len,
+                           uint64_t *place, uint64_t *count, uint64_t *changes_count, uint64_t *names_count);
 
 /*
  * Finds all delivered units of a sample, without a copy.

@@ -490,6 +490,9 @@ static void constants(void)
     SAME(PUDDOCKLE_LINES_MOST, 53248);
     SAME(PUDDOCKLE_NAMES_ENTRY, 6);
     SAME(PUDDOCKLE_SPAN, 2);
+    SAME(PUDDOCKLE_CHANGE, 5);
+    SAME(PUDDOCKLE_CHANGE_DROP, 1);
+    SAME(PUDDOCKLE_CHANGE_ZEROING, 2);
     SAME(PUDDOCKLE_FIELDS, 18);
     char version[32];
     snprintf(version, sizeof version, "%d.%d.%d", PUDDOCKLE_VERSION_MAJOR, PUDDOCKLE_VERSION_MINOR, PUDDOCKLE_VERSION_PATCH);
@@ -1075,6 +1078,194 @@ static void included_starts(void)
     copies(EXTRACTING, sizeof EXTRACTING, 18, 0, 26, NULL, 0, __LINE__);
 }
 
+/* What salvaging lends and sets, filled before each call. `rooms` are those of the new sample, the change list and the naming list. */
+struct salvaged {
+    uint8_t out[64], changes[64], names[64];
+    uint64_t place, count, changes_count, names_count;
+};
+
+static struct salvaged salvage(const uint8_t *bundle, size_t length, uint64_t sample, const size_t rooms[3], uint32_t number, int line)
+{
+    struct salvaged s;
+    memset(&s, FILL, sizeof s);
+    same("number", puddockle_salvage(bundle, length, sample, rooms[0] ? s.out : NULL, rooms[0], rooms[1] ? s.changes : NULL, rooms[1],
+                                     rooms[2] ? s.names : NULL, rooms[2], &s.place, &s.count, &s.changes_count, &s.names_count),
+         number, line);
+    return s;
+}
+
+static struct salvaged salvage_sample(uint32_t kind, uint32_t size, const uint8_t *sample, size_t length, const size_t rooms[3], uint32_t number, int line)
+{
+    struct salvaged s;
+    memset(&s, FILL, sizeof s);
+    same("number", puddockle_salvage_sample(kind, size, sample, length, rooms[0] ? s.out : NULL, rooms[0], rooms[1] ? s.changes : NULL, rooms[1],
+                                            &s.place, &s.count, &s.changes_count),
+         number, line);
+    s.names_count = 0;
+    return s;
+}
+
+/* Refused at that place: all counts are 0, and nothing is written. */
+static void not_salvaged(struct salvaged s, uint64_t place, int line)
+{
+    same("place", s.place, place, line);
+    same("count", s.count, 0, line);
+    same("changes_count", s.changes_count, 0, line);
+    same("names_count", s.names_count, 0, line);
+    same("untouched", untouched(s.out, sizeof s.out) && untouched(s.changes, sizeof s.changes) && untouched(s.names, sizeof s.names), 1, line);
+}
+
+/* Bytes that are expected: the new sample, the change list, the naming list. */
+struct expected {
+    const uint8_t *bytes[3];
+    size_t lengths[3];
+};
+
+/* Accepted: these bytes are written, and no others. */
+static void is_salvaged(const struct salvaged *s, const struct expected *e, int line)
+{
+    const uint8_t *written[] = { s->out, s->changes, s->names };
+    const uint64_t counts[] = { s->count, s->changes_count, s->names_count };
+    same("place", s->place, 0, line);
+    for (int i = 0; i < 3; i++) {
+        same("count", counts[i], e->lengths[i], line);
+        same("bytes", e->lengths[i] > 0 && memcmp(written[i], e->bytes[i], e->lengths[i]) != 0, 0, line);
+        same("untouched", untouched(written[i] + e->lengths[i], sizeof s->out - e->lengths[i]), 1, line);
+    }
+}
+
+#define BYTES(...) (const uint8_t[]){ __VA_ARGS__ }, sizeof (const uint8_t[]){ __VA_ARGS__ }
+#define NOTHING NULL, 0
+#define DROP(place) PUDDOCKLE_CHANGE_DROP, 0, 0, 0, place
+#define ZEROING(place) PUDDOCKLE_CHANGE_ZEROING, 0, 0, 0, place
+
+/* A sample outside a bundle gives this new sample and this change list, in exact rooms and in more; each room that is smaller is 29. The new sample is
+ * well formed, and stays as it is. */
+static void salvages(uint32_t kind, uint32_t size, const uint8_t *sample, size_t length, const uint8_t *bytes, size_t count, const uint8_t *changes,
+                     size_t changes_count, int line)
+{
+    const struct expected e = { { bytes, changes, NULL }, { count, changes_count, 0 } }, again = { { bytes, NULL, NULL }, { count, 0, 0 } };
+    for (size_t more = 0; more <= 6; more += 3) {
+        struct salvaged s = salvage_sample(kind, size, sample, length, (const size_t[]){ count + more, changes_count + more, 0 }, 0, line);
+        is_salvaged(&s, &e, line);
+    }
+    for (size_t room = 0; room < count; room++)
+        not_salvaged(salvage_sample(kind, size, sample, length, (const size_t[]){ room, 64, 0 }, 29, line), 0, line);
+    for (size_t room = 0; room < changes_count; room++)
+        not_salvaged(salvage_sample(kind, size, sample, length, (const size_t[]){ 64, room, 0 }, 29, line), 0, line);
+    uint64_t place = UNSET;
+    same("well formed", puddockle_check_sample(kind, size, bytes, count, &place), 0, line);
+    struct salvaged s = salvage_sample(kind, size, bytes, count, (const size_t[]){ count, 0, 0 }, 0, line);
+    is_salvaged(&s, &again, line);
+}
+
+static void samples_salvaged(void)
+{
+    static const uint8_t m7[] = { 0x08, 0x7E, 0x80, 0x00, 0x03, 0x00, 0x02, 0x65, 0x88 };
+    /* well formed: as they are */
+    salvages(1, 4, NOTHING, NOTHING, NOTHING, __LINE__);
+    salvages(0, 1, TWO, sizeof TWO, TWO, sizeof TWO, NOTHING, __LINE__);
+    salvages(1, 1, COVERING, sizeof COVERING, COVERING, sizeof COVERING, NOTHING, __LINE__);
+    salvages(1, 1, WHOLE, sizeof WHOLE, WHOLE, sizeof WHOLE, NOTHING, __LINE__);
+    salvages(1, 1, m7, sizeof m7, m7, sizeof m7, NOTHING, __LINE__);
+    /* the first top-level fault, 14 to 18: one drop, whatever follows */
+    salvages(0, 2, BYTES(0, 1, 9, 0), BYTES(0, 1, 9), BYTES(DROP(3)), __LINE__);
+    salvages(0, 1, BYTES(1, 9, 2, 9), BYTES(1, 9), BYTES(DROP(2)), __LINE__);
+    salvages(0, 4, BYTES(0, 0, 0, 1, 9, 0, 0, 0, 0, 0, 0, 0, 1, 9), BYTES(0, 0, 0, 1, 9), BYTES(DROP(5)), __LINE__);
+    salvages(0, 1, BYTES(1, 9, 1, 0x89, 1, 9), BYTES(1, 9), BYTES(DROP(2)), __LINE__);
+    salvages(0, 1, BYTES(1, 9, 3, 0x7F, 0x80, 0, 1, 9), BYTES(1, 9), BYTES(DROP(2)), __LINE__);
+    salvages(0, 1, BYTES(0), NOTHING, BYTES(DROP(0)), __LINE__);
+    /* inside an aggregator, and an extractor of a wrong size: the unit alone */
+    salvages(0, 1, m7, sizeof m7, NOTHING, BYTES(DROP(0)), __LINE__);
+    salvages(1, 1, BYTES(6, 0x7E, 0x80, 0, 3, 9, 0, 1, 9), BYTES(1, 9), BYTES(DROP(0)), __LINE__);
+    salvages(1, 1, BYTES(11, 0x7E, 0x80, 0, 3, 0, 5, 0x7E, 0x80, 0, 3, 0, 1, 9), BYTES(1, 9), BYTES(DROP(0)), __LINE__);
+    salvages(1, 1, SHORT, sizeof SHORT, NOTHING, BYTES(DROP(0)), __LINE__);
+    salvages(1, 1, BYTES(1, 9, 9, 0x7F, 0x80, 0, 3, 1, 0, 0, 0, 0, 1, 9), BYTES(1, 9, 1, 9), BYTES(DROP(2)), __LINE__);
+    /* additional_bytes: no border, an aggregator covered, past the sample, to the first top-level fault and past it, over a unit that is dropped */
+    salvages(1, 1, BYTES(5, 0x7E, 0x80, 0, 3, 1, 1, 9), BYTES(5, 0x7E, 0x80, 0, 3, 0, 1, 9), BYTES(ZEROING(0)), __LINE__);
+    salvages(1, 1, BYTES(5, 0x7E, 0x80, 0, 3, 6, 5, 0x7E, 0x80, 0, 3, 0), BYTES(5, 0x7E, 0x80, 0, 3, 0, 5, 0x7E, 0x80, 0, 3, 0), BYTES(ZEROING(0)), __LINE__);
+    salvages(1, 2, BYTES(0, 6, 0x7E, 0x80, 0, 3, 1, 0), BYTES(0, 6, 0x7E, 0x80, 0, 3, 0, 0), BYTES(ZEROING(0)), __LINE__);
+    salvages(1, 4, BYTES(0, 0, 0, 8, 0x7E, 0x80, 0, 3, 255, 255, 255, 244), BYTES(0, 0, 0, 8, 0x7E, 0x80, 0, 3, 0, 0, 0, 0), BYTES(ZEROING(0)), __LINE__);
+    salvages(1, 1, BYTES(5, 0x7E, 0x80, 0, 3, 2, 1, 9, 0, 1, 9), BYTES(5, 0x7E, 0x80, 0, 3, 2, 1, 9), BYTES(DROP(8)), __LINE__);
+    salvages(1, 1, BYTES(5, 0x7E, 0x80, 0, 3, 3, 1, 9, 0, 1, 9), BYTES(5, 0x7E, 0x80, 0, 3, 0, 1, 9), BYTES(ZEROING(0), DROP(8)), __LINE__);
+    salvages(1, 1, BYTES(1, 9, 5, 0x7E, 0x80, 0, 3, 10, 1, 9, 7, 0x7F, 0x80, 0, 3, 1, 0, 0, 1, 9), BYTES(1, 9, 5, 0x7E, 0x80, 0, 3, 0, 1, 9, 1, 9),
+             BYTES(ZEROING(2), DROP(10)), __LINE__);
+    /* 4, then 11, then 29 */
+    static const uint32_t KINDS[] = { 2, 3, 255, 256, 257, 0x10000, 0x80000001, UINT32_MAX };
+    static const uint32_t SIZES[] = { 0, 3, 5, 6, 8, 255, 256, 257, 258, 260, 0x10001, 0x80000004, UINT32_MAX };
+    const size_t none[3] = { 0 }, rooms[3] = { 64, 64, 64 };
+    for (size_t i = 0; i < sizeof KINDS / sizeof *KINDS; i++) {
+        not_salvaged(salvage_sample(KINDS[i], 3, TWO, sizeof TWO, none, 4, __LINE__), 0, __LINE__);
+        not_salvaged(salvage_sample(KINDS[i], 1, TWO, sizeof TWO, rooms, 4, __LINE__), 0, __LINE__);
+    }
+    for (size_t i = 0; i < sizeof SIZES / sizeof *SIZES; i++) {
+        not_salvaged(salvage_sample(1, SIZES[i], TWO, sizeof TWO, none, 11, __LINE__), 0, __LINE__);
+        not_salvaged(salvage_sample(0, SIZES[i], NULL, 0, rooms, 11, __LINE__), 0, __LINE__);
+    }
+}
+
+/* A sample of a bundle gives these three, in exact rooms and in more; each room that is smaller is 29. Each list alone is what its own call gives. */
+static void salvages_in(const uint8_t *bundle, size_t length, uint64_t sample, const uint8_t *bytes, size_t count, const uint8_t *changes,
+                        size_t changes_count, const uint8_t *names, size_t names_count, int line)
+{
+    const struct expected e = { { bytes, changes, names }, { count, changes_count, names_count } };
+    for (size_t more = 0; more <= 6; more += 3) {
+        struct salvaged s = salvage(bundle, length, sample, (const size_t[]){ count + more, changes_count + more, names_count + more }, 0, line);
+        is_salvaged(&s, &e, line);
+    }
+    for (int i = 0; i < 3; i++) {
+        for (size_t room = 0; room < e.lengths[i]; room++) {
+            size_t rooms[3] = { 64, 64, 64 };
+            rooms[i] = room;
+            not_salvaged(salvage(bundle, length, sample, rooms, 29, line), 0, line);
+        }
+    }
+    uint64_t kind, track, start, size, place, listed, unused[3];
+    uint8_t out[64];
+    same("sample", puddockle_sample(bundle, length, sample, &place, &track, unused, &start, &size), 0, line);
+    same("track", puddockle_track(bundle, length, track, &place, &kind, unused + 1, unused + 2), 0, line);
+    salvages((uint32_t)kind, 1, bundle + start, (size_t)size, bytes, count, changes, changes_count, line);
+    same("names", puddockle_names(bundle, length, sample, out, sizeof out, &place, &listed), 0, line);
+    same("names", listed == names_count && (names_count == 0 || memcmp(out, names, names_count) == 0), 1, line);
+}
+
+static void samples_salvaged_in_bundles(void)
+{
+    static const uint8_t m7[] = { 0x08, 0x7E, 0x80, 0x00, 0x03, 0x00, 0x02, 0x65, 0x88 };
+    static const uint8_t damaged[] = { 0x05, 0x7E, 0x80, 0x00, 0x03, 0x09, 0x07, 0x7F, 0x80, 0x00, 0x03, 0x01, 0x00, 0x00, 0x01, 0x09, 0x00, 0x01, 0x09 };
+    uint8_t bundle[128];
+    salvages_in(B0, sizeof B0, 1, B0 + 56, 3, NOTHING, BYTES(0, 2, 0, 0, 0, 0), __LINE__);
+    salvages_in(B0, sizeof B0, 2, B0 + 59, 9, NOTHING, NOTHING, __LINE__);
+    /* damaged: what the others name stays named; in turn it names nothing */
+    size_t length = SAMPLES(bundle, damaged, WHOLE);
+    salvages_in(bundle, length, 1, BYTES(5, 0x7E, 0x80, 0, 3, 0, 1, 9), BYTES(ZEROING(0), DROP(6), DROP(16)), BYTES(0, 2, 0, 0, 0, 2), __LINE__);
+    length = SAMPLES(bundle, TWO, NO_REFERENCE);
+    salvages_in(bundle, length, 1, TWO, sizeof TWO, NOTHING, BYTES(0, 2, 0, 0, 0, 0, 0, 2, 0, 0, 0, 27), __LINE__);
+    bundle[length] = 0;
+    bundle[51]++;
+    bundle[55]++;
+    salvages_in(bundle, length + 1, 1, TWO, sizeof TWO, NOTHING, NOTHING, __LINE__);
+    salvages_in(bundle, length + 1, 2, NO_REFERENCE, sizeof NO_REFERENCE, BYTES(DROP(sizeof NO_REFERENCE)), NOTHING, __LINE__);
+    /* the kind is that of the sample's own track */
+    length = SAMPLES(bundle, m7, m7);
+    salvages_in(bundle, length, 1, NOTHING, BYTES(DROP(0)), NOTHING, __LINE__);
+    salvages_in(bundle, length, 2, m7, sizeof m7, NOTHING, NOTHING, __LINE__);
+    /* without bytes */
+    length = with_samples(bundle, TWO, 0, WHOLE, sizeof WHOLE);
+    salvages_in(bundle, length, 1, NOTHING, NOTHING, BYTES(0, 2, 0, 0, 0, 2), __LINE__);
+
+    /* the bundle, then the number, then the rooms */
+    const size_t none[3] = { 0 }, rooms[3] = { 64, 64, 64 };
+    not_salvaged(salvage(B0, 15, 0, none, 2, __LINE__), 11, __LINE__);
+    not_salvaged(salvage(B0, sizeof B0 - 1, 1, rooms, 2, __LINE__), 52, __LINE__);
+    not_salvaged(salvage(NULL, 0, 1, rooms, 2, __LINE__), 0, __LINE__);
+    not_salvaged(salvage(too_long, sizeof too_long, 0, none, 1, __LINE__), 0, __LINE__);
+    for (size_t i = 0; i < sizeof NO_NUMBER / sizeof *NO_NUMBER; i++) {
+        not_salvaged(salvage(B0, sizeof B0, NO_NUMBER[i], none, 30, __LINE__), 0, __LINE__);
+        not_salvaged(salvage(B0, sizeof B0, NO_NUMBER[i], rooms, 30, __LINE__), 0, __LINE__);
+    }
+}
+
 int main(void)
 {
     read_records();
@@ -1093,6 +1284,8 @@ int main(void)
     streams_read_back();
     named_by_extractors();
     included_starts();
+    samples_salvaged();
+    samples_salvaged_in_bundles();
     printf("%u checks, %u failed\n", checks, failures);
     return failures != 0;
 }

@@ -1,7 +1,7 @@
 """The rules of docs/FORMAT.md in Python, for the answers of the vectors that make_contents and make_base make and of stream.txt, from_stream.txt and
-included.txt.
+included.txt, and to compare those of salvage.txt with.
 
-Written from FORMAT.md alone (`stream`, `from_stream`, `rows` and `halved` from requests [2] to [5] of document 02), plainly and not for speed. A refusal is
+Written from FORMAT.md alone (`stream`, `from_stream`, `rows`, `halved` and `salvaged` from requests [2] to [5] and [11] of document 02), plainly and not for speed. A refusal is
 the exception No, with a number and a place. `named_by` finds the base by a scan, and not by `halved`.
 """
 import re
@@ -192,6 +192,12 @@ def covered(size, data, unit):
     return unit[1] + big(data, unit[0] + size + 4, size)
 
 
+def covers_well(size, data, units, border, unit):
+    """Whether additional_bytes end on a border, which the end is too, and cover no aggregator."""
+    end = covered(size, data, unit)
+    return end in [u[0] for u in units] + [border] and not any(u[2] == 30 and unit[1] <= u[0] < end for u in units)
+
+
 def check(kind, size, data):
     """14 to 22."""
     units = parts(size, data, 0, len(data))
@@ -208,12 +214,49 @@ def check(kind, size, data):
                 if inner == 31 and last - at - size != 6 + 2 * size:
                     raise No(22, at)
                 at = last
-            end = covered(size, data, unit)
-            borders = [u[0] for u in units] + [len(data)]
-            if end not in borders or any(u[2] == 30 and unit[1] <= u[0] < end for u in units):
+            if not covers_well(size, data, units, len(data), unit):
                 raise No(21, unit[0])
         if unit[2] == 31 and unit[1] - unit[0] - size != 6 + 2 * size:
             raise No(22, unit[0])
+
+
+def is_well_formed(kind, size, data):
+    try:
+        check(kind, size, data)
+    except No:
+        return False
+    return True
+
+
+def covering_nothing(size, data, unit):
+    """The bytes of a unit, additional_bytes 0 in an aggregator."""
+    at = unit[0] + size + 4
+    return data[unit[0] : at] + bytes(size) + data[at + size : unit[1]] if unit[2] == 30 else data[unit[0] : unit[1]]
+
+
+def salvaged(kind, size, data):
+    """The new sample and the change list. A unit is dropped that is not well formed by itself, its additional_bytes 0."""
+    fault = len(data)
+    try:
+        parts(size, data, 0, fault)
+    except No as no:
+        fault = no.place
+    units = parts(size, data, 0, fault)
+    dropped = [unit[0] for unit in units if not is_well_formed(kind, size, covering_nothing(size, data, unit))]
+    new, changes = b"", []
+    for unit in units:
+        if unit[0] in dropped:
+            changes.append((1, unit[0]))
+            continue
+        over_dropped = unit[2] == 30 and any(unit[1] <= place < covered(size, data, unit) for place in dropped)
+        if unit[2] == 30 and (over_dropped or not covers_well(size, data, units, fault, unit)):
+            changes.append((2, unit[0]))
+            new += covering_nothing(size, data, unit)
+        else:
+            new += data[unit[0] : unit[1]]
+    if fault < len(data):
+        changes.append((1, fault))
+    return new, b"".join(bytes([what]) + place.to_bytes(4, "big") for what, place in changes)
 
 
 def flat(size, data, units):
@@ -371,6 +414,22 @@ def from_stream(data, size, room):
     if len(out) > room:
         raise No(29)
     return [out.hex() or "-"]
+
+
+def fitting(outputs, rooms):
+    """What is written, in hexadecimal, where each fits its room."""
+    if any(len(output) > room for output, room in zip(outputs, rooms)):
+        raise No(29)
+    return [output.hex() or "-" for output in outputs]
+
+
+def salvage(data, kind, size, *rooms):
+    """A sample salvaged outside a bundle."""
+    if kind not in (0, 1):
+        raise No(4)
+    if size not in (1, 2, 4):
+        raise No(11)
+    return fitting(salvaged(kind, size, data), rooms)
 
 
 def named(data, number, place):

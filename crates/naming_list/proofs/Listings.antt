@@ -7,16 +7,22 @@
 --   Putting, putting-start, -none, -some, -end    a loop that writes
 --   list-few                              the list is not too long for its numbers
 --   names-number, names-room, names-listed    what the call on a recording answers
+--   counts-bad, counts-good               what is kept in the table, by the number
+--   names-beside, names-unfit             the call by a bundle and a table: these fit, or do not
 --   call-filled                           the call by a table that was filled
 use Prim.Native.Nat.{ℕ, zero, suc, _+_, _-_, _*_, _≤_, _<_}
-use mathlib.Core.Path.{_≡_, refl, ap, sym, _∙_}
+use mathlib.Core.Path.{_≡_, refl, ap, ap₂, sym, _∙_}
 use mathlib.Core.List.{List, [], _∷_, _++_, map, append-nil}
+use mathlib.Core.Logic.{_⊎_, inl, inr}
+use mathlib.Core.Bool.{true, _||_}
 use native.Mathlib.Omega.{arith}
 use native.Mathlib.Nat.{suc-mul}
-use borrow.Author.Tests.{eqb-true, eqb-false, leb-true, leb-false}
+use native.Mathlib.Numerals.{add-one}
+use borrow.Author.Tests.{eqb-true, eqb-false, eq-eqb, ne-eqb, leb-true, leb-false, lt-ltb, le-ltb}
 use lib.Dec.{eqb, leb}
 use lib.ListN.{length, length-append, length-map, length-set}
-use Rattle.words.specs.RefusalNumbers.{outputTooLong}
+use Rattle.words.specs.Tests.{_<?_}
+use Rattle.words.specs.RefusalNumbers.{outputTooLong, bundleTooLong}
 use Rattle.words.specs.Refusals.{refused, ok}
 use Rattle.words.specs.Lists.{each, upto}
 use Rattle.words.specs.Buffers.{writeAt, overwrite, within}
@@ -44,6 +50,7 @@ use Rattle.resolution_rules.proofs.Sizes.{units-count}
 use Rattle.delivery.proofs.Folds.{content-most}
 use Rattle.naming_list_rules.specs.Naming.{Namer, namer, namesSample, namersIn, namingList, listEntrySize, listBytes, names, namesCall}
 use Rattle.naming_list_rules.proofs.Listing.{list-size}
+use Rattle.naming_list.specs.Steps.{countsUpto, countsFor, namesIn, tableIn}
 use Rattle.naming_list.proofs.Namers.{namers-not, list-none, list-append}
 
 module _ (r : Recording) (s : ℕ) where
@@ -123,8 +130,10 @@ module _ (b t₀ : List ℕ) (s : ℕ) where
     pub number : count ≡ length (sofar (recordingIn b t₀) s n)
     pub counts : (m : ℕ) → 0 < m → m ≤ n → keptCountIn t m ≡ length (namersIn (recordingIn b t₀) s m)
     pub few : count ≤ n * bundleMost
+    pub table : t ≡ countsUpto b t₀ s n
 
   pub counting-start : Counting 0 0 t₀
+  unfolding countsUpto
   counting-start =
       record {
         recording = refl;
@@ -134,6 +143,7 @@ module _ (b t₀ : List ℕ) (s : ℕ) where
         number = ap length (sym (sofar-none R s));
         counts = λ m h l. absurd (omega arith);
         few = omega arith;
+        table = refl;
       }
 
   module _ (n count : ℕ) (t : List ℕ) (c : Counting n count t) (h : n < sampleCount (layoutIn t₀)) (short : length b ≤ bundleMost) {f : ℕ} (e : f ≡ length (namersIn (recordingIn b t) s (n + 1))) where
@@ -172,15 +182,23 @@ module _ (b t₀ : List ℕ) (s : ℕ) where
               let v = eqb-false m (n + 1) q in
               kept-count-other t (n + 1) m f v ∙ c .counts m i (let o : m ≡ n + 1 → ⊥ = v in by-bool (leb m n) (λ y. leb-true m n y) (λ y. let x = leb-false m n y in absurd (o (omega arith)))));
           few = a .1;
+          table = kept-next;
         }
+      where
+        step : withKeptCount (countsUpto b t₀ s n) (n + 1) (length (namersIn R s (n + 1))) ≡ countsUpto b t₀ s (n + 1)
+        step = unfold countsUpto in rw (add-one n)
+
+        kept-next : withKeptCount t (n + 1) f ≡ countsUpto b t₀ s (n + 1)
+        kept-next = ap₂ (λ (u : List ℕ) (v : ℕ). withKeptCount u (n + 1) v) (c .table) found ∙ step
 
   pub counting-end : (n count : ℕ) (t : List ℕ) → Counting n count t → sampleCount (layoutIn t₀) ≤ n →
       (count ≡ length (namingList (recordingIn b t₀) s)) × (recordingIn b t ≡ recordingIn b t₀) × ((m : ℕ) → 0 < m → m ≤ sampleCount (layoutIn t₀) → keptCountIn t m ≡ length (namersIn (recordingIn b t₀) s m))
+      × (t ≡ countsUpto b t₀ s (sampleCount (layoutIn t₀)))
   unfolding recordingIn
   counting-end n count t c h =
       let i = c .inside in
       let e : n ≡ sampleCount (layoutIn t₀) = omega arith in
-      (c .number ∙ ap (λ (k : ℕ). length (sofar R s k)) e ∙ ap length (sofar-all R s), c .recording, λ m p q. c .counts m p (omega arith))
+      (c .number ∙ ap (λ (k : ℕ). length (sofar R s k)) e ∙ ap length (sofar-all R s), c .recording, (λ m p q. c .counts m p (omega arith)), c .table ∙ ap (countsUpto b t₀ s) e)
 
 -- A loop over the samples that has come behind sample n: the entries of the samples so far are written over the start of o, up to `at`.
 module _ (r : Recording) (s : ℕ) (o : List ℕ) where
@@ -274,6 +292,27 @@ module _ (r : Recording) (s room : ℕ) where
     pub names-listed : length (listBytes (namingList r s)) ≤ room → within room (names r s) ≡ ok (listBytes (namingList r s))
     unfolding names
     names-listed h = rw g (within-room room (listBytes (namingList r s)) h)
+
+-- what is kept in the table
+module _ (b t : List ℕ) (s : ℕ) where
+  pub counts-bad : {f : ℕ} → f ≡ numberFault (sampleCount (layoutIn t)) s → (f ≡ 0 → ⊥) → t ≡ countsFor b t s
+  unfolding countsFor
+  counts-bad e h = rw (← e, ne-eqb _ 0 h)
+
+  pub counts-good : numberFault (sampleCount (layoutIn t)) s ≡ 0 → countsUpto b t s (sampleCount (layoutIn t)) ≡ countsFor b t s
+  unfolding countsFor
+  counts-good e = rw (eq-eqb _ 0 e)
+
+-- the call by a bundle and a table
+module _ (b t : List ℕ) (s room : ℕ) where
+  pub names-beside : length b ≤ bundleMost → tableMost ≤ length t → (namesIn b t s room ≡ within room (names (recordingIn b t) s)) × (tableIn b t s ≡ countsFor b t s)
+  unfolding namesIn tableIn
+  names-beside h l = (rw (le-ltb _ _ h, le-ltb _ _ l), rw (le-ltb _ _ h, le-ltb _ _ l))
+
+  pub names-unfit : (bundleMost < length b) ⊎ (length t < tableMost) → (namesIn b t s room ≡ refused bundleTooLong 0) × (tableIn b t s ≡ t)
+  unfolding namesIn tableIn
+  names-unfit (inl l) = (rw (lt-ltb _ _ l), rw (lt-ltb _ _ l))
+  names-unfit (inr l) = by-bool (bundleMost <? length b) (λ u. (rw u, rw u)) (λ u. (rw (u, lt-ltb _ _ l), rw (u, lt-ltb _ _ l)))
 
 -- the call by a table that was filled
 module _ (b t : List ℕ) (done : filling firstLayout b (length t) ≡ Done) where

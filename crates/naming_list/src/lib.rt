@@ -15,7 +15,7 @@ ghost use Rattle.bundles.specs.Readers.{firstLayout};
 ghost use Rattle.tables.specs.Tables.{tableMost, layoutIn, recordingIn, keptCountIn};
 ghost use Rattle.naming_list_rules.specs.Naming.{namer, namersIn, namingList, listEntrySize, listBytes, names, namesCall};
 ghost use Rattle.naming_list.specs.Entries.{listEntryIn};
-ghost use Rattle.naming_list.specs.Steps.{namesWith, namesAt, namersFrom, listMost, withEntry};
+ghost use Rattle.naming_list.specs.Steps.{namesWith, namesAt, namersFrom, listMost, withEntry, countsUpto, countsFor, namesIn, tableIn};
 use filling::Filled;
 use links::Named;
 use numbers::ByteOffset;
@@ -169,7 +169,8 @@ fn count_all(b: &[u8], t: &mut [u64], s: SampleNumber) -> usize
     requires { ⌜ (length (now b) ≤ bundleMost) × (tableMost ≤ length (now t)) ⌝ }
     ensures { λ r. ⌜ (r ≡ length (namingList (recordingIn (now (b .entry)) (now (t .entry))) (s .0)))
         × (recordingIn (now (b .entry)) (now (t .exit)) ≡ recordingIn (now (b .entry)) (now (t .entry)))
-        × ((m : ℕ) → 0 < m → m ≤ sampleCount (layoutIn (now (t .entry))) → keptCountIn (now (t .exit)) m ≡ length (namersIn (recordingIn (now (b .entry)) (now (t .entry))) (s .0) m)) ⌝ }
+        × ((m : ℕ) → 0 < m → m ≤ sampleCount (layoutIn (now (t .entry))) → keptCountIn (now (t .exit)) m ≡ length (namersIn (recordingIn (now (b .entry)) (now (t .entry))) (s .0) m))
+        × (now (t .exit) ≡ countsUpto (now (b .entry)) (now (t .entry)) (s .0) (sampleCount (layoutIn (now (t .entry))))) ⌝ }
 {
     let total = sample_tables::sample_count(t);
     let mut count: usize = 0;
@@ -218,7 +219,8 @@ fn refused(number: u8) -> Written
 fn list_sample(b: &[u8], t: &mut [u64], s: SampleNumber, out: &mut [u8]) -> Written
     requires { ⌜ (length (now b) ≤ bundleMost) × (tableMost ≤ length (now t)) ⌝ }
     ensures { λ r. ⌜ Wrote (now (out .entry)) (now (out .exit)) (answerOf r)
-        (within (length (now (out .entry))) (names (recordingIn (now (b .entry)) (now (t .entry))) (s .0))) ⌝ }
+        (within (length (now (out .entry))) (names (recordingIn (now (b .entry)) (now (t .entry))) (s .0)))
+        × (now (t .exit) ≡ countsFor (now (b .entry)) (now (t .entry)) (s .0)) ⌝ }
 {
     let fault = judging::number_fault(sample_tables::sample_count(t), s.0);
     if fault != 0 {
@@ -231,6 +233,21 @@ fn list_sample(b: &[u8], t: &mut [u64], s: SampleNumber, out: &mut [u8]) -> Writ
     }
     put_list(out, b, t, s);
     Written::Count(size)
+}
+
+// The same by a bundle and any table beside it, in which the counts are kept. A bundle too long, or a table too short for any bundle, is refused
+// first.
+pub fn names_in(b: &[u8], t: &mut [u64], s: SampleNumber, out: &mut [u8]) -> Written
+    ensures { λ r. ⌜ Wrote (now (out .entry)) (now (out .exit)) (answerOf r) (namesIn (now (b .entry)) (now (t .entry)) (s .0) (length (now (out .entry))))
+        × (now (t .exit) ≡ tableIn (now (b .entry)) (now (t .entry)) (s .0)) ⌝ }
+{
+    if bundles::BUNDLE_MOST < b.len() {
+        return refused(refusals::BUNDLE_TOO_LONG);
+    }
+    if t.len() < tables::TABLE_SIZE {
+        return refused(refusals::BUNDLE_TOO_LONG);
+    }
+    list_sample(b, t, s, out)
 }
 
 // The extractors that name sample s: 1 to 13, 30, 29; or the list over the start of the buffer, 6 bytes an extractor, and how many bytes

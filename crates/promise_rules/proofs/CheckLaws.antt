@@ -24,17 +24,17 @@ use Rattle.promise_rules.specs.Refused.{CheckRefused}
 use Rattle.promise_rules.proofs.SampleLaws.{formed-rules, rules-formed}
 use Rattle.promise_rules.proofs.SampleFaultLaws.{form-refused, by-form}
 
-abbrev IsKind : ℕ → Kind → Type 0
+abbrev pub IsKind : ℕ → Kind → Type 0
 IsKind kind k = ((kind ≡ 0) × (k ≡ Avc)) ⊎ ((kind ≡ 1) × (k ≡ Svc))
 
-kind-known : (kind : ℕ) (k : Kind) → IsKind kind k → kindOf kind ≡ kinds.Known k
+pub kind-known : (kind : ℕ) (k : Kind) → IsKind kind k → kindOf kind ≡ kinds.Known k
 kind-known kind k (inl w) = rw (w .0, w .1)
 kind-known kind k (inr w) = rw (w .0, w .1)
 
-kind-unknown : (kind : ℕ) → (kind ≡ 0 → ⊥) → (kind ≡ 1 → ⊥) → kindOf kind ≡ kinds.Unknown
+pub kind-unknown : (kind : ℕ) → (kind ≡ 0 → ⊥) → (kind ≡ 1 → ⊥) → kindOf kind ≡ kinds.Unknown
 kind-unknown kind a b = rw (ne-eqb kind 0 a, ne-eqb kind 1 b)
 
-by-kind : {G : Type 0} (kind : ℕ) → ((k : Kind) → IsKind kind k → G) → ((kind ≡ 0 → ⊥) → (kind ≡ 1 → ⊥) → G) → G
+pub by-kind : {G : Type 0} (kind : ℕ) → ((k : Kind) → IsKind kind k → G) → ((kind ≡ 0 → ⊥) → (kind ≡ 1 → ⊥) → G) → G
 by-kind kind f g = by-bool (kind ≡? 0)
     (λ t. f Avc (inl (eqb-true _ _ t, refl)))
     (λ t. by-bool (kind ≡? 1)
@@ -57,7 +57,7 @@ by-size l f g = by-bool (l ≡? 1)
     (λ m. ⊎-elim (eqb-false _ _ t) (λ n. ⊎-elim (eqb-false _ _ u) (λ k. ⊎-elim (eqb-false _ _ v) (λ j. absurd (List·Memᴰ·not-nil j)) (List·Memᴰ·cases-cons k)) (List·Memᴰ·cases-cons n)) (List·Memᴰ·cases-cons m))
     (rw (t, u, v)))))
 
-size-none : (l : ℕ) → (l ∈ (1 ∷ 2 ∷ 4 ∷ []) → ⊥) → lengthSizeOf l ≡ sizes.Unknown
+pub size-none : (l : ℕ) → (l ∈ (1 ∷ 2 ∷ 4 ∷ []) → ⊥) → lengthSizeOf l ≡ sizes.Unknown
 size-none l h = by-bool (l ≡? 1)
     (λ t. absurd (h (List·Memᴰ·head (eqb-true _ _ t))))
     (λ t. by-bool (l ≡? 2)
@@ -76,11 +76,11 @@ module _ (kind l : ℕ) (s : List ℕ) where
   no-size : (k : Kind) → IsKind kind k → (l ∈ (1 ∷ 2 ∷ 4 ∷ []) → ⊥) → checkAlone kind l s ≡ refused 11 0
   no-size k h u = rw (kind-known kind k h, size-none l u)
 
-  one-kind : (k : Kind) → IsKind kind k → (kind ≡ 0) ⊎ (kind ≡ 1)
+  pub one-kind : (k : Kind) → IsKind kind k → (kind ≡ 0) ⊎ (kind ≡ 1)
   one-kind k (inl w) = inl (w .0)
   one-kind k (inr w) = inr (w .0)
 
-  kind-one : (kind ≡ 0) ⊎ (kind ≡ 1) → (k : Kind) × IsKind kind k
+  pub kind-one : (kind ≡ 0) ⊎ (kind ≡ 1) → (k : Kind) × IsKind kind k
   kind-one (inl e) = (Avc, inl (e, refl))
   kind-one (inr e) = (Svc, inr (e, refl))
 

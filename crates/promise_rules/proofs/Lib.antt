@@ -26,4 +26,6 @@ pub mod StandLaws
 pub mod NamedLaws
 pub mod StreamLaws
 pub mod FromStreamLaws
+pub mod FateLaws
+pub mod SalvageLaws
 pub mod Cited

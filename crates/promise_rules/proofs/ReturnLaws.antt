@@ -56,7 +56,7 @@ use Rattle.promise_rules.proofs.RefusedLaws as refusals
 use Rattle.promise_rules.proofs.CheckLaws as checks
 
 -- a number of the table
-in-table : (m : ℕ) → some (λ k. m ≡? k) refusalNumbers ≡ true → m ∈ refusalNumbers
+pub in-table : (m : ℕ) → some (λ k. m ≡? k) refusalNumbers ≡ true → m ∈ refusalNumbers
 in-table m e = has-from m refusalNumbers e
 
 of-bundle : {m : ℕ} → m ∈ bundleRefusals → m ∈ refusalNumbers
@@ -88,7 +88,7 @@ sample-number : {r : Recording} {n m p : ℕ} → SampleRefused r n m p → m �
 sample-number {r} {n} (SampleRefused.form h l w) = form-number (sampleOf r n) w
 sample-number (SampleRefused.extractor h l w) = extractor-number (w .fault)
 
-bundle-number : (b : List ℕ) → Bytes b → {m p : ℕ} → BundleRefused b m p → m ∈ refusalNumbers
+pub bundle-number : (b : List ℕ) → Bytes b → {m p : ℕ} → BundleRefused b m p → m ∈ refusalNumbers
 bundle-number b g {m} {p} w = of-bundle (refusals-within b m p (by-bundle b g w) .number)
 
 resolve-number : (b : List ℕ) → Bytes b → {n room m p : ℕ} → ResolveRefused b n room m p → m ∈ refusalNumbers

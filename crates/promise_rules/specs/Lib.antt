@@ -9,6 +9,7 @@
 --   Refused     with which number, and where, a call is refused
 --   Returns     which answers the C functions give back
 --   Streams     a sample as a byte stream
+--   Salvaging   what becomes of a damaged sample
 --   Contents    what is told of what a bundle holds
 pub mod Records
 pub mod Reading
@@ -25,4 +26,5 @@ pub mod Audits
 pub mod Refused
 pub mod Returns
 pub mod Streams
+pub mod Salvaging
 pub mod Contents

@@ -2,20 +2,22 @@
 --
 --   returned      number and place
 --   output        and count and buffer
+--   outputs       the same of several buffers
 --   part          and a part of the bundle
 --   tally         the three numbers of a tally
 --   counts, track, reference, sample, named    what a bundle holds
 use Prim.Native.Nat.{ℕ}
 use mathlib.Core.Path.{_≡_, refl, ap, _∙_}
-use mathlib.Core.List.{List}
+use mathlib.Core.List.{List, map}
+use lib.ListN.{length}
 use Rattle.words.specs.Refusals.{Answer, refused, ok, numberOf, placeOf, countOf}
-use Rattle.words.specs.Buffers.{counted, Wrote}
+use Rattle.words.specs.Buffers.{counted, Wrote, countedAll, WroteAll}
 use Rattle.numbers.specs.Kinds.{numberOfKind}
 use Rattle.bundles.specs.Parts.{BundlePart}
 use Rattle.bundles.specs.Recordings.{Reference}
 use Rattle.contents.specs.Contents.{Counts, TrackEntry, SampleEntry}
 use Rattle.tally.specs.declared.Tally.{Tally}
-use Rattle.puddockle.specs.Returns.{Returned, ReturnedOutput, ReturnedPart, told, ReturnedTally, ReturnedCounts, ReturnedTrack, ReturnedReference, ReturnedSample, ReturnedNamed}
+use Rattle.puddockle.specs.Returns.{Returned, ReturnedOutput, ReturnedOutputs, allCounts, ReturnedPart, told, ReturnedTally, ReturnedCounts, ReturnedTrack, ReturnedReference, ReturnedSample, ReturnedNamed}
 
 pub returned : {A : Type 0} {n p : ℕ} {r a : Answer A} → r ≡ a → n ≡ numberOf r → p ≡ placeOf r → Returned n p a
 returned e f g = record { number = f ∙ ap numberOf e; place = g ∙ ap placeOf e }
@@ -34,6 +36,33 @@ output {a = a} w f g h =
       returned = record { number = f ∙ ap numberOf (w .answer) ∙ counted-number a; place = g ∙ ap placeOf (w .answer) ∙ counted-place a };
       count = h ∙ ap countOf (w .answer);
       buffer = w .buffer;
+    }
+
+-- the counts of an answer of the function below
+abbrev pub countsBy : List (List ℕ) → Answer (List ℕ) → List ℕ
+countsBy os (refused n p) = map (λ o. 0) os
+countsBy os (ok cs) = cs
+
+all-number : (a : Answer (List (List ℕ))) → numberOf (countedAll a) ≡ numberOf a
+all-number (refused n p) = refl
+all-number (ok outs) = refl
+
+all-place : (a : Answer (List (List ℕ))) → placeOf (countedAll a) ≡ placeOf a
+all-place (refused n p) = refl
+all-place (ok outs) = refl
+
+all-counts : (os : List (List ℕ)) (a : Answer (List (List ℕ))) → countsBy os (countedAll a) ≡ allCounts os a
+all-counts os (refused n p) = refl
+all-counts os (ok outs) = refl
+
+pub outputs :
+    {n p : ℕ} {cs : List ℕ} {os os' : List (List ℕ)} {r : Answer (List ℕ)} {a : Answer (List (List ℕ))} →
+    WroteAll os os' r a → n ≡ numberOf r → p ≡ placeOf r → cs ≡ countsBy os r → ReturnedOutputs n p cs os os' a
+outputs {os = os} {a = a} w f g h =
+    record {
+      returned = record { number = f ∙ ap numberOf (w .answers) ∙ all-number a; place = g ∙ ap placeOf (w .answers) ∙ all-place a };
+      counts = h ∙ ap (countsBy os) (w .answers) ∙ all-counts os a;
+      buffers = w .buffers;
     }
 
 pub part : {n p start size : ℕ} {r a : Answer BundlePart} → r ≡ a → n ≡ numberOf r → p ≡ placeOf r → start ≡ told (λ u. u .start) r → size ≡ told (λ u. u .size) r → ReturnedPart n p start size a

@@ -2,6 +2,7 @@
 --
 --   Returned n p a                    the result n and the place p are those of the answer a
 --   ReturnedOutput n p c o o' a       and the count c is how many bytes or numbers it is; the lent slice o is left as o'
+--   ReturnedOutputs n p cs os os' a   the same of several lent slices, with their counts
 --   told f a                          the number f of what an answer tells
 --   ReturnedPart n p start size a     and these are the start and size of a part of the bundle
 --   ReturnedTally x y z a             x, y and z are the three numbers of a tally
@@ -9,9 +10,10 @@
 --   ReturnedNamed n p sample a        and this is the sample that an extractor names
 use Prim.Native.Nat.{ℕ}
 use mathlib.Core.Path.{_≡_}
-use mathlib.Core.List.{List}
+use mathlib.Core.List.{List, map}
+use lib.ListN.{length}
 use Rattle.words.specs.Refusals.{Answer, refused, ok, numberOf, placeOf, countOf}
-use Rattle.words.specs.Buffers.{counted, leaves}
+use Rattle.words.specs.Buffers.{counted, leaves, leavesAll}
 use Rattle.numbers.specs.Kinds.{numberOfKind}
 use Rattle.bundles.specs.Parts.{BundlePart}
 use Rattle.bundles.specs.Recordings.{Reference}
@@ -26,6 +28,16 @@ pub record ReturnedOutput (n p c : ℕ) (o o' : List ℕ) (a : Answer (List ℕ)
   pub returned : Returned n p a
   pub count : c ≡ countOf (counted a)
   pub buffer : o' ≡ leaves o a
+
+-- a count for each slice: all 0 after a refusal
+abbrev pub allCounts : List (List ℕ) → Answer (List (List ℕ)) → List ℕ
+allCounts os (refused n p) = map (λ o. 0) os
+allCounts os (ok outs) = map length outs
+
+pub record ReturnedOutputs (n p : ℕ) (cs : List ℕ) (os os' : List (List ℕ)) (a : Answer (List (List ℕ))) : Type 0 where
+  pub returned : Returned n p a
+  pub counts : cs ≡ allCounts os a
+  pub buffers : os' ≡ leavesAll os a
 
 abbrev pub told : {A : Type 0} → (A → ℕ) → Answer A → ℕ
 told f (refused n p) = 0

@@ -5,4 +5,5 @@ mod entries;
 mod numbered;
 mod record;
 mod report;
+mod salvaged;
 mod sample;

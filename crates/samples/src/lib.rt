@@ -21,8 +21,8 @@ pub enum Checked {
     Refused(Refusal),
 }
 
-// The first walk: 14 to 18 of the top-level units.
-fn check_top(k: Track, s: &[u8]) -> Checked
+// The first walk, 14 to 18 of the top-level units: the first top-level fault, if there is one.
+pub fn check_top(k: Track, s: &[u8]) -> Checked
     ensures { λ r. ⌜ answerOf r ≡ topVerdict (sample k (now (s .entry))) ⌝ }
 {
     let l = k.length_size;

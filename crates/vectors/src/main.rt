@@ -13,6 +13,7 @@ mod record;
 mod replace;
 mod request;
 mod resolve;
+mod salvaged;
 mod unit;
 mod writerec;
 
@@ -46,6 +47,8 @@ fn answer(buffer: &[u8; 65536], n: usize) {
         17 => resolve::stream(fields),
         18 => from_stream::answer(fields),
         19 => base::answer(fields),
+        20 => salvaged::sample(fields),
+        21 => salvaged::bundle(fields),
         _ => print::line(b"unknown request"),
     }
 }

@@ -8,6 +8,7 @@
 //! | `bench contents [ROUNDS]` | what is in a bundle, and where units stand |
 //! | `bench streams [ROUNDS]` | samples written as byte streams |
 //! | `bench unstream [ROUNDS]` | byte streams read into samples |
+//! | `bench salvage [ROUNDS]` | damaged samples salvaged |
 //!
 //! The best of the rounds counts. What library and peer answer and write is compared.
 
@@ -17,6 +18,7 @@ mod bundle;
 mod contents;
 mod hostile;
 mod resolve;
+mod salvage;
 mod streams;
 mod unstream;
 
@@ -36,7 +38,8 @@ fn main() {
         "contents" => contents::run(rounds),
         "streams" => streams::run(rounds),
         "unstream" => unstream::run(rounds),
-        other => panic!("no call `{other}`: audit, resolve, base, contents, streams, unstream"),
+        "salvage" => salvage::run(rounds),
+        other => panic!("no call `{other}`: audit, resolve, base, contents, streams, unstream, salvage"),
     }
 }
 

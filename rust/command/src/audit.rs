@@ -139,12 +139,10 @@ fn report<'a>(file: &OsStr, all: bool) -> (Value<'a>, Status) {
     let samples: Vec<Value> = audited.numbered().map(|(number, line)| sample_value(&bundle, number, line)).collect();
     let mut dependents = Dependents::of(&bundle, &audited, all);
     let lists: Vec<Value> = dependents.by_ref().map(dependents_value).collect();
-    let Tally { passed, empty, refused } = audited.tally;
-    let tally = [("passed", passed), ("empty", empty), ("refused", refused)];
     fields.extend([
         ("refusal", Value::Null),
         ("samples", Value::list(samples.into_iter())),
-        ("tally", Value::Object(tally.map(|(name, count)| (name, Value::Number(count))).into())),
+        ("tally", tally_value(audited.tally)),
         ("dependents", Value::list(lists.into_iter())),
         ("dependents_cut_at", dependents.cut().map_or(Value::Null, |SampleNumber(number)| Value::Number(number))),
     ]);
@@ -157,7 +155,8 @@ fn with_nothing<'a>(mut fields: Vec<(&'static str, Value<'a>)>) -> Vec<(&'static
     fields
 }
 
-fn sample_value<'a>(bundle: &[u8], number: SampleNumber, line: &AuditLine) -> Value<'a> {
+/// A sample in a document.
+pub fn sample_value<'a>(bundle: &[u8], number: SampleNumber, line: &AuditLine) -> Value<'a> {
     let (outcome, no) = match &line.outcome {
         Outcome::Passed => ("passed", None),
         Outcome::Empty => ("empty", None),
@@ -175,6 +174,12 @@ fn sample_value<'a>(bundle: &[u8], number: SampleNumber, line: &AuditLine) -> Va
         ("refusal", Value::refusal(no)),
         ("names_sample", named.map_or(Value::Null, |SampleNumber(named)| Value::Number(named))),
     ])
+}
+
+/// A tally in a document.
+pub fn tally_value<'a>(Tally { passed, empty, refused }: Tally) -> Value<'a> {
+    let tally = [("passed", passed), ("empty", empty), ("refused", refused)];
+    Value::Object(tally.map(|(name, count)| (name, Value::Number(count))).into())
 }
 
 fn dependents_value<'a>((number, samples): (SampleNumber, Vec<u64>)) -> Value<'a> {

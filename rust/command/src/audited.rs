@@ -26,7 +26,7 @@ impl Audited {
         (1..).map(SampleNumber).zip(&self.lines)
     }
 
-    fn refused(&self) -> impl Iterator<Item = SampleNumber> + '_ {
+    pub fn refused(&self) -> impl Iterator<Item = SampleNumber> + '_ {
         self.numbered().filter(|(_, line)| matches!(line.outcome, Outcome::Refused(_))).map(|(number, _)| number)
     }
 

@@ -14,7 +14,8 @@ A refusal, 1 to 34, in words: the rule, what it means at the bench, what to do.
 The causes are likely ones, not proved. 1 to 13 stop a whole recording or
 record, 14 to 22 are faults in a sample itself, 23 to 28 in what it borrows,
 29 to 31 in a call. With 32 a sample cannot be written as a byte stream, with 33
-and 34 a byte stream cannot be written as a sample.
+and 34 a byte stream cannot be written as a sample. What is sound in a recording
+with 14 to 22, or that ends too early (2), puddockle salvage writes anew.
 
 Status: 0 printed; 2 wrong use.
 ";

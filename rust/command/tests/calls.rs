@@ -317,7 +317,7 @@ fn unit_types() {
     assert_eq!(told, names);
 }
 
-const CALLS: [&str; 8] = ["audit", "names", "units", "stream", "unstream", "tracks", "record", "explain"];
+const CALLS: [&str; 9] = ["audit", "names", "units", "stream", "unstream", "salvage", "tracks", "record", "explain"];
 
 #[test]
 fn help_and_version() {
@@ -353,7 +353,7 @@ fn man_page() {
             options += 1;
         }
     }
-    assert_eq!(options, 19);
+    assert_eq!(options, 24);
 }
 
 /// Wrong use: a message, nothing printed, status 2.
@@ -402,6 +402,15 @@ fn wrong_use() {
         &["unstream", bench, "--length-size", "4", "--length-size=4"],
         &["unstream", bench, "--length-size", "4", "--force"],
         &["unstream", bench, "--length-size", "4", "--json"],
+        &["salvage"],
+        &["salvage", bench],
+        &["salvage", bench, "-o"],
+        &["salvage", bench, "-o", "-"],
+        &["salvage", bench, "-o-", "--force"],
+        &["salvage", bench, "--list"],
+        &["salvage", bench, "--list", "--json", "-o", "/no/such"],
+        &["salvage", bench, "1", "-o", "/no/such"],
+        &["salvage", bench, "-o", "/no/such", "-o", "/no/such"],
         &["tracks"],
         &["tracks", bench, bench],
         &["tracks", "--json=yes", bench],

@@ -24,6 +24,7 @@ fn what_cannot_be_read() {
         &["units", "FILE", "1"],
         &["stream", "FILE"],
         &["unstream", "FILE", "--length-size", "4"],
+        &["salvage", "FILE", "-o", "/no/such"],
         &["tracks", "FILE"],
         &["record", "FILE", "--kind", "avc"],
     ] {

@@ -9,24 +9,32 @@ use common::*;
 #[test]
 fn examples_of_the_description() {
     let text = std::fs::read_to_string(root().join("docs/JSON.md")).unwrap();
+    let folder = Folder::new();
+    let salvaged = folder.0.join("salvaged.bin");
+    let salvaged = salvaged.to_str().unwrap();
     let mut compared = 0;
     for block in text.split("```\n$ puddockle ").skip(1) {
         let (line, rest) = block.split_once('\n').unwrap();
         let (expected, _) = rest.split_once("```").unwrap();
-        let ran = run(line.split(' '));
-        assert_eq!(ran.text(), expected, "{line}");
+        // What is written is not written here.
+        let ran = run(line.replace("salvaged.bin", salvaged).split(' '));
+        assert_eq!(ran.text().replace(salvaged, "salvaged.bin"), expected, "{line}");
         parse(expected);
         compared += 1;
     }
-    assert_eq!(compared, 5);
+    assert_eq!(compared, 6);
 }
 
 /// Every name that a document has stands in the description.
 #[test]
 fn names_are_described() {
     let text = std::fs::read_to_string(root().join("docs/JSON.md")).unwrap();
+    let folder = Folder::new();
+    let [out, cut_out] = ["out", "cut_out"].map(|name| folder.0.join(name).into_os_string().into_string().unwrap());
     let documents = [
-        &["audit", "--json", "examples/damaged.bin", "no/such.bin"][..],
+        &["salvage", "--json", "tests/recordings/damaged/m145_17_25.bin", "-o", &out][..],
+        &["salvage", "--json", "tests/recordings/damaged/m005_2.bin", "-o", &cut_out],
+        &["audit", "--json", "examples/damaged.bin", "no/such.bin"],
         &["names", "--json", "examples/damaged.bin", "5"],
         &["units", "--json", "examples/damaged.bin", "7"],
         &["tracks", "--json", "examples/damaged.bin"],
@@ -78,6 +86,8 @@ fn refusals() {
     let folder = Folder::new();
     let cut = folder.file("cut", &[2]);
     let cut = cut.to_str().unwrap();
+    let out = folder.0.join("out");
+    let out = out.to_str().unwrap();
     for (good, bad) in [
         (&["audit", "examples/bench.bin"][..], &["audit", cut][..]),
         (&["names", "examples/bench.bin", "1"], &["names", "examples/bench.bin", "3"]),
@@ -85,6 +95,7 @@ fn refusals() {
         (&["units", "examples/bench.bin", "1"], &["units", "examples/bench.bin", "0"]),
         (&["units", "examples/bench.bin", "1"], &["units", "examples/bench.bin", "1", "--unit", "2"]),
         (&["units", "examples/bench.bin", "1"], &["units", "examples/damaged.bin", "5"]),
+        (&["salvage", "examples/bench.bin", "-o", out], &["salvage", cut, "-o", "/no/such"]),
         (&["tracks", "examples/bench.bin"], &["tracks", cut]),
         (
             &["record", "tests/recordings/records/gpac_l1_mp4_avc1.avcc", "--kind", "avc"],

@@ -146,6 +146,90 @@ fn streams_too_long() {
     assert_eq!(folder.names(), ["stream"]);
 }
 
+/// Salvages a bundle in short time.
+fn salvages(folder: &Folder, bundle: &[u8], words: &str) -> Ran {
+    folder.file("b.bin", bundle);
+    let start = Instant::now();
+    let ran = shell(&format!("$P salvage b.bin -o out --force {words}"), &folder.0);
+    println!("{words} {:?}", start.elapsed());
+    assert!(start.elapsed() < Duration::from_secs(20), "{:?}", start.elapsed());
+    assert_eq!(ran.said, "");
+    ran
+}
+
+/// 4,096 damaged samples of 4 KiB: each keeps its one good unit.
+#[test]
+fn sixteen_mebibytes_salvaged() {
+    let folder = Folder::new();
+    let mut damaged = good(16_777_216);
+    let mut at = 1 + 3 + 7 + 1 + 2 + 4096 * 13 + 4;
+    while let Some(length) = damaged.get(at..at + 4).map(|bytes| u32::from_be_bytes(bytes.try_into().unwrap()) as usize)
+    {
+        // The unit of n bytes becomes one of n - 8, and after it one of more than the 4 that are left.
+        damaged[at..at + 4].copy_from_slice(&(length as u32 - 8).to_be_bytes());
+        at += 4 + length;
+    }
+    let ran = salvages(&folder, &damaged, "");
+    assert_eq!(ran.status, Some(0));
+    let lines: Vec<&str> = ran.text().lines().collect();
+    assert_eq!(lines.len(), 2 * 4096 + 7);
+    assert!(lines[1].contains(" dropped all to the end, 8 bytes: refused 15 at "), "{}", lines[1]);
+    let totals = ["salvaged: 4096 samples", "dropped: 0 units and the ends of 4096 samples, 32768 bytes"];
+    assert_eq!(lines[2 * 4096..][..2], totals);
+    assert_eq!(lines[2 * 4096 + 5], "passed 4096 empty 0 refused 0");
+    assert_eq!(std::fs::metadata(folder.0.join("out")).unwrap().len(), 16_777_216 - 32_768);
+    // And cut short: thousands of samples lost all, which is one line.
+    let ran = salvages(&folder, &good(16_777_216)[..5_000_000], "");
+    let front: Vec<&str> = ran.text().lines().take(3).collect();
+    assert_eq!(front[0], "b.bin is cut short: 11777216 bytes missing at its end");
+    assert!(front[1].starts_with("sample 1212 is shortened from "), "{}", front[1]);
+    assert_eq!(front[2], "2884 samples from 1213 to 4096 lost all their bytes");
+    assert_eq!(ran.text().lines().count(), 3 + 2 + 7);
+}
+
+/// Millions of changes, in time and memory as their number: extractors that are too short, and aggregators that cover too
+/// much.
+#[test]
+fn millions_of_changes() {
+    let folder = Folder::new();
+    let one = [4, 0x7F, 0x80, 0, 3].repeat(3_300_000);
+    let bundle_of = |samples: &[(u8, u64, Vec<u8>)]| bundle(&[(1, SVC)], &[], samples);
+    let ran = salvages(&folder, &bundle_of(&[(1, 0, one)]), "--list");
+    assert_eq!((ran.status, ran.text().lines().count()), (Some(0), 3_300_000));
+    let covering = [5, 0x7E, 0x80, 0, 3, 200].repeat(1_000_000);
+    let ran = salvages(&folder, &bundle_of(&[(1, 0, covering)]), "");
+    let lines: Vec<&str> = ran.text().lines().collect();
+    assert_eq!((ran.status, lines.len()), (Some(0), 1 + 1_000_000 + 7));
+    assert_eq!(lines[1_000_003], "zeroed: 1000000 aggregators");
+    assert_eq!(lines[1_000_007], "out is NOT the recording as it was, though no byte is lost: keep the original");
+    let ran = shell("ulimit -v 400000; $P salvage b.bin -o out --force --json", &folder.0);
+    assert_eq!((ran.status, ran.text().lines().filter(|line| line.contains("\"zero\"")).count()), (Some(0), 1_000_000));
+}
+
+/// Extractors into 2,048 damaged samples: 1.7 million that name alike, all told in short time; and as many that all name
+/// otherwise, which are looked at up to a time, and the cut is told.
+#[test]
+fn many_stale() {
+    let folder = Folder::new();
+    let bundle_of = |extractors: &dyn Fn(usize) -> Vec<u8>| {
+        let damaged = (0..2048).map(|time| (1, time, vec![2, 0x65, 0x88, 0]));
+        let holding = (0..2048).map(|time| (2, time, (0..900).flat_map(extractors).collect()));
+        bundle(&[(0, AVC), (1, SVC)], &[(2, 1); 64], &damaged.chain(holding).collect::<Vec<_>>())
+    };
+    let ran = salvages(&folder, &bundle_of(&|_| vec![8, 0x7F, 0x80, 0, 3, 1, 0, 0, 0]), "");
+    let lines: Vec<&str> = ran.text().lines().skip(2 * 2048).collect();
+    assert_eq!(lines[2047], "sample 4096 holds 900 extractors into sample 2048: their offsets may be stale");
+    let last =
+        "may be stale: 1843200 extractors in 2048 samples, 2048 of them not refused: they may deliver wrong units";
+    assert_eq!((ran.status, lines[2048 + 3]), (Some(0), last));
+    let different = |index| vec![8, 0x7F, 0x80, 0, 3, 1 + (index / 16) as u8, (index % 16) as u8, 0, 0];
+    let ran = salvages(&folder, &bundle_of(&different), "--json");
+    let document = ran.document();
+    let told = document["totals"]["stale_extractors"].number();
+    let cut = &document["stale_cut_at"];
+    assert!(*cut == json::Value::Null || told > 900 && (2050..4096).contains(&cut.number()), "{told} {cut:?}");
+}
+
 /// 4,096 refused samples, each slow to go over: what hangs on them is listed up to a time, and the cut is told.
 #[test]
 fn many_refused() {

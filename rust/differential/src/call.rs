@@ -10,11 +10,12 @@ use crate::buffer::{self, UNSET};
 use crate::byte_streams;
 use crate::contents;
 use crate::make::fields::MadeFields;
+use crate::salvage;
 use crate::search::ByScan;
 
 /// A call of the C interface with all its arguments. `room` is the length of the slice lent for the output,
-/// in numbers for `ReadRecord` and `Units`, else in bytes. `ReadBack` is `stream` and then `from_stream`, of a sample
-/// whose stream is written and has `length` bytes.
+/// in numbers for `ReadRecord` and `Units`, else in bytes; `rooms` are those of several slices, in their order.
+/// `ReadBack` is `stream` and then `from_stream`, of a sample whose stream is written and has `length` bytes.
 pub enum Call<'a> {
     ReadRecord { kind: u32, record: &'a [u8], room: usize },
     WriteRecord { kind: u32, fields: &'a MadeFields, room: usize },
@@ -24,6 +25,8 @@ pub enum Call<'a> {
     Stream { bundle: &'a [u8], sample: u64, room: usize },
     FromStream { length_size: u32, stream: &'a [u8], room: usize },
     ReadBack { length_size: u32, bundle: &'a [u8], sample: u64, length: usize },
+    Salvage { bundle: &'a [u8], sample: u64, rooms: [usize; 3] },
+    SalvageSample { kind: u32, length_size: u32, sample: &'a [u8], rooms: [usize; 2] },
     Unit { bundle: &'a [u8], sample: u64, unit: u64 },
     Names { bundle: &'a [u8], sample: u64, room: usize },
     Audit { bundle: &'a [u8], room: usize },
@@ -47,6 +50,8 @@ pub struct Outcome {
     pub trailers: Vec<u64>,
     /// The search for a base sample by a scan, where an extractor was asked about that has a linked track.
     pub search: Option<ByScan>,
+    /// What a salvaged sample has, under which name and number it is counted.
+    pub salvaged: Vec<(&'static str, u32)>,
     pub difference: Option<String>,
 }
 
@@ -81,6 +86,10 @@ impl Call<'_> {
             Call::ReadBack { length_size, bundle, sample, length } => {
                 byte_streams::read_back(length_size, bundle, sample, length)
             }
+            Call::Salvage { bundle, sample, rooms } => salvage::salvage(bundle, sample, rooms),
+            Call::SalvageSample { kind, length_size, sample, rooms } => {
+                salvage::salvage_sample(kind, length_size, sample, rooms)
+            }
             Call::Unit { bundle, sample, unit } => one_unit(bundle, sample, unit),
             Call::Names { bundle, sample, room } => names(bundle, sample, room),
             Call::Audit { bundle, room } => audit(bundle, room),
@@ -103,7 +112,7 @@ pub fn outcome<T: PartialEq>(answer: Answer, given: Answer, expected: &T, writte
     } else {
         None
     };
-    Outcome { answer, lines: Vec::new(), trailers: Vec::new(), search: None, difference }
+    Outcome { answer, lines: Vec::new(), trailers: Vec::new(), search: None, salvaged: Vec::new(), difference }
 }
 
 fn read_record(kind: u32, record: &[u8], room: usize) -> Outcome {

@@ -10,12 +10,16 @@ mod contents;
 mod fixed;
 mod fixed_bases;
 mod fixed_blocks;
+mod fixed_damage;
 mod fixed_streams;
 mod make;
 mod places;
 mod random;
 mod report;
 mod rounds;
+mod salvage;
+mod salvage_cases;
+mod salvage_rounds;
 mod search;
 mod text;
 
@@ -103,6 +107,7 @@ impl Run {
         self.fixed_bases();
         self.fixed_blocks();
         self.fixed_streams();
+        self.fixed_damage();
         for (index, bundle) in fixed::longest().iter().enumerate() {
             self.whence = format!("longest bundle {index}");
             self.ask(Call::CheckBundle { bundle });
@@ -114,6 +119,9 @@ impl Run {
             // With L = 4 a plain sample resolves to itself.
             let length = peer::calls::sample(bundle, 1).values[3] as usize;
             rounds::stream_back(bundle, 1, length, &mut |call| self.ask(call));
+            for rooms in [[length, 0, 0], [length.saturating_sub(1), 0, 0]] {
+                self.ask(Call::Salvage { bundle, sample: 1, rooms });
+            }
             self.ask(Call::Unit { bundle, sample: 1, unit: 1 });
             self.ask(Call::Names { bundle, sample: 1, room: 0 });
             self.ask(Call::Counts { bundle });
@@ -139,6 +147,7 @@ impl Run {
             self.whence = format!("fixed sample {sample:02x?}");
             for (kind, length_size) in [(0, 1), (1, 1), (1, 2), (0, 4), (2, 1), (1, 3), (256, 1), (1, 257)] {
                 self.ask(Call::CheckSample { kind, length_size, sample: &sample });
+                self.ask(Call::SalvageSample { kind, length_size, sample: &sample, rooms: [64, 64] });
             }
         }
     }
@@ -192,6 +201,25 @@ impl Run {
             for stream in [&[][..], &[0, 0, 0], &[0, 0, 1, 0x65], &[0x65], &[0, 0, 1]] {
                 self.ask(Call::FromStream { length_size, stream, room: 8 });
                 self.ask(Call::FromStream { length_size, stream, room: 0 });
+            }
+        }
+    }
+
+    fn fixed_damage(&mut self) {
+        for length_size in [1, 2, 4] {
+            for (index, sample) in fixed_damage::samples(length_size).iter().enumerate() {
+                self.whence = format!("fixed damaged sample {index} with L = {length_size}");
+                let kind = index as u32 % 2;
+                self.ask(Call::SalvageSample { kind, length_size: length_size as u32, sample, rooms: [256, 64] });
+            }
+        }
+        let Some(longer) = fixed_damage::longest() else { return };
+        self.whence = "longest sample".to_string();
+        for sample in [&longer[..fixed_damage::LONGEST], &longer] {
+            for (kind, length_size) in [(0, 1), (1, 2), (1, 4), (2, 4), (0, 3)] {
+                for rooms in [[0, 10], [0, 9], [64, 64], [0, 0]] {
+                    self.ask(Call::SalvageSample { kind, length_size, sample, rooms });
+                }
             }
         }
     }

@@ -3,11 +3,14 @@
 use std::collections::BTreeMap;
 
 use crate::call::{Call, Outcome};
+use crate::salvage_cases::{ADDITIONAL_BYTES, DROPPED_FOR, FIRST_FAULTS, SALVAGED};
 
 /// The calls by name, with the numbers that documents 01 and 02 let each give (0: accepted). Then the numbers of audit
 /// lines, and what accepted records say of their trailer: 0 none, 1 absent, 2 present. Then, of extractors asked about,
-/// what the base is, as search.rs numbers it, and the rounds of a search by halving, as the peer counts them.
-const CALLS: [(&str, &[(u32, u32)]); 23] = [
+/// what the base is, as search.rs numbers it, and the rounds of a search by halving, as the peer counts them. Then what
+/// salvaged samples have, as salvage_cases.rs numbers it: the first top-level fault, the first fault in a dropped
+/// aggregator, how additional_bytes end, and the whole of it.
+const CALLS: [(&str, &[(u32, u32)]); 29] = [
     ("read_record", &[(0, 0), (4, 4), (8, 13), (29, 29)]),
     ("write_record", &[(0, 0), (4, 4), (29, 29), (31, 31)]),
     ("check_sample", &[(0, 0), (4, 4), (11, 11), (14, 22)]),
@@ -16,6 +19,8 @@ const CALLS: [(&str, &[(u32, u32)]); 23] = [
     ("stream", &[(0, 30), (32, 32)]),
     ("from_stream", &[(0, 0), (11, 11), (29, 29), (33, 34)]),
     ("stream read back", &[(0, 0), (34, 34)]),
+    ("salvage", &[(0, 13), (29, 30)]),
+    ("salvage_sample", &[(0, 0), (4, 4), (11, 11), (29, 29)]),
     ("unit", &[(0, 28), (30, 30)]),
     ("names", &[(0, 13), (29, 30)]),
     ("audit", &[(0, 13), (29, 29)]),
@@ -31,6 +36,10 @@ const CALLS: [(&str, &[(u32, u32)]); 23] = [
     ("trailers in bundles", &[(0, 2)]),
     ("bases", &[(0, 4)]),
     ("rounds by the peer", &[(0, 12)]),
+    (FIRST_FAULTS, &[(0, 0), (14, 18)]),
+    (DROPPED_FOR, &[(14, 20), (22, 22)]),
+    (ADDITIONAL_BYTES, &[(0, 11)]),
+    (SALVAGED, &[(0, 7)]),
 ];
 
 #[derive(Default)]
@@ -52,6 +61,8 @@ impl Call<'_> {
             Call::Stream { .. } => "stream",
             Call::FromStream { .. } => "from_stream",
             Call::ReadBack { .. } => "stream read back",
+            Call::Salvage { .. } => "salvage",
+            Call::SalvageSample { .. } => "salvage_sample",
             Call::Unit { .. } => "unit",
             Call::Names { .. } => "names",
             Call::Audit { .. } => "audit",
@@ -83,6 +94,9 @@ impl Report {
         if let Some(search) = &outcome.search {
             *self.counts.entry(("bases", search.base)).or_default() += 1;
             *self.counts.entry(("rounds by the peer", search.rounds)).or_default() += 1;
+        }
+        for &counted in &outcome.salvaged {
+            *self.counts.entry(counted).or_default() += 1;
         }
         for line in outcome.lines.chunks_exact(13) {
             *self.counts.entry(("audit lines", line[0] as u32)).or_default() += 1;

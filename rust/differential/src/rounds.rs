@@ -12,9 +12,10 @@ use crate::make::sample::{make_sample, Manner};
 use crate::make::stream::make_stream;
 use crate::places;
 use crate::random::Random;
+use crate::salvage_rounds::{fixed_salvage, salvage_bundle, salvage_one, salvage_round};
 
 /// A kind: mostly 0 or 1, sometimes one that only looks so in fewer bits.
-fn kind(random: &mut Random) -> u32 {
+pub fn kind(random: &mut Random) -> u32 {
     match random.below(24) {
         0 => 2,
         1 => 256 + random.below(2) as u32,
@@ -31,11 +32,12 @@ pub fn round(random: &mut Random, ask: &mut impl FnMut(Call)) {
     if random.once_in(15) {
         return blocks_round(random, ask);
     }
-    match random.below(9) {
+    match random.below(10) {
         0 => record_round(random, ask),
         1 => fields_round(random, ask),
         2 => sample_round(random, ask),
         3 => stream_round(random, ask),
+        4 => salvage_round(random, ask),
         _ => {
             let bundle = make_bundle(random);
             bundle_round(random, &bundle, ask);
@@ -90,10 +92,11 @@ fn sample_round(random: &mut Random, ask: &mut impl FnMut(Call)) {
     for other in [1, 2, 4] {
         ask(Call::CheckSample { kind: kind & 1, length_size: other, sample: &sample });
     }
+    salvage_one(random, kind, length_size, &sample, ask);
 }
 
 /// Mostly this length size, sometimes one that is none or only looks so in fewer bits.
-fn length_size(random: &mut Random, size: u32) -> u32 {
+pub fn length_size(random: &mut Random, size: u32) -> u32 {
     match random.below(24) {
         0 => 0,
         1 => 3,
@@ -151,6 +154,8 @@ fn bundle_round(random: &mut Random, bundle: &[u8], ask: &mut impl FnMut(Call)) 
         ask(Call::Unit { bundle, sample, unit: random.near(units) });
     }
     contents_round(random, bundle, ask);
+    let sample = random.near(samples);
+    salvage_bundle(random, bundle, sample, ask);
     for _ in 0..2 {
         // The first samples are named most.
         let sample = if random.once_in(2) { random.near(samples) } else { random.between(1, 4) as u64 };
@@ -241,6 +246,7 @@ pub fn fixed_round(bundle: &[u8], ask: &mut impl FnMut(Call)) {
         for room in [needed, needed.saturating_sub(1), needed + 3] {
             ask(Call::Names { bundle, sample, room });
         }
+        fixed_salvage(bundle, sample, ask);
         for unit in [0, 1, 2, 1 << 32 | 1] {
             ask(Call::Unit { bundle, sample, unit });
         }
@@ -267,7 +273,11 @@ pub fn fixed_sample_round(bundle: &[u8], sample: u64, ask: &mut impl FnMut(Call)
         ask(Call::Unit { bundle, sample, unit });
     }
     ask(Call::Named { bundle, sample, extractor: 0 });
-    ask(Call::Names { bundle, sample, room: names_length(bundle, sample) as usize });
+    let names = names_length(bundle, sample) as usize;
+    ask(Call::Names { bundle, sample, room: names });
+    // No change is listed where the sample is well formed.
+    let length = calls::sample(bundle, sample).values[3] as usize;
+    ask(Call::Salvage { bundle, sample, rooms: [length, 0, names] });
 }
 
 /// Places that are asked one by one in a fixed bundle.
@@ -290,7 +300,7 @@ fn fixed_contents(bundle: &[u8], ask: &mut impl FnMut(Call)) {
 }
 
 /// A room for `needed` bytes: exact, one less, more, none.
-fn room(random: &mut Random, needed: u64) -> usize {
+pub fn room(random: &mut Random, needed: u64) -> usize {
     let needed = needed as usize;
     match random.below(8) {
         0 => needed.saturating_sub(1),

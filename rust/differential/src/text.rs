@@ -32,6 +32,12 @@ impl Call<'_> {
             Call::ReadBack { length_size, bundle, sample, length } => {
                 format!("length_size {length_size} bundle {} sample {sample} length {length}", hex(bundle))
             }
+            Call::Salvage { bundle, sample, rooms } => {
+                format!("bundle {} sample {sample} rooms {rooms:?}", hex(bundle))
+            }
+            Call::SalvageSample { kind, length_size, sample, rooms } => {
+                format!("kind {kind} length_size {length_size} sample {} rooms {rooms:?}", hex(sample))
+            }
             Call::Unit { bundle, sample, unit } => format!("bundle {} sample {sample} unit {unit}", hex(bundle)),
             Call::Names { bundle, sample, room } => {
                 format!("bundle {} sample {sample} room {room}", hex(bundle))

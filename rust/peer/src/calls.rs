@@ -12,6 +12,7 @@ use crate::record::{self, Record, Sets, Trailer};
 use crate::record_writer::{self, Fields, LentSets, TrailerFields};
 use crate::refusal::*;
 use crate::resolve::{resolve, unit, units};
+use crate::salvage;
 use crate::stream::stream;
 
 /// How many numbers describe a record.
@@ -26,7 +27,8 @@ pub struct Answer {
     pub start: u64,
     pub length: u64,
     pub tally: [u64; 3],
-    /// What `counts`, `track`, `reference`, `sample` and `named` set, in the order of the C functions.
+    /// What `counts`, `track`, `reference`, `sample` and `named` set, in the order of the C functions. The counts that
+    /// `salvage` and `salvage_sample` set after the first.
     pub values: [u64; 4],
 }
 
@@ -122,6 +124,20 @@ pub fn stream_sample(bundle: &[u8], sample: u64, out: &mut [u8]) -> Answer {
 
 pub fn sample_from_stream(length_size: u32, stream: &[u8], out: &mut [u8]) -> Answer {
     answer(from_stream(length_size, stream, out), counted)
+}
+
+pub fn salvage(bundle: &[u8], sample: u64, out: &mut [u8], changes: &mut [u8], names: &mut [u8]) -> Answer {
+    answer(salvage::salvage(bundle, sample, out, changes, names), |[count, changes, names]| Answer {
+        values: [changes as u64, names as u64, 0, 0],
+        ..counted(count)
+    })
+}
+
+pub fn salvage_sample(kind: u32, length_size: u32, sample: &[u8], out: &mut [u8], changes: &mut [u8]) -> Answer {
+    answer(salvage::salvage_sample(kind, length_size, sample, out, changes), |[count, changes]| Answer {
+        values: [changes as u64, 0, 0, 0],
+        ..counted(count)
+    })
 }
 
 pub fn one_unit(bundle: &[u8], sample: u64, number: u64) -> Answer {

@@ -25,7 +25,7 @@ pub fn check(kind: Kind, size: LengthSize, sample: &[u8]) -> Result<(), Refusal>
 }
 
 /// 14 to 18 of the unit at `at`, where what holds it ends at `end`.
-fn check_unit(size: LengthSize, sample: &[u8], at: usize, end: usize) -> Result<Unit, Refusal> {
+pub fn check_unit(size: LengthSize, sample: &[u8], at: usize, end: usize) -> Result<Unit, Refusal> {
     if end - at < size.bytes() {
         return refuse(LENGTH_CUT, at);
     }
@@ -52,6 +52,12 @@ fn check_unit(size: LengthSize, sample: &[u8], at: usize, end: usize) -> Result<
 
 /// An aggregator's included units front to back, then its additional_bytes.
 fn check_aggregator(kind: Kind, size: LengthSize, sample: &[u8], unit: Unit) -> Result<(), Refusal> {
+    check_included(kind, size, sample, unit)?;
+    check_additional_bytes(size, sample, unit)
+}
+
+/// 14 to 20 and 22 of an aggregator's included units, front to back.
+pub fn check_included(kind: Kind, size: LengthSize, sample: &[u8], unit: Unit) -> Result<(), Refusal> {
     let mut at = unit.start + size.least_aggregator_size();
     while at < unit.end {
         let inner = check_unit(size, sample, at, unit.end)?;
@@ -63,11 +69,11 @@ fn check_aggregator(kind: Kind, size: LengthSize, sample: &[u8], unit: Unit) -> 
         }
         at = inner.end;
     }
-    check_additional_bytes(size, sample, unit)
+    Ok(())
 }
 
 /// 21: additional_bytes end on a unit border of the sample and cover no aggregator.
-fn check_additional_bytes(size: LengthSize, sample: &[u8], unit: Unit) -> Result<(), Refusal> {
+pub fn check_additional_bytes(size: LengthSize, sample: &[u8], unit: Unit) -> Result<(), Refusal> {
     let end = covered_end(sample, size, unit);
     if end > sample.len() {
         return refuse(ADDITIONAL_BYTES, unit.place);
@@ -86,7 +92,7 @@ fn check_additional_bytes(size: LengthSize, sample: &[u8], unit: Unit) -> Result
 }
 
 /// 22: an extractor has its one size.
-fn check_extractor(size: LengthSize, unit: Unit) -> Result<(), Refusal> {
+pub fn check_extractor(size: LengthSize, unit: Unit) -> Result<(), Refusal> {
     if unit.length() != size.extractor_size() {
         return refuse(EXTRACTOR_SIZE, unit.place);
     }

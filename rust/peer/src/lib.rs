@@ -1,4 +1,5 @@
-//! An independent implementation of document 01 and of document 02's requests [1] to [5], written from the papers.
+//! An independent implementation of document 01 and of document 02's requests [1] to [5] and [11], written from the
+//! papers.
 //!
 //! The verified library is compared with it, answer by answer and in speed. Nothing here is shared with the
 //! library. Layouts are those of ISO/IEC 14496-15:2010, 5.2.4.1 and Annexes A and B, and of ISO/IEC 14496-10, Annex B;
@@ -16,6 +17,7 @@
 //! | `deliver`, `resolve` | the units that a sample delivers, written out, as parts, or one of them |
 //! | `stream` | the units that a sample delivers, written as a byte stream |
 //! | `from_stream` | a byte stream read into a sample |
+//! | `salvage` | a well-formed sample made of a damaged one |
 //! | `names`, `audit`, `program` | the naming list and the sample named, the audit, the program's text |
 //! | `calls` | every call of the C interface, on slices |
 
@@ -42,5 +44,6 @@ pub mod record;
 pub mod record_writer;
 pub mod refusal;
 pub mod resolve;
+pub mod salvage;
 pub mod stream;
 pub mod unit;

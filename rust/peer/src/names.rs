@@ -8,23 +8,17 @@ use crate::numbers::SampleNumber;
 use crate::refusal::*;
 use crate::unit::*;
 
-/// Sample number in 2 bytes, place in 4.
-const ENTRY: usize = 6;
-
 /// Writes an entry for each extractor that names the sample and answers how many bytes that is.
 /// Refused with 1 to 13, 30, 29.
 pub fn names(bytes: &[u8], sample: u64, out: &mut [u8]) -> Result<usize, Refusal> {
     let bundle = Bundle::read(bytes)?;
     let asked = bundle.number(sample)?;
     let list = naming_list(&bundle, asked);
-    if list.len() * ENTRY > out.len() {
-        return refuse(ROOM, 0);
+    match out.get_mut(..list.len()) {
+        Some(front) => front.copy_from_slice(&list),
+        None => return refuse(ROOM, 0),
     }
-    for ((number, place), entry) in list.iter().zip(out.chunks_exact_mut(ENTRY)) {
-        entry[..2].copy_from_slice(&(number.0 as u16).to_be_bytes());
-        entry[2..].copy_from_slice(&(*place as u32).to_be_bytes());
-    }
-    Ok(list.len() * ENTRY)
+    Ok(list.len())
 }
 
 /// The sample that the extractor at this place of a sample names.
@@ -45,15 +39,17 @@ pub fn named(bytes: &[u8], sample: u64, place: u64) -> Result<SampleNumber, Refu
     }
 }
 
-/// Sample and place of each extractor that names `asked`, by sample and then place.
-fn naming_list(bundle: &Bundle, asked: SampleNumber) -> Vec<(SampleNumber, usize)> {
+/// An entry for each extractor that names `asked`, by sample and then place: the sample's number in 2 bytes, the
+/// extractor's place in 4.
+pub fn naming_list(bundle: &Bundle, asked: SampleNumber) -> Vec<u8> {
     let mut forms = Forms::new(bundle);
     let mut list = Vec::new();
     for number in bundle.numbers() {
         if forms.of(number).is_ok() {
             for_each_extractor(bundle, number, |place, extractor| {
                 if link::named(bundle, number, extractor) == Ok(asked) {
-                    list.push((number, place));
+                    list.extend((number.0 as u16).to_be_bytes());
+                    list.extend((place as u32).to_be_bytes());
                 }
             });
         }

@@ -52,6 +52,14 @@ impl Calls for Peer {
         calls::sample_from_stream(length_size, stream, out).into()
     }
 
+    fn salvage(bundle: &[u8], sample: u64, out: &mut [u8], changes: &mut [u8], names: &mut [u8]) -> Answer {
+        calls::salvage(bundle, sample, out, changes, names).into()
+    }
+
+    fn salvage_sample(kind: u32, length_size: u32, sample: &[u8], out: &mut [u8], changes: &mut [u8]) -> Answer {
+        calls::salvage_sample(kind, length_size, sample, out, changes).into()
+    }
+
     fn unit(bundle: &[u8], sample: u64, unit: u64) -> Answer {
         calls::one_unit(bundle, sample, unit).into()
     }

@@ -1,6 +1,6 @@
-//! Verified reading of inspection video: decoder configuration records, samples with extractors and aggregators, and
-//! the audit of a whole recording (ISO/IEC 14496-15:2010, 5.2.4.1 and Annexes A and B), and byte streams written for
-//! decoders and read into samples (ISO/IEC 14496-10, Annex B).
+//! Verified reading of inspection video: decoder configuration records, samples with extractors and aggregators, the
+//! audit of a whole recording and what is sound in its damaged samples (ISO/IEC 14496-15:2010, 5.2.4.1 and Annexes A and
+//! B), and byte streams written for decoders and read into samples (ISO/IEC 14496-10, Annex B).
 //!
 //! The work is done by a static library whose functions are proved; this crate wraps its C interface. It adds no
 //! rules and keeps nothing. Every function takes any bytes whatever. It needs neither the standard library nor a heap:
@@ -105,6 +105,7 @@ mod number;
 pub mod raw;
 mod record;
 mod refusal;
+mod salvage;
 mod sample;
 mod units;
 
@@ -117,6 +118,7 @@ pub use from_stream::from_stream;
 pub use names::{named, names, NamesEntry, NamingList, NAMES_ENTRY};
 pub use record::{read_record, write_record, Record, Sets, SetsIter, Trailer};
 pub use refusal::Refusal;
+pub use salvage::{salvage, salvage_sample, Change, ChangeKind, ChangeList, Salvaged, SalvagedSample, CHANGE};
 pub use sample::{check_sample, Kind, LengthSize};
 pub use units::{resolve, stream, unit, units, Span, UnitNumber, Units, SPAN};
 

@@ -125,6 +125,38 @@ extern "C" {
         count: *mut u64,
     ) -> u32;
 
+    /// A sample salvaged, outside a bundle: the new sample and the list of changes.
+    pub fn puddockle_salvage_sample(
+        kind: u32,
+        length_size: u32,
+        sample: *const u8,
+        sample_len: usize,
+        out: *mut u8,
+        out_len: usize,
+        changes: *mut u8,
+        changes_len: usize,
+        place: *mut u64,
+        count: *mut u64,
+        changes_count: *mut u64,
+    ) -> u32;
+
+    /// A sample of a bundle salvaged: the new sample, the list of changes, and the extractors that name the old one.
+    pub fn puddockle_salvage(
+        bundle: *const u8,
+        bundle_len: usize,
+        sample: u64,
+        out: *mut u8,
+        out_len: usize,
+        changes: *mut u8,
+        changes_len: usize,
+        names: *mut u8,
+        names_len: usize,
+        place: *mut u64,
+        count: *mut u64,
+        changes_count: *mut u64,
+        names_count: *mut u64,
+    ) -> u32;
+
     /// Where the units that a sample delivers lie in the bundle: two numbers a unit.
     pub fn puddockle_units(
         bundle: *const u8,

@@ -31,6 +31,9 @@ fn limits_and_sizes() {
         ("PUDDOCKLE_SAMPLES_MOST", SAMPLES_MOST),
         ("PUDDOCKLE_LINE", LINE),
         ("PUDDOCKLE_NAMES_ENTRY", NAMES_ENTRY),
+        ("PUDDOCKLE_CHANGE", CHANGE),
+        ("PUDDOCKLE_CHANGE_DROP", ChangeKind::Drop as usize),
+        ("PUDDOCKLE_CHANGE_ZEROING", ChangeKind::Zeroing as usize),
         ("PUDDOCKLE_SPAN", SPAN),
         ("PUDDOCKLE_FIELDS", raw::FIELDS),
         ("PUDDOCKLE_AVC", Kind::Avc as usize),
@@ -111,6 +114,6 @@ fn rust_parameter(words: &str) -> Parameter {
 fn declarations() {
     let header = functions(HEADER, "\nuint32_t ", c_parameter, ";");
     let raw = functions(RAW, "pub fn ", rust_parameter, " -> u32;");
-    assert_eq!(header.len(), 16);
+    assert_eq!(header.len(), 18);
     assert_eq!(header, raw);
 }

@@ -79,6 +79,17 @@ fn other_calls(bundle: &[u8]) {
     let mut list = vec![0; 2 * NAMES_ENTRY];
     assert!(names(bundle, NAMED, &mut list).unwrap().entries().eq(entries));
     assert_eq!(named(bundle, LAST, PLACES[1] as u64), Ok(NAMED));
+    let old = sample(bundle, NAMED).unwrap().bytes;
+    let (mut out, mut changes) = (vec![0; old.len()], vec![0; old.len().div_ceil(5) * CHANGE]);
+    let salvaged = salvage(bundle, NAMED, &mut out, &mut changes, &mut list).unwrap();
+    assert!(salvaged.sample == old && salvaged.changes.bytes.is_empty() && salvaged.names.entries().eq(entries));
+    // With a top bit set in its last unit: its two extractors, one of them in the aggregator, are left.
+    let old = sample(bundle, LAST).unwrap();
+    let mut damaged = bundle.to_vec();
+    damaged[old.start + PLACES[2] + 4] = 0x80;
+    let salvaged = salvage(&damaged, LAST, &mut out, &mut changes, &mut []).unwrap();
+    assert_eq!(salvaged.sample, &old.bytes[..PLACES[2]]);
+    assert!(salvaged.changes.entries().eq([Change { kind: ChangeKind::Drop, place: PLACES[2] as u64 }]));
 }
 
 #[test]

@@ -98,6 +98,53 @@ impl Calls for Library {
         answer
     }
 
+    fn salvage(bundle: &[u8], sample: u64, out: &mut [u8], changes: &mut [u8], names: &mut [u8]) -> Answer {
+        let mut answer = Answer { count: UNSET, ..unset(2) };
+        let (place, count) = (&mut answer.place, &mut answer.count);
+        let [changes_count, names_count, ..] = &mut answer.values;
+        // SAFETY: as said above.
+        answer.number = unsafe {
+            puddockle_salvage(
+                bundle.as_ptr(),
+                bundle.len(),
+                sample,
+                out.as_mut_ptr(),
+                out.len(),
+                changes.as_mut_ptr(),
+                changes.len(),
+                names.as_mut_ptr(),
+                names.len(),
+                place,
+                count,
+                changes_count,
+                names_count,
+            )
+        };
+        answer
+    }
+
+    fn salvage_sample(kind: u32, length_size: u32, sample: &[u8], out: &mut [u8], changes: &mut [u8]) -> Answer {
+        let mut answer = Answer { count: UNSET, ..unset(1) };
+        let (place, count) = (&mut answer.place, &mut answer.count);
+        // SAFETY: as said above.
+        answer.number = unsafe {
+            puddockle_salvage_sample(
+                kind,
+                length_size,
+                sample.as_ptr(),
+                sample.len(),
+                out.as_mut_ptr(),
+                out.len(),
+                changes.as_mut_ptr(),
+                changes.len(),
+                place,
+                count,
+                &mut answer.values[0],
+            )
+        };
+        answer
+    }
+
     fn unit(bundle: &[u8], sample: u64, unit: u64) -> Answer {
         let mut answer = Answer { place: UNSET, start: UNSET, length: UNSET, ..Answer::default() };
         let (place, start, length) = (&mut answer.place, &mut answer.start, &mut answer.length);

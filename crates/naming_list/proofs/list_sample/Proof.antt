@@ -11,7 +11,7 @@ use Rattle.resolution_rules.specs.Calls.{numberFault}
 use Rattle.naming_list_rules.specs.Naming.{namingList, listBytes, listEntrySize}
 use Rattle.naming_list_rules.proofs.Listing.{list-size}
 use Rattle.bundles.specs.Limits.{sampleMost, bundleMost}
-use Rattle.naming_list.proofs.Listings.{list-few, names-number, names-room, names-listed}
+use Rattle.naming_list.proofs.Listings.{list-few, names-number, names-room, names-listed, counts-bad, counts-good}
 use Rattle.naming_list.proofs.list_sample.Statement.{statement}
 use Rattle.naming_list.proofs.list_sample.Tie as tie
 
@@ -47,7 +47,8 @@ same-length : tie.Need-same-length
 same-length c = search needs
 
 returns : tie.Need-returns
-returns c = rw (c .refused .ensures) (refuse (names-number _ _ _ (fault (c .before .before)) (c .before .if1 .taken)))
+unfolding recordingIn
+returns c = (rw (c .refused .ensures) (refuse (names-number _ _ _ (fault (c .before .before)) (c .before .if1 .taken))), counts-bad _ _ _ (fault (c .before .before)) (c .before .if1 .taken))
 
 count-all-requires : tie.Need-count-all-requires
 count-all-requires c κs = c .before .before .before .before .before .before .before .before .pre
@@ -62,7 +63,12 @@ same-length-2 : tie.Need-same-length-2
 same-length-2 c = search needs
 
 returns-2 : tie.Need-returns-2
-returns-2 c = let e = size (c .before .before) .0 in let h = c .before .if2 .taken in rw (c .refused2 .ensures) (refuse (names-room _ _ _ (sound (c .before .before .before .before .before .before)) (omega arith)))
+unfolding recordingIn
+returns-2 c =
+    let e = size (c .before .before) .0 in
+    let h = c .before .if2 .taken in
+    let g = sound (c .before .before .before .before .before .before) in
+    (rw (c .refused2 .ensures) (refuse (names-room _ _ _ g (omega arith))), c .before .before .before .before .count-all .ensures .3 ∙ counts-good _ _ _ g)
 
 put-list-requires : tie.Need-put-list-requires
 unfolding recordingIn
@@ -80,11 +86,12 @@ same-length-4 : tie.Need-same-length-4
 same-length-4 c = search needs
 
 returns-3 : tie.Need-returns-3
+unfolding recordingIn
 returns-3 c =
     let w = c .before .before .before .before .before .before .before .before .count-all .ensures in
     let e = size (c .before .before .before .before .before .before) .0 in
     let h = c .before .before .before .before .before .if2 .left in
-    rw (← e) (accept (names-listed _ _ _ (sound (c .before .before .before .before .before .before .before .before .before .before)) (omega arith)) (rw (w .1) at (c .before .before .put-list .ensures)))
+    (rw (← e) (accept (names-listed _ _ _ (sound (c .before .before .before .before .before .before .before .before .before .before)) (omega arith)) (rw (w .1) at (c .before .before .put-list .ensures))), w .3 ∙ counts-good _ _ _ (sound (c .before .before .before .before .before .before .before .before .before .before)))
 
 pub list-sample-spec : {M : Type 1} → statement M
 list-sample-spec =

@@ -38,7 +38,7 @@ same-length : tie.Need-same-length
 same-length c = search needs
 
 returns-2 : tie.Need-returns-2
-returns-2 c = let a = c .before .before .before .before .before .before .before .before .before .before .before .before .before .args in rw (← call-filled _ _ (sym (c .before .before .before .before .before .before .before .before .before .fill-table .ensures .0) ∙ c .before .before .before .before .before .before .enum-told .given .1) (c .before .before .before .before .before .before .before .before .before .fill-table .ensures .1) (a .s .0) (length (a .out .now))) (c .before .before .before .list-sample .ensures)
+returns-2 c = let a = c .before .before .before .before .before .before .before .before .before .before .before .before .before .args in rw (← call-filled _ _ (sym (c .before .before .before .before .before .before .before .before .before .fill-table .ensures .0) ∙ c .before .before .before .before .before .before .enum-told .given .1) (c .before .before .before .before .before .before .before .before .before .fill-table .ensures .1) (a .s .0) (length (a .out .now))) (c .before .before .before .list-sample .ensures .0)
 
 pub names-spec : {M : Type 1} → statement M
 names-spec =

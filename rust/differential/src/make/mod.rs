@@ -2,6 +2,7 @@
 
 pub mod blocks;
 pub mod bundle;
+pub mod damaged;
 pub mod fields;
 pub mod long;
 pub mod record;

@@ -66,7 +66,7 @@ pub fn make_sample(random: &mut Random, manner: &Manner) -> MadeSample {
     sample
 }
 
-fn put_unit(bytes: &mut Vec<u8>, unit: &[u8], length_size: usize) {
+pub fn put_unit(bytes: &mut Vec<u8>, unit: &[u8], length_size: usize) {
     put(bytes, unit.len() as u64, length_size);
     bytes.extend_from_slice(unit);
 }
@@ -81,7 +81,7 @@ fn fault(random: &mut Random, manner: &Manner) -> bool {
 }
 
 /// A unit that is neither aggregator nor extractor.
-fn plain(random: &mut Random, manner: &Manner, included: bool) -> Vec<u8> {
+pub fn plain(random: &mut Random, manner: &Manner, included: bool) -> Vec<u8> {
     let unit_type = match included && manner.kind == AVC {
         true if fault(random, manner) => random.between(1, 5) as u8,
         true => random.between(6, 29) as u8,

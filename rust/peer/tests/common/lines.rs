@@ -22,8 +22,8 @@ pub struct Answer {
     pub start: u64,
     pub length: u64,
     pub tally: [u64; 3],
-    /// What `counts`, `track`, `reference`, `sample` and `named` set, in the order of the C functions. For `base` what
-    /// is found, and the rounds.
+    /// What `counts`, `track`, `reference`, `sample` and `named` set, in the order of the C functions. The counts that
+    /// `salvage` and `salvage_sample` set after the first. For `base` what is found, and the rounds.
     pub values: [u64; 4],
 }
 
@@ -36,6 +36,8 @@ pub trait Calls: Sized {
     fn resolve(bundle: &[u8], sample: u64, out: &mut [u8]) -> Answer;
     fn stream(bundle: &[u8], sample: u64, out: &mut [u8]) -> Answer;
     fn from_stream(length_size: u32, stream: &[u8], out: &mut [u8]) -> Answer;
+    fn salvage(bundle: &[u8], sample: u64, out: &mut [u8], changes: &mut [u8], names: &mut [u8]) -> Answer;
+    fn salvage_sample(kind: u32, length_size: u32, sample: &[u8], out: &mut [u8], changes: &mut [u8]) -> Answer;
     fn unit(bundle: &[u8], sample: u64, unit: u64) -> Answer;
     fn names(bundle: &[u8], sample: u64, out: &mut [u8]) -> Answer;
     fn audit(bundle: &[u8], lines: &mut [u8]) -> Answer;
@@ -146,6 +148,18 @@ fn answer<C: Calls>(words: &[&str]) -> String {
             let answer = C::from_stream(small(size), &hex(bytes), &mut out);
             written(&answer, &out, "")
         }
+        ["salvage", kind, size, bytes, room, list_room] => {
+            let mut buffers = [room, list_room].map(|room| vec![CANARY; number(room)]);
+            let [out, changes] = &mut buffers;
+            let answer = C::salvage_sample(small(kind), small(size), &hex(bytes), out, changes);
+            all_written(&answer, [answer.count, answer.values[0]], &buffers)
+        }
+        ["salvagein", bytes, sample, room, list_room, names_room] => {
+            let mut buffers = [room, list_room, names_room].map(|room| vec![CANARY; number(room)]);
+            let [out, changes, names] = &mut buffers;
+            let answer = C::salvage(&hex(bytes), number(sample), out, changes, names);
+            all_written(&answer, [answer.count, answer.values[0], answer.values[1]], &buffers)
+        }
         ["unit", bytes, sample, unit] => {
             let bundle = hex(bytes);
             let answer = C::unit(&bundle, number(sample), number(unit));
@@ -246,6 +260,14 @@ fn written(answer: &Answer, out: &[u8], more: &str) -> String {
     let count = answer.count as usize;
     let changed = if out[count..].iter().all(|&byte| byte == CANARY) { "" } else { " CHANGED" };
     plain(answer, || format!(" {}{more}", dash(&out[..count]))) + changed
+}
+
+/// The same for several buffers, each with its count.
+fn all_written<const N: usize>(answer: &Answer, counts: [u64; N], buffers: &[Vec<u8>; N]) -> String {
+    assert!(answer.number == 0 || counts == [0; N], "refused, and a count is set: {answer:?}");
+    let parts = || buffers.iter().zip(counts).map(|(buffer, count)| buffer.split_at(count as usize));
+    let changed = if parts().all(|(_, rest)| rest.iter().all(|&byte| byte == CANARY)) { "" } else { " CHANGED" };
+    plain(answer, || parts().map(|(front, _)| format!(" {}", dash(front))).collect()) + changed
 }
 
 fn record_answer<C: Calls>(kind: u32, bytes: &[u8]) -> String {

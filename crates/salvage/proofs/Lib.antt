@@ -1,0 +1,4 @@
+pub mod UnitFates
+pub mod Filled
+pub mod Loops
+pub mod Answers

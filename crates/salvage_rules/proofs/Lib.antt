@@ -1,0 +1,10 @@
+pub mod Placed
+pub mod Pieces
+pub mod Units
+pub mod Formed
+pub mod Cut
+pub mod Changes
+pub mod Reasons
+pub mod Reading
+pub mod Sizes
+pub mod Promises

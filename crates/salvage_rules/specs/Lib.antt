@@ -1,0 +1,8 @@
+-- What is kept of a damaged sample (02, [11]).
+--
+--   Salvage   the new sample and the list of changes
+--   Calls     what the calls answer
+--   Rules     the same in plain facts, in which the promises are stated
+pub mod Salvage
+pub mod Calls
+pub mod Rules
