@@ -174,7 +174,7 @@ static struct answer salvage_sample(const struct sample *s, enum side side, size
 
 /* The most bytes of a change list, as the header says. */
 static size_t most_changes(const struct sample *s) {
-    return PUDDOCKLE_CHANGE * ((s->length + s->size) / (s->size + 1));
+    return s->length + PUDDOCKLE_CHANGE - 1;
 }
 
 /* A sample that is not refused: what is made of it, judged; then exact rooms, each a byte less, and none. */

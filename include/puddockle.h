@@ -37,8 +37,8 @@
  *   puddockle_stream       as puddockle_resolve
  *   puddockle_from_stream  never more bytes than stream_len + stream_len / 4; where L is 1 or 2, than stream_len
  *   puddockle_names        never more bytes than the bundle has
- *   puddockle_salvage,     out: never more bytes than the old sample has; changes: never more than PUDDOCKLE_CHANGE for
- *   .._salvage_sample      each L + 1 bytes of the old sample, rounded up; names: never more than the bundle has
+ *   puddockle_salvage,     out: never more bytes than the old sample has; changes: never more than it has, and 4;
+ *   .._salvage_sample      names: never more than the bundle has
  *
  * How time grows
  *
@@ -117,7 +117,8 @@ enum {
     PUDDOCKLE_REFUSED_EXTRACTOR_COPIED = 28,        /* an extractor in the copy */
 
     /* what was asked for; the place is 0 */
-    PUDDOCKLE_REFUSED_OUTPUT_TOO_LONG = 29,         /* longer than the slice lent for it */
+    PUDDOCKLE_REFUSED_OUTPUT_TOO_LONG = 29,         /* longer than the slice lent for it; of a sample salvaged
+                                                       alone, also more than 4,294,967,296 bytes */
     PUDDOCKLE_REFUSED_NO_SUCH_NUMBER = 30,          /* of a track, reference, sample or delivered unit: 0 or past the
                                                        last; no extractor at that place */
     PUDDOCKLE_REFUSED_FIELDS_FIT_NO_RECORD = 31,
@@ -388,19 +389,21 @@ uint32_t puddockle_from_stream(uint32_t length_size,
  * kind, length_size     of the track that it belongs to
  * sample, sample_len    the old sample
  * out, out_len          where the new sample goes
- * changes, changes_len  where the change list goes: for each change, by its place, PUDDOCKLE_CHANGE_DROP or
+ * changes, changes_len  where the change list goes: for each change, by rising place, PUDDOCKLE_CHANGE_DROP or
  *                       PUDDOCKLE_CHANGE_ZEROING in 1 byte, and in 4 bytes the offset of the unit's length field in the
  *                       old sample
  *
  * Kept are the top-level units before the first top-level fault (14 to 18), but those with an inside fault 14 to 20, or
  * a 22. In a kept aggregator additional_bytes become 0 where 21 arises, judged as if the sample ended at that first
- * fault, or where a unit that they cover was dropped. The bytes from that fault on are one drop, at its place.
+ * fault, or where a unit that they cover was dropped. The bytes from that fault on are one drop, at its place: so the
+ * last drop is all from there on exactly if puddockle_check_sample, with the same kind and length_size, refuses the old
+ * sample at that place with 14 to 18; every other drop is one unit.
  * Refusals, first that applies first: 4 (kind is not 0 or 1); 11 (length_size is not 1, 2 or 4); 29 (out_len or
- * changes_len is too small, or the sample has more than 4,294,967,296 bytes, whose places do not fit the list). *place is
- * always 0. Never 14 to 22.
+ * changes_len is too small; or the sample has more than 4,294,967,296 bytes, a well-formed one too, since its places
+ * would not fit the list). *place is always 0. Never 14 to 22.
  * Accepted: *count bytes of the new sample are written, which puddockle_check_sample accepts, and *changes_count bytes
- * of the list, none exactly if it accepts the old sample, which then comes back as it is. A new sample that is salvaged
- * again comes back as it is. Refused: nothing is written, both counts are 0.
+ * of the list: none exactly if puddockle_check_sample accepts the old sample, and then the new one is the same. A new
+ * sample that is salvaged again comes back as it is. Refused: nothing is written, both counts are 0.
  * Time: linear in the sample.
  */
 uint32_t puddockle_salvage_sample(uint32_t kind, uint32_t length_size,
@@ -422,8 +425,8 @@ uint32_t puddockle_salvage_sample(uint32_t kind, uint32_t length_size,
  * changes_len or names_len is too small). *place is an offset in the bundle for 1 to 13, else 0. Never 14 to 28.
  * Accepted: *count and *changes_count bytes are written as puddockle_salvage_sample does with the kind and L of the
  * sample's track, and *names_count bytes as puddockle_names does. Refused: nothing is written, all counts are 0.
- * Time: linear in the bundle, as puddockle_names. Without the naming list puddockle_salvage_sample takes time as the
- * sample alone.
+ * Time: linear in the bundle, as puddockle_names. Where the naming list is not wanted, puddockle_salvage_sample on the
+ * sample's bytes is linear in these alone.
  */
 uint32_t puddockle_salvage(const uint8_t *bundle, size_t bundle_len,
                            uint64_t sample,
@@ -460,8 +463,8 @@ uint32_t puddockle_units(const uint8_t *bundle, size_t bundle_len,
  * unit of that number). Places as in puddockle_resolve; 30 is at 0.
  * Accepted: the unit's bytes are the *length bytes from bundle + *start on. They stand in the sample itself or in
  * the sample that an extractor names. Refused: *start and *length are 0.
- * Time: the head of the bundle, the sample judged (see above), and the units delivered before the one asked for, which are
- * gone over. So over all units it grows with the square of their number: for more than a few units use puddockle_units.
+ * Time: the head of the bundle, the sample judged (see above), and the units delivered before the one asked for, which
+ * are gone over. So over all units it grows with the square of their number: for more than a few units use puddockle_units.
  */
 uint32_t puddockle_unit(const uint8_t *bundle, size_t bundle_len,
                         uint64_t sample, uint64_t unit,

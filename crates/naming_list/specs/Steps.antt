@@ -6,8 +6,9 @@
 --   listMost             more bytes no list has
 --   withEntry o at n p   an entry over a buffer
 --   countsUpto b t s n   the table with the counts of the first n samples kept: how many extractors of each name s
---   countsFor b t s      with those of all; a number that is 30 leaves it as it was
---   namesIn b t s room   the list by a bundle and any table beside it: a bundle too long or a table too short, 30, 29, or the list
+--   countsFor b t s      with those of all; a sample number that is refused (30) leaves it as it was
+--   unfit b t            a bundle too long, or a table too short for any bundle
+--   namesIn b t s room   the list by a bundle and any table beside it: 1 where they are unfit, then 30, 29, or the list
 --   tableIn b t s        what that leaves of the table
 use Prim.Native.Nat.{ℕ, zero, suc, _+_, _*_}
 use mathlib.Core.List.{List}

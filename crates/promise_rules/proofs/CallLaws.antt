@@ -210,7 +210,7 @@ module _ (b : List ℕ) (g : Bytes b) (r : Recording) (accepted : firstLayout .m
   listed-once w = naming.listed-once r s n p (it-names w)
 
 -- in order: each entry before every later one
-rising-at : {A : Type 0} (R : A → A → Type 0) (xs : List A) (d : A) → Rising R xs → (i j : ℕ) → i < j → j < length xs → R (getD xs i d) (getD xs j d)
+pub rising-at : {A : Type 0} (R : A → A → Type 0) (xs : List A) (d : A) → Rising R xs → (i j : ℕ) → i < j → j < length xs → R (getD xs i d) (getD xs j d)
 rising-at R [] d h i j l u = absurd (omega arith)
 rising-at R (x ∷ xs) d h i zero l u = absurd (omega arith)
 rising-at R (x ∷ xs) d h zero (suc j) l u = h .0 (getD xs j d) (getD-mem xs j d (omega arith))

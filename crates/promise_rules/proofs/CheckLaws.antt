@@ -67,7 +67,7 @@ size-none l h = by-bool (l ≡? 1)
     (λ v. rw (t, u, v))))
 
 module _ (kind l : ℕ) (s : List ℕ) where
-  alone : (x : Sample) → Given kind l s x → checkAlone kind l s ≡ check x
+  pub alone : (x : Sample) → Given kind l s x → checkAlone kind l s ≡ check x
   alone x w = rw (kind-known kind (x .kind) (w .kind), ← w .size, size-known (x .lengthSize), ← w .content)
 
   no-kind : (kind ≡ 0 → ⊥) → (kind ≡ 1 → ⊥) → checkAlone kind l s ≡ refused 4 0

@@ -31,10 +31,9 @@ use Rattle.samples.specs.Check.{insideVerdict, topVerdict}
 use Rattle.samples.proofs.Walks.{includedJudge}
 use Rattle.salvage_rules.specs.declared.Fate.the-variants.{Kept, Dropped, Zeroed}
 use Rattle.salvage_rules.specs.Salvage.{isDropped, losesCover, fate, firstFault, cut, wholeUnits, unitBytes, zeroedBytes}
-use Rattle.salvage_rules.specs.Rules.{Uncovered}
 use Rattle.salvage_rules.proofs.Units.{by-fate, dropped-from, zeroed-from, inside-ok, cover-kept}
 use Rattle.salvage_rules.proofs.Cut.{fault-some, fault-none, cut-end, cut-wholes, cut-units, cut-next, cut-type, cut-additional, cut-inside}
-use Rattle.salvage_rules.proofs.Reasons.{loses-aggregator, uncovered, zeroed-some}
+use Rattle.salvage_rules.proofs.Reasons.{loses-aggregator, Uncovered, uncovered, zeroed-some}
 use Rattle.salvage_rules.proofs.Promises.{zeroed-size, zeroed-same}
 use Rattle.promise_rules.specs.First.{FirstIn}
 use Rattle.promise_rules.specs.Samples.{UnitAt, IncludedAt, BorderAt, CoverAt}

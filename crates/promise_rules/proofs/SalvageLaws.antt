@@ -1,14 +1,17 @@
 -- The proofs of what Request11 says of the new sample, the list and the calls. Assumes nothing.
 --
---   formed, unchanged, empty-exactly    the new sample is well formed; a well-formed one is unchanged, and only it has an empty list
---   answers-leave, refusals-leave       the lent buffers
+--   new-sample, formed                  the new sample, which is well formed
+--   unchanged, unchanged-exactly, empty-exactly    a well-formed one is unchanged, and only it, and only it has an empty list
+--   in-order                            the places of the list rise
+--   answers-leave, both-leave           the lent buffers
 --   salvage-exactly, salvage-refused    the call on a bundle
 --   sample-exactly, sample-refused      the call on a sample outside one
+--   again                               what comes out of it, checked and salvaged
 --   list-back, five-bytes               the list is read back, and gives the new sample; a change in bytes
 --   outputs-returned                    what the C functions give back
 --   in-bytes                            samples in bytes
 use Prim.Native.Nat.{ℕ, _+_, _*_, _≤_, _<_}
-use mathlib.Core.Path.{_≡_, refl, ap, sym, _∙_, subst}
+use mathlib.Core.Path.{_≡_, refl, ap, ap₂, sym, _∙_, subst}
 use mathlib.Core.Bool.{true, false}
 use mathlib.Core.List.{List, [], _∷_, _++_, map}
 use mathlib.Core.Logic.{_⊎_, inl, inr, ⊎-elim, _↔_}
@@ -29,7 +32,7 @@ use Rattle.numbers.specs.declared.Kind.{Kind}
 use Rattle.numbers.specs.declared.LengthSize.{LengthSize}
 use Rattle.units.specs.Units.{Sample, L, end, size, type, unitFault, placesFrom, topUnits, border, topBetween}
 use Rattle.units.specs.Aggregators.{includedFault, coverFault}
-use Rattle.samples.specs.Check.{insideVerdict}
+use Rattle.samples.specs.Check.{insideVerdict, checkAlone}
 use Rattle.bundles.specs.Recordings.{Recording, sampleCount}
 use Rattle.bundles.specs.Readers.{firstLayout}
 use Rattle.resolution_rules.specs.Resolving.{sampleOf}
@@ -37,16 +40,18 @@ use Rattle.resolution_rules.proofs.Calls.{number-good, number-bad, by-count}
 use Rattle.naming_list_rules.specs.Naming.{namingList, listBytes, namesCall}
 use Rattle.naming_list_rules.proofs.Listing.{list-size}
 use Rattle.naming_list_rules.proofs.Calls.{names-means, names-there}
-use Rattle.salvage_rules.specs.Salvage.{Change, firstFault, cut, isDropped, losesCover, fate, unitBytes, zeroedBytes, newBytes, newContent, changeAt, tailDrop, salvaged, changes, changeListBytes, changesIn, applied}
-use Rattle.salvage_rules.specs.Calls.{placeMost, outputs, salvageOf, salvageAlone, salvage, salvageCall}
+use Rattle.salvage_rules.specs.Salvage.{holding, Change, firstFault, cut, wholeUnits, leftBy, isDropped, losesCover, fate, unitBytes, zeroedBytes, newBytes, newContent, changeAt, tailDrop, salvaged, changes, changeListBytes, changesIn, applied}
+use Rattle.salvage_rules.specs.Calls.{listableMost, outputs, salvageOf, salvageAlone, salvage, salvageCall}
 use Rattle.salvage_rules.proofs.Reading.{list-length, changes-read}
-use Rattle.salvage_rules.proofs.Promises.{salvaged-formed, formed-unchanged, formed-nothing, nothing-formed, list-gives}
+use Rattle.salvage_rules.proofs.Promises.{salvaged-formed, formed-unchanged, formed-nothing, nothing-formed, salvaged-twice, list-gives, new-left, list-rises}
+use Rattle.salvage_rules.proofs.Sizes.{new-most}
 use Rattle.puddockle.specs.Returns.{ReturnedOutputs}
 use Rattle.promise_rules.specs.Samples.{Formed, Given}
 use Rattle.promise_rules.specs.Salvaging.{SalvageRefused, SampleSalvageRefused}
 use Rattle.promise_rules.specs.Returns.{OutputsAnswer, OutputsGiven}
 use Rattle.promise_rules.proofs.SampleLaws.{formed-rules, rules-formed}
-use Rattle.promise_rules.proofs.CheckLaws.{IsKind, kind-known, kind-unknown, by-kind, size-known, by-size, size-none, one-kind, kind-one}
+use Rattle.promise_rules.proofs.CheckLaws.{IsKind, alone, kind-known, kind-unknown, by-kind, size-known, by-size, size-none, one-kind, kind-one}
+use Rattle.promise_rules.proofs.CallLaws.{rising-at}
 use Rattle.promise_rules.proofs.RefusedLaws.{bundle-refused, refused-bundle}
 use Rattle.promise_rules.proofs.ReturnLaws.{in-table, bundle-number}
 
@@ -57,15 +62,24 @@ formed x = formed-rules (salvaged x) (salvaged-formed x)
 pub unchanged : (x : Sample) → Formed x → (salvaged x ≡ x) × (changes x ≡ [])
 unchanged x w = let e = rules-formed x w in (formed-unchanged x e, formed-nothing x e)
 
+pub new-sample : (x : Sample) → salvaged x ≡ record { kind = x .kind; lengthSize = x .lengthSize; content = each (λ p. leftBy x (fate (cut x) p) p) (wholeUnits x) }
+new-sample x = ap (holding x) (new-left x)
+
+pub unchanged-exactly : (x : Sample) → (salvaged x ≡ x) ↔ Formed x
+unchanged-exactly x = (λ e. subst Formed e (formed x), λ w. unchanged x w .0)
+
+pub in-order : (x : Sample) (i j : ℕ) (d : Change) → i < j → j < length (changes x) → getD (changes x) i d .place < getD (changes x) j d .place
+in-order x i j d = rising-at (λ (a b : Change). (a .place) < (b .place)) (changes x) d (list-rises x) i j
+
 pub empty-exactly : (x : Sample) → (changes x ≡ []) ↔ Formed x
 empty-exactly x = (λ e. formed-rules x (nothing-formed x e), λ w. formed-nothing x (rules-formed x w))
 
 pub list-back : (x : Sample) → length (x .content) ≤ 4294967296 → (changesIn (changeListBytes (changes x)) ≡ changes x) × (applied x (changesIn (changeListBytes (changes x))) ≡ salvaged x .content)
 list-back x h = let e = changes-read x h in (e, ap (applied x) e ∙ list-gives x)
 
-pub five-bytes : (c : Change) (cs : List Change) → changeListBytes (c ∷ cs) ≡ bytes 1 (c .what) ++ bytes 4 (c .place) ++ changeListBytes cs
+pub five-bytes : (c : Change) (cs : List Change) → (changeListBytes [] ≡ []) × (changeListBytes (c ∷ cs) ≡ bytes 1 (c .what) ++ bytes 4 (c .place) ++ changeListBytes cs)
 unfolding changeListBytes each
-five-bytes c cs = refl
+five-bytes c cs = (refl, refl)
 
 -- lent buffers
 pub answers-leave :
@@ -73,6 +87,12 @@ pub answers-leave :
     (a ≡ ok (length x ∷ length y ∷ length z ∷ [])) × ((o' ∷ c' ∷ l' ∷ []) ≡ ((x ++ drop (length x) o) ∷ (y ++ drop (length y) c) ∷ (z ++ drop (length z) l) ∷ []))
 unfolding overwrite
 answers-leave w = (w .answers, w .buffers)
+
+pub both-leave :
+    {o c o' c' x y : List ℕ} {a : Answer (List ℕ)} → WroteAll (o ∷ c ∷ []) (o' ∷ c' ∷ []) a (ok (x ∷ y ∷ [])) →
+    (a ≡ ok (length x ∷ length y ∷ [])) × ((o' ∷ c' ∷ []) ≡ ((x ++ drop (length x) o) ∷ (y ++ drop (length y) c) ∷ []))
+unfolding overwrite
+both-leave w = (w .answers, w .buffers)
 
 -- rooms
 short-one : (room : ℕ) (rooms out : List ℕ) (outs : List (List ℕ)) → room < length out → withinAll (room ∷ rooms) (ok (out ∷ outs)) ≡ refused outputTooLong 0
@@ -178,16 +198,16 @@ module _ (kind l : ℕ) (s : List ℕ) (room croom : ℕ) where
   no-size k h u = rw (kind-known kind k h, size-none l u)
 
   module _ (x : Sample) (w : Given kind l s x) where
-    alone : salvageAlone kind l s room croom ≡ withinAll (room ∷ croom ∷ []) (salvageOf x)
+    by-sample-of : salvageAlone kind l s room croom ≡ withinAll (room ∷ croom ∷ []) (salvageOf x)
     unfolding salvageAlone
-    alone = rw (kind-known kind (x .kind) (w .kind), ← w .size, size-known (x .lengthSize), ← w .content)
+    by-sample-of = rw (kind-known kind (x .kind) (w .kind), ← w .size, size-known (x .lengthSize), ← w .content)
 
     sample-short : (4294967296 < length s) ⊎ ((room < length (salvaged x .content)) ⊎ (croom < 5 * length (changes x))) → salvageAlone kind l s room croom ≡ refused 29 0
     unfolding salvageOf
-    sample-short (inl k) = alone ∙ rw (lt-ltb placeMost (end x) (rw (w .content) k))
-    sample-short (inr k) = by-bool (placeMost <? end x)
-        (λ t. alone ∙ rw t)
-        (λ t. alone ∙ rw t (lacks k))
+    sample-short (inl k) = by-sample-of ∙ rw (lt-ltb listableMost (end x) (rw (w .content) k))
+    sample-short (inr k) = by-bool (listableMost <? end x)
+        (λ t. by-sample-of ∙ rw t)
+        (λ t. by-sample-of ∙ rw t (lacks k))
       where
         lacks : (room < length (salvaged x .content)) ⊎ (croom < 5 * length (changes x)) → withinAll (room ∷ croom ∷ []) (ok (outputs x)) ≡ refused 29 0
         lacks (inl k) = short-one room (croom ∷ []) (salvaged x .content) (changeListBytes (changes x) ∷ []) k
@@ -196,7 +216,7 @@ module _ (kind l : ℕ) (s : List ℕ) (room croom : ℕ) where
 
     sample-fits : length s ≤ 4294967296 → length (salvaged x .content) ≤ room → length (changeListBytes (changes x)) ≤ croom → salvageAlone kind l s room croom ≡ ok (outputs x)
     unfolding salvageOf
-    sample-fits h i j = alone ∙ rw (le-ltb placeMost (end x) (rw (w .content) h))
+    sample-fits h i j = by-sample-of ∙ rw (le-ltb listableMost (end x) (rw (w .content) h))
         (within-all-room (room ∷ croom ∷ []) (outputs x) (fit-all room (croom ∷ []) (salvaged x .content) (changeListBytes (changes x) ∷ []) i (fit-all croom [] (changeListBytes (changes x)) [] j refl)))
 
     by-sample : {G : Type 0} → ((4294967296 < length s) ⊎ ((room < length (salvaged x .content)) ⊎ (croom < 5 * length (changes x))) → G) →
@@ -251,6 +271,46 @@ module _ (kind l : ℕ) (s : List ℕ) (room croom : ℕ) where
         (λ h i j. (x, w, sym (ok-same (sym (sample-fits x w h i j) ∙ q)), h, i, j))),
     λ q. sample-fits (q .0) (q .1) (q .3) (q .4) (q .5) ∙ ap ok (sym (q .2)),
   )
+
+-- what comes out, checked and salvaged
+none-listed : (cs : List Change) → changeListBytes cs ≡ [] → cs ≡ []
+none-listed [] e = refl
+none-listed (c ∷ cs) e = let n = list-length (c ∷ cs) in let z = ap length e in absurd (omega arith)
+
+pub again :
+    (kind l : ℕ) (s : List ℕ) (room croom : ℕ) (new list : List ℕ) → salvageAlone kind l s room croom ≡ ok (new ∷ list ∷ []) →
+    (checkAlone kind l new ≡ ok tt) × (salvageAlone kind l new room 0 ≡ ok (new ∷ [] ∷ [])) × ((list ≡ []) ↔ (checkAlone kind l s ≡ ok tt))
+again kind l s room croom new list e =
+    let w = sample-exactly kind l s room croom (new ∷ list ∷ []) .0 e in
+    let x = w .0 in
+    let g = w .1 in
+    let n : new ≡ salvaged (w .0) .content = ap (λ (os : List (List ℕ)). getD os 0 []) (w .2) in
+    let c : list ≡ changeListBytes (changes (w .0)) = ap (λ (os : List (List ℕ)). getD os 1 []) (w .2) in
+    let h : Given kind l new (salvaged (w .0)) = record { kind = g .kind; size = g .size; content = sym n } in
+    let t = salvaged-twice (w .0) in
+    let long = new-most (w .0) in
+    let size = ap length (g .content) in
+    let same = ap length n in
+    let room' = w .4 in
+    let lower = w .3 in (
+      alone kind l new (salvaged (w .0)) h ∙ salvaged-formed (w .0),
+      sample-exactly kind l new room 0 (new ∷ [] ∷ []) .1 (salvaged (w .0), h, outs-again (w .0) new n, omega arith, (let twice : length (salvaged (salvaged (w .0)) .content) ≡ length (salvaged (w .0) .content) = ap (λ (z : Sample). length (z .content)) (t .0) in omega arith), rw (t .1) (nothing (w .0))),
+      (
+        λ z. alone kind l s (w .0) g ∙ nothing-formed (w .0) (none-listed (changes (w .0)) (sym c ∙ z)),
+        λ z. c ∙ nothing-listed (formed-nothing (w .0) (sym (alone kind l s (w .0) g) ∙ z)),
+      ),
+    )
+  where
+    nothing-listed : {cs : List Change} → cs ≡ [] → changeListBytes cs ≡ []
+    nothing-listed z = unfold changeListBytes each in rw z
+
+    nothing : (x : Sample) → length (changeListBytes []) ≤ 0
+    nothing x = unfold changeListBytes each in omega arith
+
+    outs-again : (x : Sample) (new : List ℕ) → new ≡ salvaged x .content → (new ∷ [] ∷ []) ≡ (salvaged (salvaged x) .content ∷ changeListBytes (changes (salvaged x)) ∷ [])
+    outs-again x new n =
+        let t = salvaged-twice x in
+        ap₂ (λ (a b : List ℕ). a ∷ b ∷ []) (n ∙ sym (ap (λ (z : Sample). z .content) (t .0))) (sym (nothing-listed (t .1)))
 
 -- what the C functions give back
 salvage-number : (b : List ℕ) → Bytes b → {n room croom nroom m p : ℕ} → SalvageRefused b n room croom nroom m p → m ∈ refusalNumbers

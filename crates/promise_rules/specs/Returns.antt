@@ -1,7 +1,7 @@
 -- The answers that the C functions give back (crates/puddockle/specs/Returns says how), one case a function.
 --
 --   OutputAnswer o a   of a function that writes bytes or numbers to an output buffer, which was o, and returns their count
---   OutputsAnswer os a  of one that writes to several, which were os
+--   OutputsAnswer os a of one that writes to several, which were os
 --   VerdictAnswer a    of a function that only checks
 --
 -- and what a caller gets for an answer a: the number returned, 0 exactly if accepted; the place; and
@@ -20,6 +20,7 @@ use lib.ListN.{length, drop}
 use Rattle.words.specs.RefusalNumbers.{refusalNumbers}
 use Rattle.words.specs.Refusals.{Answer, refused, ok, Verdict}
 use Rattle.words.specs.Lists.{_∈_}
+use Rattle.words.specs.Buffers.{overwriteAll}
 use Rattle.words.specs.Bytes.{Bytes}
 use Rattle.byte_streams.specs.Reading as reading
 use Rattle.record_numbers.specs.Numbers.{writeNumbers}
@@ -29,7 +30,6 @@ use Rattle.bundles.specs.Readers.{firstLayout}
 use Rattle.bundles.specs.Parts.{BundlePart}
 use Rattle.resolution_rules.specs.Calls.{resolveCall, streamCall, partsCall}
 use Rattle.naming_list_rules.specs.Naming.{namesCall}
-use Rattle.words.specs.Buffers.{overwriteAll}
 use Rattle.salvage_rules.specs.Calls.{salvageAlone, salvageCall}
 use Rattle.tally.specs.declared.Tally.{Tally}
 use Rattle.audit_rules.specs.Auditing.{auditCall}

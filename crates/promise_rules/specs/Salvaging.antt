@@ -47,18 +47,18 @@ module _ (x : Sample) where
     pub inside : type x p ≡ 30 → (q : ℕ) → q ∈ aggregators.included x p → IncludedAt x (next x p) q
     pub extractor : type x p ≡ 31 → size x p ≡ 6 + 2 * L x
 
-  abbrev covered-to : ℕ → ℕ
-  covered-to p = next x p + aggregators.additionalBytes x p
+  abbrev coveredTo : ℕ → ℕ
+  coveredTo p = next x p + aggregators.additionalBytes x p
 
   pub record Covered (p q : ℕ) : Type 0 where
     pub aggregator : type x p ≡ 30
     pub unit : q ∈ topUnits x
     pub from : next x p ≤ q
-    pub before : q < covered-to p
+    pub before : q < coveredTo p
 
   -- 21, but f counts as the end: additional_bytes end there, or where a top-level unit before it starts, and cover no aggregator
   pub record CoverBefore (f p : ℕ) : Type 0 where
-    pub border : (covered-to p ≡ f) ⊎ ((covered-to p ∈ topUnits x) × (covered-to p < f))
+    pub border : (coveredTo p ≡ f) ⊎ ((coveredTo p ∈ topUnits x) × (coveredTo p < f))
     pub clear : (q : ℕ) → Covered p q → type x q ≡ 30 → ⊥
 
   pub data Becomes (f p : ℕ) : Fate → Type 0 where

@@ -2,7 +2,7 @@
 --
 --   Returned n p a                    the result n and the place p are those of the answer a
 --   ReturnedOutput n p c o o' a       and the count c is how many bytes or numbers it is; the lent slice o is left as o'
---   ReturnedOutputs n p cs os os' a   the same of several lent slices, with their counts
+--   allCounts, ReturnedOutputs n p cs os os' a    the same of several lent slices, with their counts
 --   told f a                          the number f of what an answer tells
 --   ReturnedPart n p start size a     and these are the start and size of a part of the bundle
 --   ReturnedTally x y z a             x, y and z are the three numbers of a tally

@@ -45,7 +45,7 @@ use Rattle.resolution_rules.specs.Resolving.{sampleOf}
 use Rattle.resolution_rules.specs.Calls.{numberFault}
 use Rattle.naming_list_rules.specs.Naming.{namingList, listBytes, names}
 use Rattle.salvage_rules.specs.Salvage.{change, aDrop, firstFault, cut, newContent, salvaged, changeAt, tailDrop, changes, changeSize, changeBytes, changeListBytes}
-use Rattle.salvage_rules.specs.Calls.{placeMost, outputs, salvageOf, salvageAlone, salvage, salvageCall}
+use Rattle.salvage_rules.specs.Calls.{listableMost, outputs, salvageOf, salvageAlone, salvage, salvageCall}
 use Rattle.salvage_rules.proofs.Cut.{cut-wholes, fault-most}
 use Rattle.salvage_rules.proofs.Reading.{change-length}
 use Rattle.salvage.specs.Steps.{listFrom}
@@ -122,14 +122,14 @@ module _ (x : Sample) (o c : List ℕ) where
   abbrev answer : Answer (List (List ℕ))
   answer = withinAll (length o ∷ length c ∷ []) (salvageOf x)
 
-  pub of-long : placeMost < end x → answer ≡ refused outputTooLong 0
+  pub of-long : listableMost < end x → answer ≡ refused outputTooLong 0
   unfolding salvageOf
-  of-long h = rw (lt-ltb placeMost (end x) h)
+  of-long h = rw (lt-ltb listableMost (end x) h)
 
-  module _ (h : end x ≤ placeMost) where
+  module _ (h : end x ≤ listableMost) where
     of-fits : answer ≡ withinAll (length o ∷ length c ∷ []) (ok (outputs x))
     unfolding salvageOf
-    of-fits = rw (le-ltb placeMost (end x) h)
+    of-fits = rw (le-ltb listableMost (end x) h)
 
     abbrev N : List ℕ
     N = salvaged x .content

@@ -49,8 +49,8 @@ pub enum Salvaged {
     Done(AllCounts),
 }
 
-// A sample of more bytes has places that the list's 4 bytes can't say.
-const SAMPLE_LIMIT: usize = 4294967296;
+// The most bytes of a sample whose places the list's 4 bytes can say.
+const LISTABLE_MOST: usize = 4294967296;
 
 // A refusal at 0.
 fn sample_refused(number: u8) -> SalvagedSample
@@ -76,7 +76,7 @@ fn salvage_of(k: Track, s: &[u8], out: &mut [u8], changes: &mut [u8]) -> Salvage
     ensures { λ r. ⌜ WroteAll (now (out .entry) ∷ now (changes .entry) ∷ []) (now (out .exit) ∷ now (changes .exit) ∷ []) (countsOf r)
         (withinAll (length (now (out .entry)) ∷ length (now (changes .entry)) ∷ []) (salvageOf (sample k (now (s .entry))))) ⌝ }
 {
-    if SAMPLE_LIMIT < s.len() {
+    if LISTABLE_MOST < s.len() {
         return sample_refused(refusals::OUTPUT_TOO_LONG);
     }
     let plan = writing::plan_of(k, s);

@@ -1,15 +1,15 @@
-// One pass over the top-level units to judge what the new sample and the list of changes come to, one to write both.
+// After the first walk of the check, one pass over the top-level units judges what the new sample and the list of changes come to, and one writes
+// both, asking again what becomes of each unit: there is no room to keep it.
 ghost use mathlib.Core.Path.{_≡_};
 ghost use Prim.Native.Nat.{_+_, _*_, _≤_, _<_};
 ghost use lib.ListN.{length};
 ghost use Rattle.words.specs.Tests.{_<?_, _when_else_, pick};
 ghost use Rattle.words.specs.Refusals.{ok};
-ghost use Rattle.words.specs.Lists.{each};
 ghost use Rattle.words.specs.Buffers.{put, overwrite};
-ghost use Rattle.units.specs.Units.{sample, next, topUnits};
+ghost use Rattle.units.specs.Units.{sample, next};
 ghost use Rattle.samples.specs.Check.{topVerdict};
 ghost use Rattle.salvage_rules.specs.Salvage.{aDrop, change, firstFault, fate, newBytes, changeAt, newContent, salvaged, changes, changeSize, changeBytes, changeListBytes};
-ghost use Rattle.salvage_rules.specs.Calls.{placeMost};
+ghost use Rattle.salvage_rules.specs.Calls.{listableMost};
 ghost use Rattle.salvage.specs.Steps.{TopUnit, leftSize, listSize, listFrom};
 use crate::fates;
 use numbers::LengthSize;
@@ -61,7 +61,7 @@ fn list_size(f: Fate) -> usize
 
 // What the units of a sample whose top-level units are whole come to.
 fn measure(k: Track, y: &[u8]) -> Sizes
-    requires { ⌜ (topVerdict (sample k (now y)) ≡ ok tt) × (length (now y) ≤ placeMost) ⌝ }
+    requires { ⌜ (topVerdict (sample k (now y)) ≡ ok tt) × (length (now y) ≤ listableMost) ⌝ }
     ensures { λ r. ⌜ (r .sample ≡ length (newContent (sample k (now (y .entry))))) × (r .changes ≡ length (listFrom (sample k (now (y .entry))) 0))
         × (r .changes ≤ changeSize * length (now (y .entry))) ⌝ }
 {
@@ -109,7 +109,7 @@ fn tail_size(fault: usize, size: usize) -> usize
 
 // What a sample comes to.
 pub(crate) fn plan_of(k: Track, s: &[u8]) -> Plan
-    requires { ⌜ length (now s) ≤ placeMost ⌝ }
+    requires { ⌜ length (now s) ≤ listableMost ⌝ }
     ensures { λ r. ⌜ (r .fault ≡ firstFault (sample k (now (s .entry)))) × (r .sample ≡ length (salvaged (sample k (now (s .entry))) .content))
         × (r .changes ≡ length (changeListBytes (changes (sample k (now (s .entry)))))) ⌝ }
 {

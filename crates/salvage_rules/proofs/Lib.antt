@@ -8,3 +8,4 @@ pub mod Reasons
 pub mod Reading
 pub mod Sizes
 pub mod Promises
+pub mod Where

@@ -11,11 +11,11 @@
 --   list-rises, list-inside             the places in the list rise, and lie in the old sample
 use Prim.Native.Nat.{ℕ, zero, suc, _+_, _-_, _≤_, _<_}
 use mathlib.Core.Path.{_≡_, refl, ap, ap₂, sym, _∙_, subst}
-use mathlib.Core.List.{List, [], _∷_, _++_, List·Memᴰ}
+use mathlib.Core.List.{List, [], _∷_, _++_, List·Memᴰ, List·Memᴰ·head, List·Memᴰ·tail}
 use mathlib.Core.Logic.{_⊎_, ⊎-elim}
 use mathlib.Core.Bool.{Bool, true, false, not, _&&_}
 use native.Mathlib.Omega.{arith}
-use borrow.Author.Tests.{leb-true, ltb-true, lt-ltb, le-ltb, eqb-true, eq-eqb}
+use borrow.Author.Tests.{ltb-false, lt-ltb, le-ltb, eqb-true}
 use lib.ListN.{length, drop}
 use Rattle.words.specs.Tests.{pick, _<?_, _≡?_}
 use Rattle.words.specs.Refusals.{ok, _atPlace_, first}
@@ -39,11 +39,11 @@ use Rattle.samples.proofs.Laws.{rules, rules-check, check-top, top-tile}
 use Rattle.samples.proofs.Walks.{top-whole, whole-top}
 use Rattle.salvage_rules.specs.declared.Fate.{Fate}
 use Rattle.salvage_rules.specs.declared.Fate.the-variants.{Kept, Dropped, Zeroed}
-use Rattle.salvage_rules.specs.Salvage.{holding, Change, aDrop, aZeroing, firstFault, cut, wholeUnits, isDropped, losesCover, fate, unitBytes, zeroedBytes, leftBy, newBytes, newContent, changeAt, salvaged, tailDrop, changes, listed, appliedAt, applied}
+use Rattle.salvage_rules.specs.Salvage.{holding, Change, firstFault, cut, wholeUnits, isDropped, losesCover, fate, unitBytes, zeroedBytes, leftBy, newBytes, newContent, changeAt, salvaged, tailDrop, changes, listedEnd, appliedAt, applied}
 use Rattle.salvage_rules.proofs.Units.{inside-ok, inside-aggregator, inside-other, dropped-not, cover-kept, cover-other, cover-stays, fate-dropped, fate-zeroed, fate-kept, by-fate, zeroed-from, new-by, zeroed-length, unit-length}
 use Rattle.salvage_rules.proofs.Formed.{new-formed}
-use Rattle.salvage_rules.proofs.Cut.{fault-some, fault-none, cut-end, cut-wholes, cut-all, cut-unit, cut-rest}
-use Rattle.salvage_rules.proofs.Changes.{each-nothing, nothing-both, nothing-each, units-join, change-none, none-change, listed-drop, listed-zeroing, changes-rise, changes-inside}
+use Rattle.salvage_rules.proofs.Cut.{fault-most, fault-some, fault-none, cut-end, cut-wholes, cut-all, cut-units, cut-next, cut-unit, cut-rest}
+use Rattle.salvage_rules.proofs.Changes.{each-nothing, nothing-both, nothing-each, units-join, change-none, none-change, listed-drop, listed-zeroing, listed-tail, changes-rise, changes-inside}
 use Rattle.salvage_rules.proofs.Reasons.{loses-aggregator}
 
 module _ (x : Sample) where
@@ -116,26 +116,22 @@ pub salvaged-twice : (x : Sample) → (salvaged (salvaged x) ≡ salvaged x) × 
 salvaged-twice x = (formed-unchanged (salvaged x) (salvaged-formed x), formed-nothing (salvaged x) (salvaged-formed x))
 
 module _ (x : Sample) where
-  -- the list and the old sample
-  applied-at : (p : ℕ) → p ∈ wholeUnits x → appliedAt (cut x) (changes x) p ≡ newBytes (cut x) p
-  applied-at p m = rw (listed-drop x p m, listed-zeroing x p m) (by-bool (isDropped (cut x) p)
-      (λ d. rw d (sym (new-by (cut x) p Dropped (fate-dropped (cut x) p d))))
-      (λ d. by-bool (losesCover (cut x) p)
-      (λ l. rw (d, l) (sym (new-by (cut x) p Zeroed (fate-zeroed (cut x) p d l))))
-      (λ l. rw (d, l) (sym (new-by (cut x) p Kept (fate-kept (cut x) p d l))))))
-
-  pub list-gives : applied x (changes x) ≡ salvaged x .content
-  unfolding applied newContent
-  list-gives = each-cong _ _ (wholeUnits x) applied-at
-
   pub old-bytes : x .content ≡ each (unitBytes x) (wholeUnits x) ++ drop (firstFault x) (x .content)
   old-bytes =
       sym (cut-rest x)
       ∙ ap (λ (b : List ℕ). b ++ drop (firstFault x) (x .content))
       (sym (units-join (cut x) (cut-wholes x)) ∙ each-cong (unitBytes (cut x)) (unitBytes x) (wholeUnits x) (λ p m. cut-unit x p m))
 
-  pub old-tiles : Tiles (cut x) 0 (firstFault x) (wholeUnits x)
-  old-tiles = rw (← cut-end x) (top-tile (cut x) (whole-top (cut x) (cut-wholes x)))
+  -- without gap or overlap: each ends in the old sample where it does in the cut one
+  tiles-same : (a b : ℕ) (ps : List ℕ) → ((p : ℕ) → p ∈ ps → next (cut x) p ≡ next x p) → Tiles (cut x) a b ps → Tiles x a b ps
+  tiles-same a b [] h t = t
+  tiles-same a b (p ∷ ps) h t =
+      let e = h p (List·Memᴰ·head refl) in
+      let below = tiles-same (next (cut x) p) b ps (λ q m. h q (List·Memᴰ·tail m)) (t .2) in
+      (t .0, (let l = t .1 in omega arith), subst (λ (n : ℕ). Tiles x n b ps) e below)
+
+  pub old-tiles : Tiles x 0 (firstFault x) (wholeUnits x)
+  old-tiles = tiles-same 0 (firstFault x) (wholeUnits x) (λ p m. cut-next x p m) (rw (← cut-end x) (top-tile (cut x) (whole-top (cut x) (cut-wholes x))))
 
   -- what is left of each, by the old sample's bytes
   same-left : (p : ℕ) → p ∈ wholeUnits x → newBytes (cut x) p ≡ leftBy x (fate (cut x) p) p
@@ -152,14 +148,33 @@ module _ (x : Sample) where
   unfolding newContent
   new-left = each-cong _ _ (wholeUnits x) same-left
 
+  -- the list and the old sample: where the tail's drop is listed, the sample ends there
+  listed-end : listedEnd x (changes x) ≡ firstFault x
+  unfolding listedEnd
+  listed-end = let n = fault-most x in rw (listed-tail x) (by-bool (firstFault x <? end x)
+      (λ t. rw t)
+      (λ t. rw t (let l = ltb-false (firstFault x) (end x) t in omega arith)))
+
+  applied-at : (p : ℕ) → p ∈ wholeUnits x → appliedAt x (changes x) p ≡ leftBy x (fate (cut x) p) p
+  applied-at p m = rw (listed-drop x p m, listed-zeroing x p m) (by-fate (cut x) p
+      (λ d e. rw (d, e))
+      (λ d l e. rw (d, l, e))
+      (λ d l e. rw (d, l, e)))
+
+  pub list-gives : applied x (changes x) ≡ salvaged x .content
+  unfolding applied
+  list-gives =
+      ap (each (appliedAt x (changes x))) (ap (λ (n : ℕ). keep (λ p. p <? n) (topUnits x)) listed-end ∙ sym (cut-units x))
+      ∙ each-cong _ _ (wholeUnits x) applied-at ∙ sym new-left
+
   -- a zeroing
   module _ (p : ℕ) (m : p ∈ wholeUnits x) (z : fate (cut x) p ≡ Zeroed) where
-    in-cut : zeroedBytes (cut x) p ≡ zeroedBytes x p
-    in-cut = sym (new-by (cut x) p Zeroed z) ∙ same-left p m ∙ ap (λ (f : Fate). leftBy x f p) z
+    pub zeroed-cut : zeroedBytes (cut x) p ≡ zeroedBytes x p
+    zeroed-cut = sym (new-by (cut x) p Zeroed z) ∙ same-left p m ∙ ap (λ (f : Fate). leftBy x f p) z
 
     pub zeroed-size : length (zeroedBytes x p) ≡ length (unitBytes x p)
     zeroed-size = let l = zeroed-from (cut x) p z in
-        ap length (sym in-cut) ∙ zeroed-length (cut x) p (cut-wholes x p m) (inside-ok (cut x) p (l .0)) (loses-aggregator (cut x) p (l .1)) ∙ ap length (cut-unit x p m)
+        ap length (sym zeroed-cut) ∙ zeroed-length (cut x) p (cut-wholes x p m) (inside-ok (cut x) p (l .0)) (loses-aggregator (cut x) p (l .1)) ∙ ap length (cut-unit x p m)
 
     fits : L x + headerSize + length (bytes (L x) 0) ≤ length (unitBytes x p)
     unfolding cut

@@ -15,10 +15,9 @@ use Rattle.words.proofs.Bytes.{big-inside, bytes-length, big-bytes}
 use Rattle.numbers.specs.Places.{placeSize}
 use Rattle.units.specs.Units.{Sample, end}
 use Rattle.salvage_rules.specs.Salvage.{Change, change, aDrop, aZeroing, changes, changeSize, changeBytes, changeListBytes, firstChanges, changesIn}
-use Rattle.salvage_rules.specs.Calls.{placeMost}
-use Rattle.salvage_rules.specs.Rules.{Listed}
+use Rattle.salvage_rules.specs.Calls.{listableMost}
 use Rattle.salvage_rules.proofs.Changes.{changes-inside}
-use Rattle.salvage_rules.proofs.Reasons.{listed-from}
+use Rattle.salvage_rules.proofs.Reasons.{Listed, listed-from}
 
 pub change-length : (c : Change) → length (changeBytes c) ≡ changeSize
 change-length c = length-append (bytes 1 (c .what)) (bytes placeSize (c .place)) ∙ ap₂ _+_ (bytes-length 1 (c .what)) (bytes-length placeSize (c .place))
@@ -32,7 +31,7 @@ list-length (c ∷ cs) =
     length-append (changeBytes c) (each changeBytes cs) ∙ omega arith
 
 -- one change, then others
-change-read : (w p : ℕ) (s : List ℕ) → w < 256 → p < placeMost → (big (bytes 1 w ++ bytes placeSize p ++ s) 0 1 ≡ w) × (big (bytes 1 w ++ bytes placeSize p ++ s) 1 placeSize ≡ p)
+change-read : (w p : ℕ) (s : List ℕ) → w < 256 → p < listableMost → (big (bytes 1 w ++ bytes placeSize p ++ s) 0 1 ≡ w) × (big (bytes 1 w ++ bytes placeSize p ++ s) 1 placeSize ≡ p)
 change-read w p s g h =
     let a = bytes 1 w in
     let b = bytes placeSize p in
@@ -48,7 +47,7 @@ change-read w p s g h =
 
 -- a change whose numbers fit their bytes
 abbrev pub ChangeFits : Change → Type 0
-ChangeFits c = (c .what < 256) × (c .place < placeMost)
+ChangeFits c = (c .what < 256) × (c .place < listableMost)
 
 first-read : (cs : List Change) → ((c : Change) → c ∈ cs → ChangeFits c) → firstChanges (length cs) (changeListBytes cs) ≡ cs
 unfolding changeListBytes firstChanges each
@@ -71,5 +70,5 @@ what-fits x c (Listed.unit p m e) = omega arith
 what-fits x c (Listed.cover p m e) = omega arith
 what-fits x c (Listed.tail n v) = omega arith
 
-pub changes-read : (x : Sample) → end x ≤ placeMost → changesIn (changeListBytes (changes x)) ≡ changes x
+pub changes-read : (x : Sample) → end x ≤ listableMost → changesIn (changeListBytes (changes x)) ≡ changes x
 changes-read x h = list-read (changes x) (λ c m. (what-fits x c (listed-from x c m), (let i = changes-inside x c m in omega arith)))

@@ -1,7 +1,8 @@
 -- Why each change is listed, and what it is. Assumes nothing.
 --
---   listed-from, listed-to     a change is listed exactly for one of three reasons
---   uncovered                  an aggregator that loses its additional_bytes has a 21, or covers a unit that is dropped
+--   Listed, listed-from        why a change is listed: for one of three reasons
+--   in-units, in-tail          and back: a change of a unit, and that of the tail
+--   Uncovered, uncovered       an aggregator that loses its additional_bytes has a 21, or covers a unit that is dropped
 --   zeroed-some                and they were not 0 before
 use Prim.Native.Nat.{ℕ, zero, suc, _+_, _-_, _≤_, _<_}
 use mathlib.Core.Path.{_≡_, refl, ap, sym, _∙_, subst}
@@ -26,9 +27,18 @@ use Rattle.units.proofs.Covers.{cover-good}
 use Rattle.samples.specs.Check.{topVerdict}
 use Rattle.salvage_rules.specs.declared.Fate.the-variants.{Kept, Dropped, Zeroed}
 use Rattle.salvage_rules.specs.Salvage.{Change, change, aDrop, aZeroing, fate, firstFault, cut, wholeUnits, isDropped, losesCover, changeAt, tailDrop, changes}
-use Rattle.salvage_rules.specs.Rules.{Uncovered, Listed}
 use Rattle.salvage_rules.proofs.Units.{by-fate, fate-dropped, change-by, cover-stays, cover-other}
 use Rattle.salvage_rules.proofs.Cut.{fault-some, fault-none}
+
+-- 21, in a sample that ends at the first top-level fault; or a unit is dropped that it covers
+pub data Uncovered (y : Sample) (p : ℕ) : Type 0 where
+  bad : coverFault y p ≡ badAdditionalBytes → Uncovered y p
+  lost : (q : ℕ) → q ∈ topUnits y → next y p ≤ q → q < coverEnd y p → fate y q ≡ Dropped → Uncovered y p
+
+pub data Listed (x : Sample) : Change → Type 0 where
+  unit : (p : ℕ) → p ∈ wholeUnits x → fate (cut x) p ≡ Dropped → Listed x (change aDrop p)
+  cover : (p : ℕ) → p ∈ wholeUnits x → fate (cut x) p ≡ Zeroed → Listed x (change aZeroing p)
+  tail : (n : ℕ) → topVerdict x ≡ refused n (firstFault x) → Listed x (change aDrop (firstFault x))
 
 -- an aggregator that loses its additional_bytes
 module _ (y : Sample) (p : ℕ) (l : losesCover y p ≡ true) where
@@ -93,16 +103,11 @@ module _ (x : Sample) where
       (λ k. tail-listed c k)
       (List·Memᴰ·append-cases (each (changeAt (cut x)) (wholeUnits x)) m)
 
-  in-units : (p : ℕ) (c : Change) → p ∈ wholeUnits x → c ∈ changeAt (cut x) p → c ∈ changes x
+  pub in-units : (p : ℕ) (c : Change) → p ∈ wholeUnits x → c ∈ changeAt (cut x) p → c ∈ changes x
   unfolding changes
   in-units p c m k = Memᴰ·append-left (tailDrop x) (each-mem (changeAt (cut x)) (wholeUnits x) m k)
 
-  in-tail : (n : ℕ) → topVerdict x ≡ refused n (firstFault x) → change aDrop (firstFault x) ∈ changes x
+  pub in-tail : (n : ℕ) → topVerdict x ≡ refused n (firstFault x) → change aDrop (firstFault x) ∈ changes x
   unfolding changes tailDrop
   in-tail n v = let l = fault-some x n (firstFault x) v .1 in
       Memᴰ·append-right (each (changeAt (cut x)) (wholeUnits x)) (rw (lt-ltb (firstFault x) (end x) l) (List·Memᴰ·head refl))
-
-  pub listed-to : (c : Change) → Listed x c → c ∈ changes x
-  listed-to c (Listed.unit p m e) = in-units p (change aDrop p) m (rw (change-by (cut x) p Dropped e) (List·Memᴰ·head refl))
-  listed-to c (Listed.cover p m e) = in-units p (change aZeroing p) m (rw (change-by (cut x) p Zeroed e) (List·Memᴰ·head refl))
-  listed-to c (Listed.tail n v) = in-tail n v

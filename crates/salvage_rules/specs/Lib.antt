@@ -2,7 +2,5 @@
 --
 --   Salvage   the new sample and the list of changes
 --   Calls     what the calls answer
---   Rules     the same in plain facts, in which the promises are stated
 pub mod Salvage
 pub mod Calls
-pub mod Rules

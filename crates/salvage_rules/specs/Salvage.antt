@@ -6,9 +6,11 @@
 --   isDropped p, losesCover p      the two rules for a top-level unit
 --   fate p                         what becomes of it: kept, dropped, or kept with additional_bytes 0
 --   unitBytes p, zeroedBytes p     a unit with its length field: as it is; with additional_bytes 0
---   newBytes p                     what is left of it
---   Change, changeAt p             a change that is listed; what is listed of a unit
---   salvaged, changes              the new sample, and the list
+--   leftBy f p, newBytes p         what is left of it, by its fate
+--   newContent                     what is left of all
+--   Change                         a change that is listed
+--   listedBy f p, changeAt p       what is listed of a unit, by its fate
+--   salvaged, tailDrop, changes    the new sample; what is listed of the rest; the list
 --   listed, applied                whether a list has a change; what a list makes of an old sample
 --   changeBytes, changeListBytes   a change as it is written, 5 bytes; the list
 --   changesIn                      the list that bytes say
@@ -18,7 +20,7 @@ use mathlib.Core.Bool.{Bool, _&&_, _||_, not}
 use lib.ListN.{length, take, drop}
 use Rattle.words.specs.Tests.{pick, _<?_, _≡?_}
 use Rattle.words.specs.Refusals.{refused, ok, Verdict, passed}
-use Rattle.words.specs.Lists.{some, each}
+use Rattle.words.specs.Lists.{keep, some, each}
 use Rattle.words.specs.Bytes.{big, bytes, part, splice}
 use Rattle.numbers.specs.Places.{placeSize}
 use Rattle.numbers.specs.Sizes.{headerSize}
@@ -121,16 +123,20 @@ module _ (x : Sample) where
 unfoldable pub listed : ℕ → ℕ → List Change → Bool
 listed w p cs = some (λ c. ((c .what) ≡? w) && ((c .place) ≡? p)) cs
 
--- What a list makes of the old sample x: of each unit before the first top-level fault nothing where its drop is listed, and
--- additional_bytes 0 where a zeroing is. Nothing is judged here but where that fault is.
-abbrev pub appliedAt : Sample → List Change → ℕ → List ℕ
-appliedAt y cs p =
-    pick (listed aDrop p cs) []
-    (pick (listed aZeroing p cs) (zeroedBytes y p)
-    (unitBytes y p))
+-- What a list makes of the old sample x. A drop at the first top-level fault cuts off all from there on; where it is not listed, that stays.
+-- Of each unit before it nothing is left where its drop is listed, and additional_bytes are 0 where a zeroing is.
+module _ (x : Sample) (cs : List Change) where
+  unfoldable pub listedEnd : ℕ
+  listedEnd = pick (listed aDrop (firstFault x) cs) (firstFault x) (end x)
 
-unfoldable pub applied : Sample → List Change → List ℕ
-applied x cs = each (appliedAt (cut x) cs) (wholeUnits x)
+  abbrev pub appliedAt : ℕ → List ℕ
+  appliedAt p =
+      pick (listed aDrop p cs) []
+      (pick (listed aZeroing p cs) (zeroedBytes x p)
+      (unitBytes x p))
+
+  unfoldable pub applied : List ℕ
+  applied = each appliedAt (keep (λ p. p <? listedEnd) (topUnits x))
 
 -- As it is written: 1 byte, then the place in 4.
 abbrev pub changeSize : ℕ

@@ -142,7 +142,7 @@ fn shown(growth: f64) -> String {
 }
 
 fn measure_sample(length_size: usize, sample: &[u8], rounds: usize) -> Measured {
-    let rooms = [sample.len(), CHANGE * (sample.len() / (length_size + 1) + 1), 0];
+    let rooms = [sample.len(), sample.len() + CHANGE - 1, 0];
     let library = |[out, changes, _]: &mut [Vec<u8>; 3]| {
         let made = puddockle::salvage_sample(SVC, length_size as u32, sample, out, changes).expect("accepted");
         [made.sample.len(), made.changes.bytes.len(), 0]

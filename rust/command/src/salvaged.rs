@@ -54,7 +54,7 @@ pub fn salvaged<'a>(forms: &Forms, samples: &[Sample<'a>]) -> Result<Vec<Changed
         let (kind, length_size) = forms.of_sample(&old);
         if let Err(refusal) = check_sample(kind, length_size, old.bytes) {
             // At most one change for each length field and byte after it.
-            let mut changes = vec![0; old.bytes.len().div_ceil(1 + length_size as usize) * CHANGE];
+            let mut changes = vec![0; old.bytes.len() + CHANGE - 1];
             let mut out = vec![0; old.bytes.len()];
             let salvaged = salvage_sample(kind as u32, length_size as u32, old.bytes, &mut out, &mut changes)?;
             let (new, changes) = (salvaged.sample.to_vec(), salvaged.changes.bytes.to_vec());

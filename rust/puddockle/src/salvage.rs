@@ -64,9 +64,8 @@ pub struct Salvaged<'a> {
 /// fault, or where a unit that they cover was dropped. A well-formed sample comes back as it is, with an empty list, and
 /// so does one that was salvaged. No other sample is changed, and no extractor rewritten.
 ///
-/// The new sample is never longer than the old one, and the naming list never longer than the bundle. The change list
-/// has at most one entry for each 1 + L bytes of the old sample, rounded up, L being the length size of its track: so
-/// [`CHANGE`] bytes for each two bytes, rounded up, always serve.
+/// The new sample is never longer than the old one, the change list at most 4 bytes longer than the old sample, and the
+/// naming list never longer than the bundle.
 ///
 /// ```
 /// use puddockle::{check_sample, salvage, Change, ChangeKind, Kind, LengthSize, NamesEntry, SampleNumber};
@@ -132,18 +131,17 @@ pub struct SalvagedSample<'a> {
 
 /// Salvages a sample outside a bundle, by the kind and length size of its track, as [`salvage`] does, without a naming
 /// list. Refused with 4 where `kind` is not 0 or 1, 11 where `length_size` is not 1, 2 or 4, then 29 where one of the two
-/// slices lacks room or the sample has more than 4,294,967,296 bytes, whose places do not fit the list; both are then
-/// untouched.
+/// slices lacks room or the sample, a well-formed one too, has more than 4,294,967,296 bytes, whose places do not fit the
+/// list; both are then untouched.
 ///
-/// The new sample is never longer than the old one, and the change list has at most [`CHANGE`] bytes for each
-/// 1 + `length_size` bytes of the old sample, rounded up.
+/// The new sample is never longer than the old one, and the change list at most 4 bytes longer than the old sample.
 ///
 /// ```
-/// use puddockle::{salvage_sample, Change, ChangeKind, Kind, CHANGE};
+/// use puddockle::{salvage_sample, Change, ChangeKind, Kind};
 ///
 /// // With lengths of 1 byte: an aggregator that covers the next 6 bytes, an extractor of a wrong size (22), a picture.
 /// let old = [5, 0x7E, 0x80, 0, 3, 6, 5, 0x7F, 0x80, 0, 3, 1, 2, 0x65, 0x88];
-/// let (mut out, mut changes) = ([0; 15], [0; 8 * CHANGE]);
+/// let (mut out, mut changes) = ([0; 15], [0; 15 + 4]);
 /// let salvaged = salvage_sample(Kind::Svc as u32, 1, &old, &mut out, &mut changes).unwrap();
 /// // The extractor is dropped, so the aggregator covers nothing any more.
 /// assert_eq!(salvaged.sample, [5, 0x7E, 0x80, 0, 3, 0, 2, 0x65, 0x88]);

@@ -18,14 +18,14 @@ fn refused<T>(number: u32) -> Result<T, Refusal> {
 }
 
 /// The room that always serves for a list of changes.
-fn list_room(length_size: LengthSize, sample: &[u8]) -> usize {
-    sample.len().div_ceil(1 + length_size as usize) * CHANGE
+fn list_room(sample: &[u8]) -> usize {
+    sample.len() + CHANGE - 1
 }
 
 /// The new sample and its changes, in exactly the room that always serves. Nothing past the counts is changed.
 fn salvaged(kind: Kind, length_size: LengthSize, old: &[u8]) -> (Vec<u8>, Vec<Change>) {
     let mut out = vec![CANARY; old.len()];
-    let mut changes = vec![CANARY; list_room(length_size, old)];
+    let mut changes = vec![CANARY; list_room(old)];
     let found = salvage_sample(kind as u32, length_size as u32, old, &mut out, &mut changes).unwrap();
     let (count, list) = (found.sample.len(), found.changes.entries().collect::<Vec<_>>());
     assert!(out[count..].iter().chain(&changes[list.len() * CHANGE..]).all(|&byte| byte == CANARY));
@@ -110,7 +110,7 @@ fn recordings() {
         for ((kind, length_size, old), number) in samples(&bundle).into_iter().zip((1..).map(SampleNumber)) {
             let changes = holds(kind, length_size, old);
             let (new, _) = salvaged(kind, length_size, old);
-            let mut rooms = [old.len(), list_room(length_size, old), bundle.len()].map(|room| vec![CANARY; room]);
+            let mut rooms = [old.len(), list_room(old), bundle.len()].map(|room| vec![CANARY; room]);
             let [out, list, named] = &mut rooms;
             let found = salvage(&bundle, number, out, list, named).unwrap();
             assert!(found.sample == new && found.changes.entries().eq(changes.iter().copied()));
@@ -204,7 +204,7 @@ fn by_hand() {
     }
 }
 
-/// As many changes as the room that always serves has place for: units that are all dropped, and a rest.
+/// Units that are all dropped, and a rest: with lengths of 1 byte as many changes as the room that always serves has place for.
 #[test]
 fn the_most_changes() {
     for length_size in [LengthSize::One, LengthSize::Two, LengthSize::Four] {
