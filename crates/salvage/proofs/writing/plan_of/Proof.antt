@@ -4,7 +4,6 @@ use native.Mathlib.Omega.{arith}
 use mathlib.Core.Path.{_≡_, ap, sym, _∙_}
 use Prim.Native.Nat.{ℕ, _+_, _*_, _≤_}
 use lib.ListN.{length}
-use borrow.Author.Tests.{lt-ltb}
 use Rattle.words.specs.Tests.{_<?_, _when_else_}
 use Rattle.words.proofs.Tests.{by-bool}
 use Rattle.salvage_rules.specs.Salvage.{changeSize}
