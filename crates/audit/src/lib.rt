@@ -1,4 +1,5 @@
 // The audit of a bundle: a line a sample, and a tally.
+#![tactic(auto)]
 ghost use Rattle.std.specs.Prelude.{◌≡◌, ◌++◌, ◌+◌, ◌*◌, ◌≤◌, ◌<◌, length};
 ghost use Rattle.words.specs.Refusals.{refused, ok};
 ghost use Rattle.words.specs.Bytes.{bytes};
@@ -19,14 +20,14 @@ use tally::{Outcome, Tally};
 use verdicts::KeptVerdict;
 
 // How many bytes of lines are written, and the tally.
-#[derive(Drop)]
+#[derive(Clone, Copy)]
 pub struct Report {
     pub count: usize,
     pub tally: Tally,
 }
 
 // A bundle audited, or refused.
-#[derive(Drop)]
+#[derive(Clone, Copy)]
 pub enum Audited {
     Refused(Refusal),
     Done(Report),

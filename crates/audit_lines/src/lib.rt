@@ -1,4 +1,5 @@
 // The lines of an audit: their sizes, and what a line says.
+#![tactic(auto)]
 ghost use Rattle.std.specs.Prelude.{◌≡◌};
 ghost use Rattle.words.specs.RefusalNumbers.{sample_refusals};
 ghost use Rattle.audit_lines.specs.Lines.{line_there, line_from, line_says};
@@ -13,7 +14,7 @@ pub const UNITS_SIZE: usize = 8;
 pub const LINE_SIZE: usize = REFUSAL_SIZE + PLACE_SIZE + UNITS_SIZE;
 
 // What a line says of a sample: it passed with so many units, is empty, or is refused; or there is no such line, or none that an audit writes.
-#[derive(Drop)]
+#[derive(Clone, Copy)]
 pub enum Line {
     Passed(usize),
     Empty,

@@ -1,4 +1,5 @@
 // Audits the bundle on standard input, of at most 65,536 bytes.
+#![tactic(auto)]
 use libc::STDIN_FILENO;
 use program_input::limit;
 

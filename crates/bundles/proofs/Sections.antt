@@ -14,7 +14,7 @@ use mathlib.Core.Path.{◌≡◌, refl, ap, sym, ◌∙◌}
 use mathlib.Core.Bool.{Bool, true, false, ◌&&◌, not}
 use mathlib.Core.List.{List, map, Memᴰ}
 use native.Mathlib.Omega.{arith}
-use borrow.Author.Tests.{ltb-false, leb-false, eqb-true, eqb-false, not_false, eq-eqb, ne_eqb}
+use borrow.Author.Tests.{ltb-false, leb-false, eqb-true, eqb-false, not-false, eq-eqb, ne_eqb}
 use lib.ListN.{length, length-map}
 use Rattle.words.specs.Tests.{◌<?◌, ◌≤?◌, ◌≡?◌, pick}
 use Rattle.words.specs.RefusalNumbers.{bundle_too_long, bundle_cut, count_out_of_limits, bad_reference, bad_track_or_time, bad_byte_count}
@@ -113,7 +113,7 @@ module _ (b : List ℕ) where
         from_there = exists _ (if_none _ _ c.0);
         to_there = exists _ (if_none _ _ d.0);
         apart = eqb-false _ _ (if_none _ _ f.0);
-        same = eqb-true _ _ (not_false _ (if_none _ _ f.1));
+        same = eqb-true _ _ (not-false _ (if_none _ _ f.1));
       }
 
   pub record References : Type 0 where
@@ -207,7 +207,7 @@ module _ (b : List ℕ) where
       let a = or_else_none (cut b p byte_count_size) _ e in
       let c = or_else_none (bad_byte_count if not (byte_count b p ≡? total)) _ a.1 in
       let d = or_else_none (cut b (p + byte_count_size) (byte_count b p)) _ c.1 in
-      let s : byte_count b p ≡ total = eqb-true _ _ (not_false _ (if_none _ _ c.0)) in
+      let s : byte_count b p ≡ total = eqb-true _ _ (not-false _ (if_none _ _ c.0)) in
       let l : p + byte_count_size + byte_count b p ≤ length b = ltb-false _ _ (if_none _ _ d.0) in
       let u : length b ≤ p + byte_count_size + byte_count b p = ltb-false _ _ (if_none _ _ d.1) in
       record { count = s; end = omega arith }

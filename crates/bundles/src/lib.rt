@@ -1,4 +1,5 @@
 // The bundle: accepted, or refused. Section four is not read, but for its count.
+#![tactic(auto)]
 ghost use Rattle.std.specs.Prelude.{◌≡◌, ◌+◌, ◌≤◌, ◌<◌, length};
 ghost use Rattle.words.specs.Tests.{◌<?◌};
 ghost use Rattle.words.specs.Refusals.{ok, ◌and_then◌, ◌at_place◌};
@@ -33,21 +34,21 @@ pub const SAMPLE_MOST: usize = 4096;
 const SIZES: usize = TRACK_MOST + 1;
 
 // What a check of a bundle answers.
-#[derive(Drop)]
+#[derive(Clone, Copy)]
 pub enum Checked {
     Refused(Refusal),
     Accepted,
 }
 
 // What a check of a section answers: where it ends, or the sum of the samples' lengths, or another number.
-#[derive(Drop)]
+#[derive(Clone, Copy)]
 enum Section {
     Refused(Refusal),
     Ended(usize),
 }
 
 // A track entry that was read: its refusal, 0 for none; without one its length size, and where it ends.
-#[derive(Drop)]
+#[derive(Clone, Copy)]
 struct TrackRead {
     pub fault: u8,
     pub size: u8,

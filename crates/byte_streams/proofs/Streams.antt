@@ -22,7 +22,7 @@ use lib.ListN.{length, length-append, replicate-append-replicate}
 use Rattle.words.specs.RefusalNumbers.{unit_not_streamable}
 use Rattle.words.specs.Refusals.{◌if◌, refused, ok, Verdict, ◌at_place◌, ◌and_then◌}
 use Rattle.words.specs.Lists.{each, ◌∈◌}
-use Rattle.words.proofs.Tests.{by_bool, true_false, not_false}
+use Rattle.words.proofs.Tests.{by_bool, true_false, not-false}
 use Rattle.words.proofs.Lists.{each_append}
 use Rattle.words.proofs.Entries.{and_assoc}
 use Rattle.words.proofs.Refusals.{and_ok, at_ok, if_none, ok_refused, refused_same}
@@ -141,7 +141,7 @@ verdict_ok p (w ∷ us) e u m =
     let a = and_ok (one_verdict p w) (stream_verdict (p + (4 + length w)) us) (sym (verdict_step p w us) ∙ e) in
     let below = verdict_ok (p + (4 + length w)) us a.1 u in
     ⊎_elim
-    (λ g. rw g (streamable_from w (not_false (is_streamable w) (if_none 31 _ (at_ok _ p a.0)))))
+    (λ g. rw g (streamable_from w (not-false (is_streamable w) (if_none 31 _ (at_ok _ p a.0)))))
     below
     (Memᴰ.cases_cons m)
 

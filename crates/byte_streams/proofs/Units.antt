@@ -15,7 +15,7 @@ use native.Mathlib.Omega.{arith}
 use borrow.Author.Tests.{ne_eqb, eqb-true, eqb-false, le-leb, leb-true}
 use lib.ListN.{length}
 use Rattle.words.specs.Tests.{◌≡?◌}
-use Rattle.words.proofs.Tests.{by_bool, true_false, not_true, and_both}
+use Rattle.words.proofs.Tests.{by_bool, true_false, not-true, and_both}
 use Rattle.byte_streams.specs.Grammar.{Streamable}
 use Rattle.byte_streams.specs.Writing.{ends_in_zero, is_forbidden, holds_forbidden, is_streamable}
 
@@ -86,9 +86,9 @@ streamable_from u e =
     let a = and_both _ _ e in
     let b = and_both _ _ a.1 in
     record {
-      not_empty = λ z. eqb-false _ _ (not_true (length u ≡? 0) a.0) (ap length z);
-      no_zero_at_end = λ w g. ends_from u w (not_true (ends_in_zero u) b.0) g;
-      no_forbidden = forbidden_from u (not_true (holds_forbidden u) b.1);
+      not_empty = λ z. eqb-false _ _ (not-true (length u ≡? 0) a.0) (ap length z);
+      no_zero_at_end = λ w g. ends_from u w (not-true (ends_in_zero u) b.0) g;
+      no_forbidden = forbidden_from u (not-true (holds_forbidden u) b.1);
     }
 
 pub streamable_to : (u : List ℕ) → Streamable u → is_streamable u ≡ true

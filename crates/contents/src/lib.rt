@@ -1,4 +1,5 @@
 // What a bundle holds: how many tracks, references and samples, and what its sections say of each.
+#![tactic(auto)]
 mod tracks;
 
 ghost use Rattle.std.specs.Prelude.{◌≡◌};
@@ -11,7 +12,7 @@ use filling::Filled;
 use numbers::{ByteOffset, Kind, Refusal, SampleNumber, TrackNumber};
 
 // How many tracks, references and samples there are.
-#[derive(Drop)]
+#[derive(Clone, Copy)]
 pub struct Counts {
     pub tracks: usize,
     pub references: usize,
@@ -19,14 +20,14 @@ pub struct Counts {
 }
 
 // The counts of a bundle, or a refusal.
-#[derive(Drop)]
+#[derive(Clone, Copy)]
 pub enum CountsFound {
     Refused(Refusal),
     Counts(Counts),
 }
 
 // A track: its kind, and where in the bundle its record stands.
-#[derive(Drop)]
+#[derive(Clone, Copy)]
 pub struct TrackEntry {
     pub kind: Kind,
     pub start: ByteOffset,
@@ -34,28 +35,28 @@ pub struct TrackEntry {
 }
 
 // A track, or a refusal.
-#[derive(Drop)]
+#[derive(Clone, Copy)]
 pub enum TrackFound {
     Refused(Refusal),
     Track(TrackEntry),
 }
 
 // A reference from a track to a track.
-#[derive(Drop)]
+#[derive(Clone, Copy)]
 pub struct Reference {
     pub from: TrackNumber,
     pub to: TrackNumber,
 }
 
 // A reference, or a refusal.
-#[derive(Drop)]
+#[derive(Clone, Copy)]
 pub enum ReferenceFound {
     Refused(Refusal),
     Reference(Reference),
 }
 
 // A sample: its track, its decode time, and where in the bundle its bytes stand.
-#[derive(Drop)]
+#[derive(Clone, Copy)]
 pub struct SampleEntry {
     pub track: TrackNumber,
     pub time: u64,
@@ -64,7 +65,7 @@ pub struct SampleEntry {
 }
 
 // A sample, or a refusal.
-#[derive(Drop)]
+#[derive(Clone, Copy)]
 pub enum SampleFound {
     Refused(Refusal),
     Sample(SampleEntry),

@@ -5,7 +5,7 @@
 --   good_flat                             its units are those of one walk
 use Prim.Native.Nat.{ℕ}
 use mathlib.Core.Path.{◌≡◌}
-use borrow.Author.Tests.{not_false}
+use borrow.Author.Tests.{not-false}
 use Rattle.words.specs.Refusals.{ok, refused}
 use Rattle.words.specs.RefusalNumbers.{named_ill_formed}
 use Rattle.words.proofs.Refusals.{if_none, or_else_none, or_else_here}
@@ -34,7 +34,7 @@ module _ (z : Sample) where
     module _ (g : copy_fault z o n ≡ 0) where
       pub good_formed : check z ≡ ok tt
       unfolding copy_fault
-      good_formed = formed_ok z (not_false _ (if_none 24 _ (or_else_none (form_fault z) _ g).0))
+      good_formed = formed_ok z (not-false _ (if_none 24 _ (or_else_none (form_fault z) _ g).0))
 
       pub good_border : border_fault z o n ≡ 0
       unfolding copy_fault

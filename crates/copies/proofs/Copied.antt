@@ -10,7 +10,7 @@ use mathlib.Core.Path.{◌≡◌, refl}
 use mathlib.Core.List.{Memᴰ}
 use mathlib.Core.Bool.{false, not, ◌&&◌}
 use native.Mathlib.Omega.{arith}
-use borrow.Author.Tests.{not_true, not_false}
+use borrow.Author.Tests.{not-true, not-false}
 use lib.ListN.{length}
 use Rattle.words.specs.Tests.{◌≤?◌, ◌<?◌}
 use Rattle.words.specs.Refusals.{ok}
@@ -37,7 +37,7 @@ module _ (z : Sample) (o n : ℕ) where
       let b = or_else_none (border_fault z o n) _ a.1 in
       let c = border_none z o n b.0 in
       record {
-        formed = formed_ok z (not_false _ (if_none 24 _ a.0));
+        formed = formed_ok z (not-false _ (if_none 24 _ a.0));
         starts = c.0;
         ends = c.1;
         no_extractor = some_false (is_extractor z) (copied z o n) (if_none 27 _ b.1);
@@ -64,7 +64,7 @@ module _ (z : Sample) (o n : ℕ) where
   pub copied_unit_lem : (q : ℕ) → Memᴰ q (copied z o n) → Memᴰ q (units z) × (is_aggregator z q ≡ false)
   copied_unit_lem q m =
       let a = keep_from (λ p. not (is_aggregator z p)) (units z) (keep_from _ (without_aggregators z (units z)) (rw copied_exact at m)).0 in
-      (a.0, not_true _ a.1)
+      (a.0, not-true _ a.1)
 
   copied_rise : Rising ◌<◌ (copied z o n)
   copied_rise = rw copied_exact (rising_keep ◌<◌ _ (without_aggregators z (units z)) (rising_keep ◌<◌ _ (units z) (units_rise z)))

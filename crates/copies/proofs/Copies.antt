@@ -15,7 +15,7 @@ use mathlib.Core.List.{Memᴰ}
 use mathlib.Core.Logic.{◌⊎◌, inl, inr, ⊎_elim}
 use mathlib.Core.Bool.{true, false, not, ◌||◌, ◌&&◌}
 use native.Mathlib.Omega.{arith}
-use borrow.Author.Tests.{eq-eqb, ne_eqb, eqb-true, eqb-false, not_false}
+use borrow.Author.Tests.{eq-eqb, ne_eqb, eqb-true, eqb-false, not-false}
 use Rattle.words.specs.Tests.{◌≤?◌, ◌<?◌, ◌≡?◌}
 use Rattle.words.specs.Refusals.{ok}
 use Rattle.words.specs.Lists.{has}
@@ -134,7 +134,7 @@ module _ (z : Sample) (o n : ℕ) where
   unfolding border_fault
   border_none h =
       let a = or_else_none (start_fault z o) _ h in
-      (not_false _ (if_none 25 _ a.0), not_false _ (if_none 26 _ a.1))
+      (not-false _ (if_none 25 _ a.0), not-false _ (if_none 26 _ a.1))
 
   -- a copy without 26 and 27
   module _ (b : border_fault z o n ≡ 0) where

@@ -19,7 +19,7 @@ use numbers::{ByteOffset, Refusal, SampleNumber};
 use units::Track;
 
 // One delivered unit with where it comes from, or a refusal.
-#[derive(Drop)]
+#[derive(Clone, Copy)]
 enum DeliveryFound {
     Refused(Refusal),
     Unit(DeliveredUnit),

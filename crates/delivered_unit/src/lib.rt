@@ -1,4 +1,5 @@
 // One unit that a sample delivers: where it stands, and its bytes.
+#![tactic(auto)]
 mod finding;
 
 ghost use Rattle.std.specs.Prelude.{◌≡◌};
@@ -11,21 +12,21 @@ use filling::Filled;
 use numbers::{ByteOffset, Refusal, SampleNumber};
 
 // One delivered unit, or a refusal.
-#[derive(Drop)]
+#[derive(Clone, Copy)]
 pub enum UnitFound {
     Refused(Refusal),
     Span(Span),
 }
 
 // A part of the bundle: where it starts, and its size.
-#[derive(Drop)]
+#[derive(Clone, Copy)]
 pub struct UnitPart {
     pub start: ByteOffset,
     pub size: usize,
 }
 
 // Where in the bundle one delivered unit stands, or a refusal.
-#[derive(Drop)]
+#[derive(Clone, Copy)]
 pub enum UnitPlaced {
     Refused(Refusal),
     Part(UnitPart),

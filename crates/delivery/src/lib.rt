@@ -1,5 +1,6 @@
 // What a good sample delivers, unit by unit: a cursor, and the one step that all loops over delivered units take. Nothing is judged here.
 // Every function takes any bytes, any table, any numbers and any cursor.
+#![tactic(auto)]
 ghost use Rattle.std.specs.Prelude.{◌≡◌, length};
 ghost use Rattle.units.specs.Units.{sample};
 ghost use Rattle.units.specs.Steps.{extractor_at};
@@ -13,7 +14,7 @@ use units::{Extractor, MaybeExtractor, Track};
 
 // A copy that is being delivered: the extractor's place in its own sample, the sample that it names with what its track says of it, where
 // the copy goes on there, where it ends, and how many of its units are delivered.
-#[derive(Drop)]
+#[derive(Clone, Copy)]
 pub struct CopyCursor {
     pub extractor: ByteOffset,
     pub named: SampleNumber,
@@ -24,14 +25,14 @@ pub struct CopyCursor {
 }
 
 // How far the delivery of a sample has come: where its own units go on, and a copy, which comes first until it is at its end.
-#[derive(Drop)]
+#[derive(Clone, Copy)]
 pub struct Cursor {
     pub place: ByteOffset,
     pub copy: CopyCursor,
 }
 
 // A unit: which sample it stands in, where it starts there, after its length field, and its size.
-#[derive(Drop)]
+#[derive(Clone, Copy)]
 pub struct Span {
     pub sample: SampleNumber,
     pub start: ByteOffset,
@@ -39,21 +40,21 @@ pub struct Span {
 }
 
 // Where a delivered unit comes from: the sample itself; or a copy: the extractor's place, and the unit's number in its copy, from 1.
-#[derive(Drop)]
+#[derive(Clone, Copy)]
 pub enum Source {
     Own,
     Copy(ByteOffset, usize),
 }
 
 // A delivered unit, and where it comes from.
-#[derive(Drop)]
+#[derive(Clone, Copy)]
 pub struct DeliveredUnit {
     pub span: Span,
     pub source: Source,
 }
 
 // A step: nothing is left; nothing delivered, and how it goes on; a unit, and how it goes on.
-#[derive(Drop)]
+#[derive(Clone, Copy)]
 pub enum Stepped {
     Done,
     Moved(Cursor),

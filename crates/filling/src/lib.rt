@@ -1,4 +1,5 @@
 // The table of a bundle, filled row by row into lent numbers.
+#![tactic(auto)]
 ghost use Rattle.std.specs.Prelude.{◌≡◌, [], ◌∷◌, ◌+◌, ◌*◌, ◌≤◌, ◌<◌, length};
 ghost use Rattle.words.specs.Refusals.{ok};
 ghost use Rattle.words.specs.Buffers.{write_at};
@@ -23,7 +24,7 @@ const FIRST_REFERENCE: usize = tables::REFERENCE_ROW + 1;
 const FIRST_SAMPLE: usize = tables::SAMPLE_ROW + 1;
 
 // What filling a table answers.
-#[derive(Drop)]
+#[derive(Clone, Copy)]
 pub enum Filled {
     // the bundle is refused, or 29 at 0: the table is too small. The table is as it was
     Refused(Refusal),

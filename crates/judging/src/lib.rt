@@ -1,5 +1,6 @@
 // What is judged of a sample by a bundle and any table beside it: 30, 14 to 28, or how much it delivers. Here are its number, 30, the two
 // numbers of a range, and its form, up to 22; the crate verdicts has the rest.
+#![tactic(auto)]
 pub mod form;
 
 ghost use Rattle.std.specs.Prelude.{◌≡◌};
@@ -9,7 +10,7 @@ ghost use Rattle.resolution_rules.specs.Ranges.{range_fault};
 use numbers::{Refusal, SampleNumber, refusals};
 
 // How many units a sample delivers, and how many bytes they have: of its own, and copied by its extractors.
-#[derive(Drop)]
+#[derive(Clone, Copy)]
 pub struct Amount {
     pub count: usize,
     pub own_bytes: usize,
@@ -17,7 +18,7 @@ pub struct Amount {
 }
 
 // A sample is good, or refused.
-#[derive(Drop)]
+#[derive(Clone, Copy)]
 pub enum Judged {
     Refused(Refusal),
     Good(Amount),

@@ -1,4 +1,5 @@
 // Which sample an extractor names, by a table alone. Every public function takes any table and any numbers.
+#![tactic(auto)]
 ghost use Rattle.std.specs.Prelude.{◌≡◌, ◌-◌, ◌≤◌, length};
 ghost use Rattle.bundles.specs.Limits.{sample_most};
 ghost use Rattle.bundles.specs.Recordings.{samples_in};
@@ -11,14 +12,14 @@ use numbers::{SampleNumber, TrackNumber};
 use tables::SampleRange;
 
 // The sample that an extractor names, or the number of the refusal: 23 or 24.
-#[derive(Drop)]
+#[derive(Clone, Copy)]
 pub enum Named {
     Refused(u8),
     Sample(SampleNumber),
 }
 
 // What a search for the base found, by its number within the track, 0 for none; and how many rounds it took.
-#[derive(Drop)]
+#[derive(Clone, Copy)]
 pub struct SearchResult {
     pub found: usize,
     pub rounds: usize,

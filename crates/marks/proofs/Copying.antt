@@ -17,7 +17,7 @@ use lib.ListN.{length}
 use Rattle.words.specs.Tests.{◌≤?◌, ◌<?◌, ◌≡?◌, pick}
 use Rattle.words.specs.Refusals.{ok}
 use Rattle.words.specs.RefusalNumbers.{bad_data_offset, bad_data_length}
-use Rattle.words.proofs.Tests.{by_bool, and_both, not_true}
+use Rattle.words.proofs.Tests.{by_bool, and_both, not-true}
 use Rattle.units.specs.Units.{Sample, end, next, is_aggregator}
 use Rattle.units.specs.Aggregators.{cover_end}
 use Rattle.units.proofs.Units.{next_after}
@@ -152,7 +152,7 @@ module _ (x : Sample) (k : check x ≡ ok tt) (rows : List ℕ) (base : ℕ) (te
       ends p l = by_bool ((n ≡? 0) && not (is_aggregator x o))
           (λ t.
           let w = and_both (n ≡? 0) (not (is_aggregator x o)) t in
-          let a = not_true (is_aggregator x o) w.1 in
+          let a = not-true (is_aggregator x o) w.1 in
           rw (t, end_unit x o n (eqb-true n 0 w.0) a) (sym (state_next x o p a)))
           (λ t. rw t (tell (copy_end x o n) l))
 

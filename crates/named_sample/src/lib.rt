@@ -1,4 +1,5 @@
 // Which sample the extractor at a place of a sample names.
+#![tactic(auto)]
 ghost use Rattle.std.specs.Prelude.{◌≡◌};
 ghost use Rattle.words.specs.Refusals.{refused, ok};
 ghost use Rattle.units.specs.Units.{sample};
@@ -16,7 +17,7 @@ use unit_steps::Item;
 use units::{Extractor, MaybeExtractor, Track};
 
 // The sample that an extractor names, or a refusal.
-#[derive(Drop)]
+#[derive(Clone, Copy)]
 pub enum NamedSample {
     Refused(Refusal),
     Sample(SampleNumber),

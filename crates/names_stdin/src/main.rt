@@ -1,4 +1,5 @@
 // Prints which extractors name a sample: the number of the sample is the argument, the bundle is on standard input, of at most 65,536 bytes.
+#![tactic(auto)]
 use libc::{STDERR_FILENO, STDIN_FILENO};
 use numbers::SampleNumber;
 use program_input::decimal::MaybeNumber;

@@ -1,4 +1,5 @@
 // The naming list: the extractors that name a sample.
+#![tactic(auto)]
 ghost use Rattle.std.specs.Prelude.{◌≡◌, map, ℕ, ◌+◌, ◌*◌, ◌≤◌, ◌<◌, length};
 ghost use Rattle.words.specs.Tests.{pick};
 ghost use Rattle.words.specs.Refusals.{refused, ok};
@@ -27,7 +28,7 @@ const SAMPLE_SIZE: usize = 2;
 pub const ENTRY_SIZE: usize = SAMPLE_SIZE + PLACE_SIZE;
 
 // An extractor of the list: its own sample, and its place there.
-#[derive(Drop)]
+#[derive(Clone, Copy)]
 pub struct Entry {
     pub sample: SampleNumber,
     pub place: ByteOffset,

@@ -1,4 +1,5 @@
 // Numbers that must not be mixed up, a track's kind and length size, and numbers in bytes.
+#![tactic(auto)]
 pub mod refusals;
 
 ghost use Rattle.std.specs.Prelude.{◌≡◌, ◌+◌, ◌≤◌, ◌<◌, length};
@@ -8,15 +9,15 @@ ghost use Rattle.numbers.specs.Sizes.{in_bytes, extractor_size, least_aggregator
 ghost use Rattle.numbers.specs.Kinds.{kind_of};
 
 // The number of a track, from 1.
-#[derive(Drop)]
+#[derive(Clone, Copy)]
 pub struct TrackNumber(pub usize);
 
 // The number of a sample, from 1.
-#[derive(Drop)]
+#[derive(Clone, Copy)]
 pub struct SampleNumber(pub usize);
 
 // An offset in bytes, from 0: a place.
-#[derive(Drop)]
+#[derive(Clone, Copy)]
 pub struct ByteOffset(pub usize);
 
 // The bytes of a place as it is written.
@@ -28,28 +29,28 @@ pub const FORBIDDEN_BIT: u8 = 128;
 pub const NAL_TYPES: u8 = 32;
 
 // A refusal: its number in document 01's table, and its place.
-#[derive(Drop)]
+#[derive(Clone, Copy)]
 pub struct Refusal {
     pub number: u8,
     pub place: ByteOffset,
 }
 
 // What a call that writes answers: a refusal, after which nothing is written, or how much it wrote.
-#[derive(Drop)]
+#[derive(Clone, Copy)]
 pub enum Written {
     Refused(Refusal),
     Count(usize),
 }
 
 // The kind of a track.
-#[derive(Drop)]
+#[derive(Clone, Copy)]
 pub enum Kind {
     Avc,
     Svc,
 }
 
 // What a number says of a kind.
-#[derive(Drop)]
+#[derive(Clone, Copy)]
 pub enum MaybeKind {
     Known(Kind),
     Unknown,
@@ -71,7 +72,7 @@ impl Kind {
 }
 
 // L, the length size of a track in bytes.
-#[derive(Drop)]
+#[derive(Clone, Copy)]
 pub enum LengthSize {
     One,
     Two,
@@ -79,7 +80,7 @@ pub enum LengthSize {
 }
 
 // What a number says of a length size.
-#[derive(Drop)]
+#[derive(Clone, Copy)]
 pub enum MaybeLengthSize {
     Known(LengthSize),
     Unknown,

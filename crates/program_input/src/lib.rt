@@ -1,4 +1,5 @@
 // What the programs take, without what they print: the argument as a number, the limit of the input, the used part of a buffer.
+#![tactic(auto)]
 pub mod buffers;
 pub mod decimal;
 pub mod limit;

@@ -12,7 +12,7 @@ use mathlib.Core.List.{List, [], ◌∷◌}
 use mathlib.Core.Logic.{◌⊎◌, inl, inr, ⊎_elim}
 use native.Mathlib.Omega.{arith}
 use native.Mathlib.Nat.{pos_of_ne-zero}
-use borrow.Author.Tests.{eqb-true, eqb-false, eq-eqb, lt-ltb, ltb-true, le-leb, not_true}
+use borrow.Author.Tests.{eqb-true, eqb-false, eq-eqb, lt-ltb, ltb-true, le-leb, not-true}
 use Rattle.words.specs.Tests.{◌<?◌, ◌≤?◌, ◌≡?◌}
 use Rattle.words.specs.Refusals.{refused, ok, ◌at_place◌, first, passed}
 use lib.ListN.{length}
@@ -59,7 +59,7 @@ module _ (x : Sample) where
     extractor_bad : 0 < extractor_fault x p → (type x p ≡ 31) × (size x p ≡ 6 + 2 * L x → ⊥) × (extractor_fault x p ≡ 22)
     extractor_bad h = by_bool (is_extractor x p && not (size x p ≡? extractor_size x.length_size))
         (λ c. let i = and_both (is_extractor x p) (not (size x p ≡? extractor_size x.length_size)) c in
-        (eqb-true _ _ i.0, eqb-false _ _ (not_true _ i.1), rw c))
+        (eqb-true _ _ i.0, eqb-false _ _ (not-true _ i.1), rw c))
         (λ c. let z : 0 < 0 = rw c at h in absurd (omega arith))
 
     pub inside_fault : {m q : ℕ} → inside_verdict x p ≡ refused m q → InsideFault x p m q

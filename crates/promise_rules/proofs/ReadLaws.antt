@@ -12,7 +12,7 @@ use mathlib.Core.List.{List, [], ◌∷◌}
 use mathlib.Core.Logic.{◌⊎◌, inl, inr, ⊎_elim, ◌↔◌}
 use native.Mathlib.Omega.{arith}
 use native.Mathlib.Nat.{pos_of_ne-zero, add-zero}
-use borrow.Author.Tests.{ltb-true, ltb-false, lt-ltb, le-ltb, leb-true, leb-false, le-leb, lt-leb, eqb-true, eqb-false, eq-eqb, ne_eqb, not_true, not_false}
+use borrow.Author.Tests.{ltb-true, ltb-false, lt-ltb, le-ltb, leb-true, leb-false, le-leb, lt-leb, eqb-true, eqb-false, eq-eqb, ne_eqb, not-true, not-false}
 use lib.ListN.{length}
 use Rattle.words.specs.Tests.{◌<?◌, ◌≤?◌, ◌≡?◌}
 use Rattle.words.specs.Refusals.{◌if◌, ◌or_else◌, first_of, refused}
@@ -95,9 +95,9 @@ eq_test c a b = test c (a ≡? b) (eqb-true a b) (eq-eqb a b) (eqb-false a b) (n
 
 ne_test : (c a b : ℕ) → Judges (suc c if not (a ≡? b)) (λ n. (n ≡ suc c) × (a ≡ b → ⊥)) (a ≡ b)
 ne_test c a b = test c (not (a ≡? b))
-    (λ e. eqb-false a b (not_true _ e))
+    (λ e. eqb-false a b (not-true _ e))
     (λ h. rw (ne_eqb a b h))
-    (λ e. eqb-true a b (not_false _ e))
+    (λ e. eqb-true a b (not-false _ e))
     (λ h. rw (eq-eqb a b h))
 
 -- a byte with fixed bits
@@ -122,9 +122,9 @@ module _ (s : List ℕ) (h : Shape) (p : ℕ) (P : ℕ → Type 0) (bits : (fixe
 module _ (types : SetTypes) (ts : List ℕ) (to : (t : ℕ) → one_of types t ≡ true → t ∈ ts) (from : (t : ℕ) → t ∈ ts → one_of types t ≡ true) (s : List ℕ) where
   in_test : (c t : ℕ) → Judges (suc c if not (one_of types t)) (λ n. (n ≡ suc c) × (t ∈ ts → ⊥)) (t ∈ ts)
   in_test c t = test c (not (one_of types t))
-      (λ e m. true_false (one_of types t) (from t m) (not_true _ e))
+      (λ e m. true_false (one_of types t) (from t m) (not-true _ e))
       (λ h. by_bool (one_of types t) (λ e. absurd (h (to t e))) (λ e. rw e))
-      (λ e. to t (not_false _ e))
+      (λ e. to t (not-false _ e))
       (λ m. rw (from t m))
 
   abbrev SetTests : ℕ → ℕ → Type 0

@@ -15,7 +15,7 @@ use mathlib.Core.List.Memᴰ
 use mathlib.Core.List.{List, [], ◌∷◌, ◌++◌, append-nil}
 use mathlib.Core.Logic.{◌⊎◌, inl, inr, ⊎_elim, ◌↔◌}
 use native.Mathlib.Omega.{arith}
-use borrow.Author.Tests.{ltb-true, ltb-false, eqb-true, eqb-false, ne_eqb, eq-eqb, not_true}
+use borrow.Author.Tests.{ltb-true, ltb-false, eqb-true, eqb-false, ne_eqb, eq-eqb, not-true}
 use lib.ListN.{length, drop}
 use Rattle.words.specs.Tests.{◌<?◌, ◌≡?◌, all}
 use Rattle.words.specs.Refusals.{◌or_else◌, first_of, Answer, refused, ok}
@@ -120,7 +120,7 @@ in_high p m = ⊎_elim (λ e. rw e)
 
 size_in : (l : ℕ) → 0 < l → l ≤ 4 → not (l ≡? 3) ≡ true → l ∈ (1 ∷ 2 ∷ 4 ∷ [])
 size_in l h k e =
-    let d : l ≡ 3 → ⊥ = eqb-false _ _ (not_true (l ≡? 3) e) in
+    let d : l ≡ 3 → ⊥ = eqb-false _ _ (not-true (l ≡? 3) e) in
     by_bool (l ≡? 1)
     (λ q. Memᴰ.head (eqb-true _ _ q))
     (λ q. by_bool (l ≡? 2)
@@ -235,7 +235,7 @@ absent_fits c e = rw e
 
 -- what ends a record, by the definition and in plain facts
 pub ends : (profile : ℕ) (t : Trailer) (x : List ℕ) → (ending t).fits ≡ true → (ending t).belongs Avc profile ≡ true → sets_fit extension_types x (ending t).sets ≡ true → RecordEnds profile t x ((ending t).head ++ x)
-ends profile None x n g y = rw (none_left x y) (RecordEnds.none (not_high profile (not_true _ g)))
+ends profile None x n g y = rw (none_left x y) (RecordEnds.none (not_high profile (not-true _ g)))
 ends profile Absent x n g y = rw (none_left x y) (RecordEnds.absent (high_in profile g))
 ends profile (Present t) x n g y =
     let m = high_numbers t n in

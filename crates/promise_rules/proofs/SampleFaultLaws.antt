@@ -10,7 +10,7 @@ use mathlib.Core.List.Memᴰ
 use mathlib.Core.List.{[], ◌∷◌}
 use native.Mathlib.Omega.{arith}
 use native.Mathlib.Nat.{pos_of_ne-zero}
-use borrow.Author.Tests.{ltb-true, ltb-false, lt-ltb, le-ltb, leb-true, leb-false, le-leb, lt-leb, eqb-true, eqb-false, eq-eqb, ne_eqb, not_true}
+use borrow.Author.Tests.{ltb-true, ltb-false, lt-ltb, le-ltb, leb-true, leb-false, le-leb, lt-leb, eqb-true, eqb-false, eq-eqb, ne_eqb, not-true}
 use Rattle.words.specs.Tests.{◌<?◌, ◌≤?◌, ◌≡?◌}
 use Rattle.words.specs.Refusals.{◌if◌, refused, first}
 use Rattle.words.specs.Lists.{◌∈◌, some}
@@ -98,7 +98,7 @@ module _ (x : Sample) where
     extractor_some : 0 < extractor_fault x p → (type x p ≡ 31) × (size x p ≡ 6 + 2 * L x → ⊥)
     extractor_some h = by_bool (is_extractor x p && not (size x p ≡? extractor_size x.length_size))
         (λ c. let i = and_both (is_extractor x p) (not (size x p ≡? extractor_size x.length_size)) c in
-        (eqb-true _ _ i.0, eqb-false _ _ (not_true _ i.1)))
+        (eqb-true _ _ i.0, eqb-false _ _ (not-true _ i.1)))
         (λ c. let z : 0 < 0 = rw c at h in absurd (omega arith))
 
     no_slice : (t : ℕ) → 5 < t → (is_avc x.kind && is_slice t) ≡ false

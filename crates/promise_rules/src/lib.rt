@@ -1,1 +1,2 @@
 // No code: what the product promises, and the marked cases of document 01.
+#![tactic(auto)]

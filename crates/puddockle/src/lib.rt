@@ -1,4 +1,5 @@
 // The C interface: include/puddockle.h says what each function takes and gives.
+#![tactic(auto)]
 mod answer;
 mod bundle;
 mod entries;

@@ -1,4 +1,5 @@
 // Samples first to last of a bundle in one call: resolved into one buffer, with a line of the audit for each.
+#![tactic(auto)]
 ghost use Rattle.std.specs.Prelude.{◌≡◌, [], ◌∷◌, ◌≤◌, length};
 ghost use Rattle.words.specs.Refusals.{refused};
 ghost use Rattle.words.specs.Buffers.{within_all, WroteAll};
@@ -13,14 +14,14 @@ use filling::Filled;
 use numbers::{ByteOffset, Refusal, SampleNumber, Written, refusals};
 
 // How many bytes of the joined output and of the lines are written.
-#[derive(Drop)]
+#[derive(Clone, Copy)]
 pub struct Counts {
     pub output: usize,
     pub lines: usize,
 }
 
 // Samples of a range resolved, or refused.
-#[derive(Drop)]
+#[derive(Clone, Copy)]
 pub enum Ranged {
     Refused(Refusal),
     Done(Counts),

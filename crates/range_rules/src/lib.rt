@@ -1,1 +1,2 @@
 // No code: what the call for a range of samples answers, and what is promised of it.
+#![tactic(auto)]

@@ -1,4 +1,5 @@
 // Decoder configuration records as 18 numbers.
+#![tactic(auto)]
 mod reading;
 mod writing;
 

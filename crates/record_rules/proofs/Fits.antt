@@ -11,7 +11,7 @@ use mathlib.Core.Bool.{Bool, true, false, ◌&&◌, not}
 use mathlib.Core.List.{List, [], ◌∷◌, ◌++◌}
 use native.Mathlib.Omega.{arith}
 use native.Mathlib.Nat.{add-zero}
-use borrow.Author.Tests.{eqb-true, eqb-false, eq-eqb, ne_eqb, not_true}
+use borrow.Author.Tests.{eqb-true, eqb-false, eq-eqb, ne_eqb, not-true}
 use lib.ListN.{length, drop}
 use Rattle.words.specs.Tests.{◌≡?◌, all}
 use Rattle.words.specs.RefusalNumbers.{bad_length_size}
@@ -144,7 +144,7 @@ of_parts k f a b x e =
       pictures = b'.0;
       extensions = x'.0;
       belongs = c5.0;
-      good = bytes_fault k f a b x n a'.0 b'.0 x'.0 c5.0 ∙ rw (not_true (f.length_size ≡? 3) c2.0, a'.1, b'.1, x'.1);
+      good = bytes_fault k f a b x n a'.0 b'.0 x'.0 c5.0 ∙ rw (not-true (f.length_size ≡? 3) c2.0, a'.1, b'.1, x'.1);
     })
 
 pub fits_by_parts_lem : (k : Kind) (f : Fields) (a b x : List ℕ) → fits k f a b x ≡ fits_by_parts k f a b x

@@ -10,7 +10,7 @@ use mathlib.Core.Path.{◌≡◌, refl, ap, sym, ◌∙◌}
 use mathlib.Core.Bool.{Bool, true, false, not}
 use mathlib.Core.List.{List}
 use native.Mathlib.Omega.{arith}
-use borrow.Author.Tests.{ltb-false, leb-false, eqb-true, eqb-false, not_false}
+use borrow.Author.Tests.{ltb-false, leb-false, eqb-true, eqb-false, not-false}
 use lib.ListN.{length}
 use Rattle.words.specs.Tests.{◌<?◌, ◌≡?◌, pick}
 use Rattle.words.specs.RefusalNumbers.{bad_version, bad_length_size, wrong_fixed_bits, bytes_after_record}
@@ -34,7 +34,7 @@ pub byte_good : (s : List ℕ) (h : Shape) (p : ℕ) → byte_fault s h p ≡ 0 
 unfolding byte_fault
 byte_good s h p e =
     let a = or_else_none (missing s p) _ e in
-    (there s p a.0, eqb-true _ _ (not_false _ (if_none _ _ a.1)))
+    (there s p a.0, eqb-true _ _ (not-false _ (if_none _ _ a.1)))
 
 -- whatever the bytes are
 pub length_size_most : (k : Kind) (s : List ℕ) → length_size k s ≤ 4
@@ -57,7 +57,7 @@ head_good k s e =
     let f = byte_good s (record_layout k).length_size 4 c.0 in
     let g = byte_good s (record_layout k).count 5 d.1 in
     record {
-      version = eqb-true _ _ (not_false _ (if_none _ _ b.0));
+      version = eqb-true _ _ (not-false _ (if_none _ _ b.0));
       length_size = f.1;
       known = eqb-false _ _ (if_none _ _ d.0);
       there = g.0;

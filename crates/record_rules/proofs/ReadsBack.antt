@@ -12,7 +12,7 @@ use mathlib.Core.Bool.{Bool, true, false, not}
 use mathlib.Core.List.{List, [], ◌∷◌, ◌++◌, append-nil}
 use native.Mathlib.Omega.{arith}
 use native.Mathlib.Nat.{add-zero}
-use borrow.Author.Tests.{eqb-true, lt-leb, le-ltb, eq-eqb, not_true}
+use borrow.Author.Tests.{eqb-true, lt-leb, le-ltb, eq-eqb, not-true}
 use lib.ListN.{length, drop, length-append}
 use Rattle.words.specs.Tests.{◌<?◌, ◌≡?◌, pick}
 use Rattle.words.specs.RefusalNumbers.{bad_length_size}
@@ -119,7 +119,7 @@ read_ending :
     (k : Kind) (s : List ℕ) (q : ℕ) (t : Trailer) (x : List ℕ) → q ≤ length s → drop q s ≡ (ending t).head ++ x →
     (ending t).fits ≡ true → exactly x (ending t).sets ≡ true → (ending t).belongs k (byte_at s 1) ≡ true →
     (ending_of k s q ≡ t) × ((ending t).fault s q ≡ 0)
-read_ending k s q None x h e n i g = (ending_none k s q (not_true _ g), refl)
+read_ending k s q None x h e n i g = (ending_none k s q (not-true _ g), refl)
 read_ending k s q Absent x h e n i g =
     let z : q ≡ length s = at_end s q h (e ∙ no_bytes x i) in
     (ending_absent k s q g (omega arith), refl)

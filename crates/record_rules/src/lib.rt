@@ -1,11 +1,12 @@
 // Decoder configuration records: what they hold. The reader is the crate records, the writer record_writer.
+#![tactic(auto)]
 pub mod layouts;
 
 use numbers::{ByteOffset, Refusal};
 use sets::SetTypes;
 
 // A byte of flags, fixed bits and a value, from the top.
-#[derive(Drop)]
+#[derive(Clone, Copy)]
 pub struct Shape {
     // what the lowest flag counts: 256 where there is none
     pub unit: usize,
@@ -16,7 +17,7 @@ pub struct Shape {
 }
 
 // What the kinds of record differ in: a kind is one row.
-#[derive(Drop)]
+#[derive(Clone, Copy)]
 pub struct RecordLayout {
     // how many flags stand at the top of the byte with the length size
     pub flags: usize,
@@ -31,7 +32,7 @@ pub struct RecordLayout {
 }
 
 // A flag of one bit that a kind's record may not have.
-#[derive(Drop)]
+#[derive(Clone, Copy)]
 pub enum Flag {
     Absent,
     Clear,
@@ -39,7 +40,7 @@ pub enum Flag {
 }
 
 // The values of a trailer.
-#[derive(Drop)]
+#[derive(Clone, Copy)]
 pub struct High {
     // chroma_format
     pub format: usize,
@@ -52,7 +53,7 @@ pub struct High {
 }
 
 // What follows the picture sets.
-#[derive(Drop)]
+#[derive(Clone, Copy)]
 pub enum Trailer {
     // nothing, since no trailer belongs there
     None,
@@ -62,7 +63,7 @@ pub enum Trailer {
 }
 
 // The fields of a record. They are numbers that may be too large for their bits where a record is to be written.
-#[derive(Drop)]
+#[derive(Clone, Copy)]
 pub struct Fields {
     pub profile: usize,
     pub compatibility: usize,
@@ -78,14 +79,14 @@ pub struct Fields {
 }
 
 // A part of the record's bytes that holds sets, each after its 2-byte length.
-#[derive(Drop)]
+#[derive(Clone, Copy)]
 pub struct Part {
     pub start: ByteOffset,
     pub len: usize,
 }
 
 // A record that was read: its fields, and where its sets stand.
-#[derive(Drop)]
+#[derive(Clone, Copy)]
 pub struct Record {
     pub fields: Fields,
     pub sequences: Part,
@@ -93,7 +94,7 @@ pub struct Record {
     pub extensions: Part,
 }
 
-#[derive(Drop)]
+#[derive(Clone, Copy)]
 pub enum Reading {
     Refused(Refusal),
     Accepted(Record),

@@ -1,4 +1,5 @@
 // Writing decoder configuration records.
+#![tactic(auto)]
 mod fitting;
 mod putting;
 
@@ -14,7 +15,7 @@ use record_rules::Fields;
 const FRONT: usize = 7;
 
 // What is known of a trailer at the end of a record.
-#[derive(Drop)]
+#[derive(Clone, Copy)]
 struct Facts {
     // how many bytes stand before its sets
     pub head: usize,
@@ -27,7 +28,7 @@ struct Facts {
 }
 
 // Whether a buffer has room for a number of bytes.
-#[derive(Drop)]
+#[derive(Clone, Copy)]
 enum Room {
     Lacks,
     Fits(usize),

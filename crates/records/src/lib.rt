@@ -1,4 +1,5 @@
 // The reader of decoder configuration records.
+#![tactic(auto)]
 mod steps;
 
 ghost use Rattle.std.specs.Prelude.{◌≡◌};
@@ -10,7 +11,7 @@ use numbers::{ByteOffset, Kind, MaybeKind, Refusal, refusals};
 use record_rules::{Part, Reading, Record, Trailer, layouts};
 
 // What follows the picture sets: the first refusal, 0 for none; without one the trailer, where its sets start, and where the record ends.
-#[derive(Drop)]
+#[derive(Clone, Copy)]
 struct Follow {
     pub fault: u8,
     pub trailer: Trailer,

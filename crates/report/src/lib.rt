@@ -1,4 +1,5 @@
 // The text of the two programs, on standard output. The libraries find what is said; no contract can speak of what is written.
+#![tactic(auto)]
 mod audit_text;
 mod names_text;
 mod text;

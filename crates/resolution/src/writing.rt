@@ -18,7 +18,7 @@ use numbers::{ByteOffset, Refusal, SampleNumber, Written, refusals};
 use units::Track;
 
 // What stands in the 4 bytes before each unit: its length, or a start code.
-#[derive(Drop)]
+#[derive(Clone, Copy)]
 pub(crate) enum Framing {
     Lengths,
     StartCodes,

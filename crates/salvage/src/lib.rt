@@ -1,4 +1,5 @@
 // A damaged sample salvaged: the new sample and the list of changes, over lent buffers.
+#![tactic(auto)]
 mod fates;
 mod writing;
 
@@ -20,27 +21,27 @@ use numbers::{
 use units::Track;
 
 // How many bytes of the new sample and of the list of changes are written.
-#[derive(Drop)]
+#[derive(Clone, Copy)]
 pub struct Counts {
     pub sample: usize,
     pub changes: usize,
 }
 
-#[derive(Drop)]
+#[derive(Clone, Copy)]
 pub enum SalvagedSample {
     Refused(Refusal),
     Done(Counts),
 }
 
 // The same, and how many bytes of the naming list.
-#[derive(Drop)]
+#[derive(Clone, Copy)]
 pub struct AllCounts {
     pub sample: usize,
     pub changes: usize,
     pub names: usize,
 }
 
-#[derive(Drop)]
+#[derive(Clone, Copy)]
 pub enum Salvaged {
     Refused(Refusal),
     Done(AllCounts),

@@ -24,14 +24,14 @@ const ZEROING: u8 = 2;
 const CHANGE_SIZE: usize = 1 + PLACE_SIZE;
 
 // How many bytes the new sample and the list have.
-#[derive(Drop)]
+#[derive(Clone, Copy)]
 struct Sizes {
     sample: usize,
     changes: usize,
 }
 
 // The same, and where the first top-level fault is, or the end.
-#[derive(Drop)]
+#[derive(Clone, Copy)]
 pub(crate) struct Plan {
     pub fault: usize,
     pub sample: usize,

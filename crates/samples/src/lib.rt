@@ -1,4 +1,5 @@
 // The form of a sample: any bytes offered as a sample get one answer.
+#![tactic(auto)]
 ghost use Rattle.std.specs.Prelude.{◌≡◌, true};
 ghost use Rattle.words.specs.Refusals.{ok};
 ghost use Rattle.words.specs.Lists.{has};
@@ -10,7 +11,7 @@ use numbers::{ByteOffset, Kind, LengthSize, MaybeKind, MaybeLengthSize, Refusal,
 use units::Track;
 
 // A sample is well formed, or refused.
-#[derive(Drop)]
+#[derive(Clone, Copy)]
 pub enum Checked {
     WellFormed,
     Refused(Refusal),

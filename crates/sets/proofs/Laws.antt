@@ -13,7 +13,7 @@ use mathlib.Core.List.{List, [], ◌∷◌, ◌++◌, map, Memᴰ}
 use native.Mathlib.Omega.{arith}
 use native.Mathlib.Numerals.{sub-one}
 use native.Mathlib.Nat.{pos_of_ne-zero, add-zero}
-use borrow.Author.Tests.{ltb-false, eqb-true, eqb-false, leb-false, not_false, lt-leb, le-ltb, eq-eqb, ne_eqb}
+use borrow.Author.Tests.{ltb-false, eqb-true, eqb-false, leb-false, not-false, lt-leb, le-ltb, eq-eqb, ne_eqb}
 use lib.ListN.{length, drop}
 use Rattle.words.specs.Tests.{◌<?◌, ◌≤?◌, ◌≡?◌, pick}
 use Rattle.words.specs.RefusalNumbers.{record_cut, bad_set}
@@ -47,7 +47,7 @@ whole types s p h =
       some = pos_of_ne-zero (eqb-false _ _ (if_none _ _ b.0));
       inside = ltb-false _ _ (if_none _ _ c.0);
       top = leb-false _ _ (if_none _ _ d.0);
-      type = not_false _ (if_none _ _ d.1);
+      type = not-false _ (if_none _ _ d.1);
     }
 
 pub no_fault : (types : SetTypes) (s : List ℕ) (p : ℕ) → Whole types s p → set_fault types s p ≡ 0

@@ -1,4 +1,5 @@
 // Parameter sets as a configuration record holds them: each after its 2-byte length.
+#![tactic(auto)]
 ghost use Rattle.std.specs.Prelude.{◌≡◌, ◌≤◌, length};
 ghost use Rattle.sets.specs.Sets.{set_fault, walk_of, sets_fit};
 
@@ -17,14 +18,14 @@ pub const PICTURE_SET: u8 = 8;
 pub const EXTENSION_SET: u8 = 13;
 
 // The one or two unit types that a set may have.
-#[derive(Drop)]
+#[derive(Clone, Copy)]
 pub struct SetTypes {
     pub one: u8,
     pub other: u8,
 }
 
 // A walk over sets: its first refusal, 0 for none, and where the sets end, 0 after a refusal.
-#[derive(Drop)]
+#[derive(Clone, Copy)]
 pub struct Walk {
     pub fault: u8,
     pub end: usize,

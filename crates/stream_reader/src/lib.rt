@@ -1,4 +1,5 @@
 // A byte stream read, and written as a sample.
+#![tactic(auto)]
 mod units;
 
 ghost use Rattle.std.specs.Prelude.{◌≡◌, ◌≤◌, map, length};
@@ -16,7 +17,7 @@ use numbers::{ByteOffset, LengthSize, MaybeLengthSize, Refusal, Written, refusal
 use units::Judged;
 
 // How much a sample takes: a size that there is room for, or more.
-#[derive(Drop)]
+#[derive(Clone, Copy)]
 enum Total {
     Size(usize),
     TooLong,

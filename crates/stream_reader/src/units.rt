@@ -10,7 +10,7 @@ ghost use Rattle.stream_reader.specs.Steps.{unit_from, judgement, judged_of};
 use numbers::{ByteOffset, LengthSize, Refusal, refusals};
 
 // A unit judged: a refusal; or its size, and where the next start code ends, at its 01, or the stream does.
-#[derive(Drop)]
+#[derive(Clone, Copy)]
 pub enum Judged {
     Refused(Refusal),
     Unit(usize, usize),

@@ -1,4 +1,5 @@
 // A table of numbers beside a bundle: its numbers, and the tracks and references that it says. Every function takes any table; the crate filling fills one.
+#![tactic(auto)]
 ghost use Rattle.std.specs.Prelude.{◌≡◌, ◌+◌, ◌≤◌, ◌<◌, length};
 ghost use Rattle.words.specs.Tests.{◌≡?◌, pick};
 ghost use Rattle.words.specs.Lists.{nth};
@@ -43,7 +44,7 @@ pub const FROM: usize = 0;
 pub const TO: usize = 1;
 
 // The samples of a track: those numbered after `before`, up to `after`; none where `after` is not the greater.
-#[derive(Drop)]
+#[derive(Clone, Copy)]
 pub struct SampleRange {
     pub before: usize,
     pub after: usize,

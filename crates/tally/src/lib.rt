@@ -1,9 +1,10 @@
 // One running tally of passed, empty and refused samples.
+#![tactic(auto)]
 ghost use Rattle.std.specs.Prelude.{◌≡◌, []};
 ghost use Rattle.tally.specs.Tallies.{tallied, one_more, raised_by};
 
 // What an audit finds of a sample.
-#[derive(Drop)]
+#[derive(Clone, Copy)]
 pub enum Outcome {
     Passed,
     Empty,
@@ -11,7 +12,7 @@ pub enum Outcome {
 }
 
 // How many samples passed, how many are empty, how many are refused.
-#[derive(Drop)]
+#[derive(Clone, Copy)]
 pub struct Tally {
     pub passed: u64,
     pub empty: u64,

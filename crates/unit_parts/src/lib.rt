@@ -1,4 +1,5 @@
 // Where in the bundle all units stand that a sample delivers.
+#![tactic(auto)]
 mod writing;
 
 ghost use Rattle.std.specs.Prelude.{length};

@@ -1,4 +1,5 @@
 // What stands at a place of a sample, and the fields of an extractor, for walks: total, nothing where there is a fault.
+#![tactic(auto)]
 ghost use Rattle.std.specs.Prelude.{◌≡◌};
 ghost use Rattle.units.specs.Units.{sample};
 ghost use Rattle.units.specs.Steps.{extractor_at};
@@ -9,7 +10,7 @@ use units::{Extractor, MaybeExtractor, NalUnit, Track};
 
 // What stands at a place: nothing that lies in the sample; an aggregator, and where its included units start; an extractor, and where the
 // next unit starts; another unit.
-#[derive(Drop)]
+#[derive(Clone, Copy)]
 pub enum Item {
     Nothing,
     Aggregator(ByteOffset),

@@ -1,4 +1,5 @@
 // The units of a sample: what stands at a place, and what is wrong with it.
+#![tactic(auto)]
 ghost use Rattle.std.specs.Prelude.{◌≡◌, [], ◌&&◌, not};
 ghost use Rattle.words.specs.Tests.{◌≡?◌};
 ghost use Rattle.words.specs.Refusals.{◌if◌};
@@ -21,14 +22,14 @@ pub const AGGREGATOR: u8 = 30;
 pub const EXTRACTOR: u8 = 31;
 
 // What a track says of its samples.
-#[derive(Drop)]
+#[derive(Clone, Copy)]
 pub struct Track {
     pub kind: Kind,
     pub length_size: LengthSize,
 }
 
 // A unit: its first byte, after the length field; its size; its type; where the next unit's length field starts.
-#[derive(Drop)]
+#[derive(Clone, Copy)]
 pub struct NalUnit {
     pub start: ByteOffset,
     pub size: usize,
@@ -37,7 +38,7 @@ pub struct NalUnit {
 }
 
 // The fields of an extractor. The sample_offset is the byte as it stands: 128 and more are negative.
-#[derive(Drop)]
+#[derive(Clone, Copy)]
 pub struct Extractor {
     pub track_ref_index: u8,
     pub sample_offset: u8,
@@ -45,14 +46,14 @@ pub struct Extractor {
     pub data_length: usize,
 }
 
-#[derive(Drop)]
+#[derive(Clone, Copy)]
 pub enum MaybeExtractor {
     Extractor(Extractor),
     Nothing,
 }
 
 // What a walk needs of a unit: its first refusal, 0 for none, and its size. Its length is read once for both.
-#[derive(Drop)]
+#[derive(Clone, Copy)]
 pub struct JudgedUnit {
     pub fault: u8,
     pub size: usize,

@@ -1,4 +1,5 @@
 // Answers requests from standard input, one line each. The form of a request is in tests/vectors/README.md.
+#![tactic(auto)]
 mod audited;
 mod base;
 mod bundle;

@@ -1,5 +1,6 @@
 // Samples judged by a bundle and any table beside it: 30, 14 to 28, or how much they deliver. A sample's form is checked once, and no sample
 // that an extractor names is gone over for the extractor: what it copies is counted from marks (the crate marks).
+#![tactic(auto)]
 mod measuring;
 mod surveys;
 
@@ -23,7 +24,7 @@ use samples::Checked;
 use units::Track;
 
 // What is kept of a sample that was judged: its refusal, or how many units it delivers.
-#[derive(Drop)]
+#[derive(Clone, Copy)]
 pub enum KeptVerdict {
     Refused(Refusal),
     Units(usize),

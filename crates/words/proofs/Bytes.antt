@@ -57,7 +57,10 @@ big_bytes zero v r h = let z = rw (pow-zero 256) at h in omega arith
 big_bytes (suc n) v r h =
     let z : v < 256 ^ n * 256 = rw (pow-suc 256 n) at h in
     let l = bytes_length n (v / 256) in
-    rw (append_assoc (bytes n (v / 256)) (v % 256 ∷ []) r, big_bytes n (v / 256) (v % 256 ∷ r) ((div-lt_iff_lt-mul (lit< tt)).1 z), zero-add n, get_or_at (bytes n (v / 256)) (v % 256) r 0 n l) (div-add-mod' v 256)
+    let a : bytes (suc n) v ++ r ≡ bytes n (v / 256) ++ v % 256 ∷ r = append_assoc (bytes n (v / 256)) (v % 256 ∷ []) r in
+    let b : big (bytes (suc n) v ++ r) 0 n ≡ v / 256 = ap (λ (s : List ℕ). big s 0 n) a ∙ big_bytes n (v / 256) (v % 256 ∷ r) ((div-lt_iff_lt-mul (lit< tt)).1 z) in
+    let c : byte_at (bytes (suc n) v ++ r) (0 + n) ≡ v % 256 = ap₂ byte_at a (zero-add n) ∙ get_or_at (bytes n (v / 256)) (v % 256) r 0 n l in
+    ap₂ (λ (x y : ℕ). x * 256 + y) b c ∙ div-add-mod' v 256
 
 pub bytes_big : (s : List ℕ) (p n : ℕ) → Bytes s → p + n ≤ length s → bytes n (big s p n) ≡ part s p n
 unfolding big bytes

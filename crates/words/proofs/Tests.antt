@@ -2,7 +2,7 @@
 --
 --   tests                      `search tests` answers a return whose definition goes by tests, from the branches on the way
 --   by_bool, by_number         cases of a computed value, with the equation
---   not_true, not_false        a test that does not hold, and one that does
+--   not-true, not-false        a test that does not hold, and one that does
 --   and_both, and_holds        two tests of which both hold, both ways
 --   all_first                  tests that all hold: the first, and the others
 --   bool_same                  two tests that hold for the same
@@ -31,13 +31,13 @@ module _ {G : Type 0} where
   pub true_false : (b : Bool) → b ≡ true → b ≡ false → G
   true_false b t f = let z : ◌≡◌ {A = ℕ} 0 1 = cc in absurd (omega arith)
 
-pub not_true : (b : Bool) → not b ≡ true → b ≡ false
-not_true true e = true_false false e refl
-not_true false e = refl
+pub not-true : (b : Bool) → not b ≡ true → b ≡ false
+not-true true e = true_false false e refl
+not-true false e = refl
 
-pub not_false : (b : Bool) → not b ≡ false → b ≡ true
-not_false true e = refl
-not_false false e = true_false true refl e
+pub not-false : (b : Bool) → not b ≡ false → b ≡ true
+not-false true e = refl
+not-false false e = true_false true refl e
 
 pub and_both : (a b : Bool) → (a && b) ≡ true → (a ≡ true) × (b ≡ true)
 and_both true b e = (refl, e)

@@ -4,7 +4,7 @@ use mathlib.Core.Path.{◌≡◌, sym, ap, ◌∙◌}
 use mathlib.Core.List.{List}
 use Prim.Native.Nat.{ℕ}
 use native.Mathlib.Omega.{arith}
-use borrow.Author.Tests.{eq-eqb, ne_eqb, lt-ltb, le-ltb, not_true, not_false}
+use borrow.Author.Tests.{eq-eqb, ne_eqb, lt-ltb, le-ltb, not-true, not-false}
 use Rattle.words.specs.RefusalNumbers.{sample_refusals}
 use Rattle.words.specs.Lists.{has}
 use Rattle.words.proofs.Tests.{tests}
@@ -43,19 +43,19 @@ is-one-of-requires c κs = search rules
 
 returns-5 : tie.Need-returns-5
 unfolding line_from refused_line
-returns-5 c = rw (ne_eqb c.before.before.before.before.before.args.number 0 c.before.before.before.before.if1.false, sym (listed c.before) ∙ not_true _ c.if5.true)
+returns-5 c = rw (ne_eqb c.before.before.before.before.before.args.number 0 c.before.before.before.before.if1.false, sym (listed c.before) ∙ not-true _ c.if5.true)
 
 returns-6 : tie.Need-returns-6
 unfolding line_from refused_line
-returns-6 c = rw (ne_eqb c.before.before.before.before.before.before.args.number 0 c.before.before.before.before.before.if1.false, sym (listed c.before.before) ∙ not_false _ c.before.if5.false, le-ltb c.before.before.before.before.before.before.args.place c.before.before.before.before.before.before.args.size c.if6.true)
+returns-6 c = rw (ne_eqb c.before.before.before.before.before.before.args.number 0 c.before.before.before.before.before.if1.false, sym (listed c.before.before) ∙ not-false _ c.before.if5.false, le-ltb c.before.before.before.before.before.before.args.place c.before.before.before.before.before.before.args.size c.if6.true)
 
 returns-7 : tie.Need-returns-7
 unfolding line_from refused_line
-returns-7 c = rw (ne_eqb c.before.before.before.before.before.before.before.args.number 0 c.before.before.before.before.before.before.if1.false, sym (listed c.before.before.before) ∙ not_false _ c.before.before.if5.false, lt-ltb c.before.before.before.before.before.before.before.args.place c.before.before.before.before.before.before.before.args.size (omega (arith, c.before.if6.false)), ne_eqb c.before.before.before.before.before.before.before.args.units 0 c.if7.true)
+returns-7 c = rw (ne_eqb c.before.before.before.before.before.before.before.args.number 0 c.before.before.before.before.before.before.if1.false, sym (listed c.before.before.before) ∙ not-false _ c.before.before.if5.false, lt-ltb c.before.before.before.before.before.before.before.args.place c.before.before.before.before.before.before.before.args.size (omega (arith, c.before.if6.false)), ne_eqb c.before.before.before.before.before.before.before.args.units 0 c.if7.true)
 
 returns-8 : tie.Need-returns-8
 unfolding line_from refused_line
-returns-8 c = rw (ne_eqb c.before.before.before.before.before.before.before.args.number 0 c.before.before.before.before.before.before.if1.false, sym (listed c.before.before.before) ∙ not_false _ c.before.before.if5.false, lt-ltb c.before.before.before.before.before.before.before.args.place c.before.before.before.before.before.before.before.args.size (omega (arith, c.before.if6.false)), eq-eqb c.before.before.before.before.before.before.before.args.units 0 c.if7.false)
+returns-8 c = rw (ne_eqb c.before.before.before.before.before.before.before.args.number 0 c.before.before.before.before.before.before.if1.false, sym (listed c.before.before.before) ∙ not-false _ c.before.before.if5.false, lt-ltb c.before.before.before.before.before.before.before.args.place c.before.before.before.before.before.before.before.args.size (omega (arith, c.before.if6.false)), eq-eqb c.before.before.before.before.before.before.before.args.units 0 c.if7.false)
 
 pub line-from-spec : {M : Type 1} → statement M
 line-from-spec =

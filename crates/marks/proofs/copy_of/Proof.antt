@@ -6,7 +6,7 @@ use Prim.Native.Nat.{◌-◌}
 use lib.ListN.{length}
 use Rattle.marks.proofs.copy_of.Statement.{statement}
 use Rattle.marks.proofs.copy_of.Tie as tie
-use borrow.Author.Tests.{not_true, not_false}
+use borrow.Author.Tests.{not-true, not-false}
 use Rattle.units.specs.Units.{sample}
 use Rattle.marks.proofs.Copying.{state_again, zero_again, offset_past, offset_wrong, length_past, length_wrong, length_good}
 
@@ -48,7 +48,7 @@ returns-5 : tie.Need-returns-5
 returns-5 c = let g = c.before.before in
     let d = g.before.before.before.before.before in
     let a = d.before.before.before.before.args in
-    length_wrong (sample a.k a.z.now) a.rows.now a.base a.offset.0 a.length d.state-at.result d.state-at.ensures.0 g.before.before.before.if2.false d.before.if1.false g.before.before.if3.false g.state-at2.result g.state-at2.ensures.0 (omega (arith, g.before.if4.false, d.before.if1.false)) (sym c.before.ends.ensures ∙ not_true _ c.if5.true)
+    length_wrong (sample a.k a.z.now) a.rows.now a.base a.offset.0 a.length d.state-at.result d.state-at.ensures.0 g.before.before.before.if2.false d.before.if1.false g.before.before.if3.false g.state-at2.result g.state-at2.ensures.0 (omega (arith, g.before.if4.false, d.before.if1.false)) (sym c.before.ends.ensures ∙ not-true _ c.if5.true)
 
 between-requires : tie.Need-between-requires
 between-requires c κs = search rules
@@ -57,7 +57,7 @@ returns-6 : tie.Need-returns-6
 returns-6 c = let g = c.before.before.before in
     let d = g.before.before.before.before.before in
     let a = d.before.before.before.before.args in
-    rw c.between.ensures (length_good (sample a.k a.z.now) a.rows.now a.base a.offset.0 a.length d.state-at.result d.state-at.ensures.0 g.before.before.before.if2.false d.before.if1.false g.before.before.if3.false g.state-at2.result g.state-at2.ensures.0 (omega (arith, g.before.if4.false, d.before.if1.false)) (sym c.before.before.ends.ensures ∙ not_false _ c.before.if5.false))
+    rw c.between.ensures (length_good (sample a.k a.z.now) a.rows.now a.base a.offset.0 a.length d.state-at.result d.state-at.ensures.0 g.before.before.before.if2.false d.before.if1.false g.before.before.if3.false g.state-at2.result g.state-at2.ensures.0 (omega (arith, g.before.if4.false, d.before.if1.false)) (sym c.before.before.ends.ensures ∙ not-false _ c.before.if5.false))
 
 pub copy-of-spec : {M : Type 1} → statement M
 copy-of-spec =

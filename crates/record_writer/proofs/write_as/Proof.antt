@@ -6,7 +6,7 @@ use Prim.Native.Nat.{◌+◌}
 use lib.ListN.{length}
 use Rattle.record_writer.proofs.write_as.Statement.{statement}
 use mathlib.Core.Bool.{true}
-use borrow.Author.Tests.{not_true, not_false}
+use borrow.Author.Tests.{not-true, not-false}
 use Rattle.words.specs.Buffers.{within}
 use Rattle.words.proofs.Buffers.{refuse, accept, within_room, within_not}
 use Rattle.record_rules.specs.Trailers.{ending}
@@ -16,7 +16,7 @@ use Rattle.record_writer.proofs.write_as.Tie as tie
 
 -- the fields fit
 fit : (c : tie.Else1) → fits c.before.before.before.before.before.before.args.k c.before.before.before.before.before.before.args.f c.before.before.before.before.before.before.args.sequences.now c.before.before.before.before.before.before.args.pictures.now c.before.before.before.before.before.before.args.extensions.now ≡ true
-fit c = sym c.before.fit.ensures ∙ not_false _ c.if1.false
+fit c = sym c.before.fit.ensures ∙ not-false _ c.if1.false
 
 -- how long the record is
 head-is : (c : tie.After-facts-of) → c.facts-of.result.head ≡ length (ending c.before.before.before.before.before.before.before.args.f.trailer).head
@@ -34,7 +34,7 @@ refused-requires c κs = search rules
 returns : tie.Need-returns
 returns c =
     let a = c.before.before.before.before.before.before.before.args in
-    rw c.refused.ensures (refuse (ap (within (length a.out.now)) (write_misfit a.k a.f a.sequences.now a.pictures.now a.extensions.now (sym c.before.before.fit.ensures ∙ not_true _ c.before.if1.true))))
+    rw c.refused.ensures (refuse (ap (within (length a.out.now)) (write_misfit a.k a.f a.sequences.now a.pictures.now a.extensions.now (sym c.before.before.fit.ensures ∙ not-true _ c.before.if1.true))))
 
 facts-of-requires : tie.Need-facts-of-requires
 facts-of-requires c κs = search rules

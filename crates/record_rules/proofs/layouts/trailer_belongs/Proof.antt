@@ -3,20 +3,20 @@ use borrow.Author.Rules.{rules}
 use mathlib.Core.Path.{◌≡◌, sym, ap, ◌∙◌}
 use Rattle.record_rules.proofs.layouts.trailer_belongs.Statement.{statement}
 use mathlib.Core.Bool.{true, false}
-use borrow.Author.Tests.{not_true, not_false}
+use borrow.Author.Tests.{not-true, not-false}
 use Rattle.words.proofs.Tests.{tests}
 use Rattle.record_rules.specs.Layout.{record_layout}
 use Rattle.record_rules.proofs.layouts.trailer_belongs.Tie as tie
 
 -- the kind has trailers
 row_has : (c : tie.Else1) → (record_layout c.before.before.before.args.k).trailer ≡ true
-row_has c = ap (λ l. l.trailer) (sym c.before.before.record-layout.ensures) ∙ not_false _ c.if1.false
+row_has c = ap (λ l. l.trailer) (sym c.before.before.record-layout.ensures) ∙ not-false _ c.if1.false
 
 record-layout-requires : tie.Need-record-layout-requires
 record-layout-requires c κs = search rules
 
 returns : tie.Need-returns
-returns c = let e : (record_layout c.before.before.before.args.k).trailer ≡ false = ap (λ l. l.trailer) (sym c.before.before.record-layout.ensures) ∙ not_true _ c.if1.true in rw e
+returns c = let e : (record_layout c.before.before.before.args.k).trailer ≡ false = ap (λ l. l.trailer) (sym c.before.before.record-layout.ensures) ∙ not-true _ c.if1.true in rw e
 
 returns-2 : tie.Need-returns-2
 returns-2 c = rw (row_has c.before) (search tests)

@@ -1,7 +1,7 @@
 -- One test for each number. Assumes nothing.
 use borrow.Author.Rules.{rules}
 use Rattle.record_writer.proofs.fitting.numbers_fit.Statement.{statement}
-use borrow.Author.Tests.{not_true, not_false, lt-ltb, le-leb}
+use borrow.Author.Tests.{not-true, not-false, lt-ltb, le-leb}
 use Rattle.words.specs.Tests.{all}
 use Rattle.words.proofs.Tests.{tests}
 use Rattle.record_rules.specs.Fields.{numbers_fit}
@@ -28,23 +28,23 @@ flags-fit-requires c κs = search rules
 
 returns-4 : tie.Need-returns-4
 unfolding numbers_fit all
-returns-4 c = rw (← c.before.before.before.before.before.before.before.before.before.before.record-layout.ensures, ← c.before.flags_fit_lem.ensures, not_true c.before.flags_fit_lem.result c.if4.true) (search tests)
+returns-4 c = rw (← c.before.before.before.before.before.before.before.before.before.before.record-layout.ensures, ← c.before.flags_fit_lem.ensures, not-true c.before.flags_fit_lem.result c.if4.true) (search tests)
 
 returns-5 : tie.Need-returns-5
 unfolding numbers_fit all
-returns-5 c = rw (← c.before.before.before.before.before.before.before.before.before.before.before.before.record-layout.ensures, ← c.before.before.before.flags_fit_lem.ensures, not_false c.before.before.before.flags_fit_lem.result c.before.before.if4.false) (search tests)
+returns-5 c = rw (← c.before.before.before.before.before.before.before.before.before.before.before.before.record-layout.ensures, ← c.before.before.before.flags_fit_lem.ensures, not-false c.before.before.before.flags_fit_lem.result c.before.before.if4.false) (search tests)
 
 returns-6 : tie.Need-returns-6
 unfolding numbers_fit all
-returns-6 c = rw (← c.before.before.before.before.before.before.before.before.before.before.before.before.before.before.before.record-layout.ensures, ← c.before.before.before.before.before.before.flags_fit_lem.ensures, not_false c.before.before.before.before.before.before.flags_fit_lem.result c.before.before.before.before.before.if4.false) (search tests)
+returns-6 c = rw (← c.before.before.before.before.before.before.before.before.before.before.before.before.before.before.before.record-layout.ensures, ← c.before.before.before.before.before.before.flags_fit_lem.ensures, not-false c.before.before.before.before.before.before.flags_fit_lem.result c.before.before.before.before.before.if4.false) (search tests)
 
 returns-7 : tie.Need-returns-7
 unfolding numbers_fit all
-returns-7 c = rw (← c.before.before.before.before.before.before.before.before.before.before.before.before.before.before.before.before.before.before.record-layout.ensures, ← c.before.before.before.before.before.before.before.before.before.flags_fit_lem.ensures, not_false c.before.before.before.before.before.before.before.before.before.flags_fit_lem.result c.before.before.before.before.before.before.before.before.if4.false) (search tests)
+returns-7 c = rw (← c.before.before.before.before.before.before.before.before.before.before.before.before.before.before.before.before.before.before.record-layout.ensures, ← c.before.before.before.before.before.before.before.before.before.flags_fit_lem.ensures, not-false c.before.before.before.before.before.before.before.before.before.flags_fit_lem.result c.before.before.before.before.before.before.before.before.if4.false) (search tests)
 
 returns-8 : tie.Need-returns-8
 unfolding numbers_fit all
-returns-8 c = rw (← c.before.before.before.before.before.before.before.before.before.before.before.before.before.before.before.before.before.before.before.before.record-layout.ensures, ← c.before.before.before.before.before.before.before.before.before.before.before.flags_fit_lem.ensures, not_false c.before.before.before.before.before.before.before.before.before.before.before.flags_fit_lem.result c.before.before.before.before.before.before.before.before.before.before.if4.false) (search tests)
+returns-8 c = rw (← c.before.before.before.before.before.before.before.before.before.before.before.before.before.before.before.before.before.before.before.before.record-layout.ensures, ← c.before.before.before.before.before.before.before.before.before.before.before.flags_fit_lem.ensures, not-false c.before.before.before.before.before.before.before.before.before.before.before.flags_fit_lem.result c.before.before.before.before.before.before.before.before.before.before.if4.false) (search tests)
 
 facts-of-requires : tie.Need-facts-of-requires
 facts-of-requires c κs = search rules
@@ -58,7 +58,7 @@ returns-9 c =
       c.facts-of.ensures.0,
       ← c.before.before.before.before.before.before.before.before.before.before.before.before.before.before.before.before.before.before.before.before.before.record-layout.ensures,
       ← c.before.before.before.before.before.before.before.before.before.before.before.before.flags_fit_lem.ensures,
-      not_false c.before.before.before.before.before.before.before.before.before.before.before.before.flags_fit_lem.result c.before.before.before.before.before.before.before.before.before.before.before.if4.false,
+      not-false c.before.before.before.before.before.before.before.before.before.before.before.before.flags_fit_lem.result c.before.before.before.before.before.before.before.before.before.before.before.if4.false,
       and-true,
       lt-ltb f.profile 256 c.before.before.before.before.before.before.before.before.before.before.before.before.before.before.before.before.before.if1.false,
       lt-ltb f.compatibility 256 c.before.before.before.before.before.before.before.before.before.before.before.before.before.before.before.if2.false,

@@ -6,7 +6,7 @@ use Prim.Native.Nat.{◌+◌, ◌<◌}
 use lib.ListN.{length}
 use Rattle.records.proofs.steps.follow_of.Statement.{statement}
 use mathlib.Core.Bool.{true}
-use borrow.Author.Tests.{not_true, not_false}
+use borrow.Author.Tests.{not-true, not-false}
 use Rattle.words.specs.Bytes.{byte_at}
 use Rattle.words.proofs.Refusals.{or_else_none}
 use Rattle.record_rules.specs.Trailers.{trailer_belongs, values_fault}
@@ -16,7 +16,7 @@ use Rattle.records.proofs.steps.follow_of.Tie as tie
 
 -- a trailer belongs there
 belongs : (c : tie.Else1) → trailer_belongs c.before.before.before.before.args.k (byte_at c.before.before.before.before.args.s.now 1) ≡ true
-belongs c = sym c.before.trailer_belongs_lem.ensures ∙ not_false _ c.if1.false
+belongs c = sym c.before.trailer_belongs_lem.ensures ∙ not-false _ c.if1.false
 
 -- where the trailer was walked over, the call began
 abbrev begun : (c : tie.After-walk-trailer) → tie.Start
@@ -47,7 +47,7 @@ nothing-requires c κs = search rules
 returns : tie.Need-returns
 returns c =
     let b = c.before.before.before.before.before in
-    rw c.nothing.ensures (follow_none b.args.k b.args.s.now b.args.at b.requires.2 (sym c.before.before.trailer_belongs_lem.ensures ∙ not_true _ c.before.if1.true))
+    rw c.nothing.ensures (follow_none b.args.k b.args.s.now b.args.at b.requires.2 (sym c.before.before.trailer_belongs_lem.ensures ∙ not-true _ c.before.if1.true))
 
 sub-left : tie.Need-overflow-sub-left
 sub-left c = search rules

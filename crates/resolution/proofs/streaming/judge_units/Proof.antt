@@ -3,7 +3,7 @@ use borrow.Author.Rules.{rules}
 use native.Mathlib.Omega.{arith}
 use mathlib.Core.Path.{◌≡◌, sym, ◌∙◌}
 use Prim.Native.Nat.{◌+◌, ◌≤◌}
-use Rattle.words.proofs.Tests.{not_true, not_false}
+use Rattle.words.proofs.Tests.{not-true, not-false}
 use Rattle.units.specs.Units.{sample}
 use Rattle.tables.specs.Tables.{recording_in}
 use Rattle.delivery.specs.Steps.{step_of}
@@ -63,7 +63,7 @@ is-streamable-requires : tie.Need-is-streamable-requires invariant-loop decrease
 is-streamable-requires c κs = unit_inside _ _ _ c.before.before.before.before.before.before.before.before.before.requires.0 _ (unit c)
 
 returns-2 : tie.Need-returns-2 invariant-loop decreases-loop
-returns-2 c = let h = c.before.before.before.before.before.before.before.before.before.before.before.requires in sym (judges_bad _ _ _ _ _ c.before.before.before.before.before.before.loop.invariant h.0 h.1 (unit c.before.before) (sym c.before.is-streamable.ensures ∙ not_true _ c.if1.true))
+returns-2 c = let h = c.before.before.before.before.before.before.before.before.before.before.before.requires in sym (judges_bad _ _ _ _ _ c.before.before.before.before.before.before.loop.invariant h.0 h.1 (unit c.before.before) (sym c.before.is-streamable.ensures ∙ not-true _ c.if1.true))
 
 add-size : tie.Need-overflow-add-size invariant-loop decreases-loop
 add-size c = let f = fits c.before.before.before in omega arith
@@ -75,7 +75,7 @@ loop-less-2 : tie.Need-loop-smaller-2 invariant-loop decreases-loop
 loop-less-2 c = let l = unit_less _ _ _ _ (unit c.before.before.before) in omega arith
 
 loop-again-2 : tie.Need-loop-preserved-2 invariant-loop decreases-loop
-loop-again-2 c = judges_take _ _ _ _ _ c.before.before.before.before.before.before.before.loop.invariant c.before.before.before.before.before.before.before.before.before.before.before.before.requires.0 (unit c.before.before.before) (sym c.before.before.is-streamable.ensures ∙ not_false _ c.before.if1.false)
+loop-again-2 c = judges_take _ _ _ _ _ c.before.before.before.before.before.before.before.loop.invariant c.before.before.before.before.before.before.before.before.before.before.before.before.requires.0 (unit c.before.before.before) (sym c.before.before.is-streamable.ensures ∙ not-false _ c.before.if1.false)
 
 pub judge-units-spec : {M : Type 1} → statement M
 judge-units-spec =

@@ -1,0 +1,42 @@
+-- The loop goes on from a place where the unit stops where it did before. Assumes nothing.
+use borrow.Author.Rules.{rules}
+use native.Mathlib.Omega.{arith}
+use mathlib.Core.Path.{◌≡◌, refl, sym, ◌∙◌}
+use Prim.Native.Nat.{◌-◌, ◌≤◌}
+use lib.ListN.{length}
+use Rattle.byte_streams.specs.Places.{unit_stop}
+use Rattle.byte_streams.proofs.Places.{stop_zeros, stop_end, stop_one, stop_two, stop_three, stop_last, stop_first, stop_pair, stop_single}
+use Rattle.byte_streams.proofs.unit_stop.Goals as goal
+
+pub returns-then-n-from : goal.returns-then-n-from
+returns-then-n-from c = sym (stop_end _ _ c.if-n-from.true)
+
+pub loop-i-init : goal.loop-i-init
+loop-i-init c = (refl, omega arith, refl)
+
+pub loop-i-preserved-then-s-i-gt2 : goal.loop-i-preserved-then-s-i-gt2
+loop-i-preserved-then-s-i-gt2 c = let l = c.loop-i in (refl, omega arith, stop_three _ l.i (omega arith) c.if-s-i-gt2.true ∙ l.invariant.2)
+
+pub loop-i-preserved-then-s-i-ne0 : goal.loop-i-preserved-then-s-i-ne0
+loop-i-preserved-then-s-i-ne0 c = let l = c.loop-i in (refl, omega arith, stop_two _ l.i (omega arith) c.if-s-i-ne0.true ∙ l.invariant.2)
+
+pub returns-then-s-i-eq0 : goal.returns-then-s-i-eq0
+returns-then-s-i-eq0 c = let l = c.loop-i in sym (stop_zeros _ l.i (omega arith) c.if-s-i-eq0.true c.if-s-i-ne0.false c.if-s-i-gt2.false) ∙ l.invariant.2
+
+pub loop-i-preserved : goal.loop-i-preserved
+loop-i-preserved c = let l = c.loop-i in (refl, omega arith, stop_one _ l.i (omega arith) c.if-s-i-eq0.false ∙ l.invariant.2)
+
+pub returns-then-n-i : goal.returns-then-n-i
+returns-then-n-i c = let l = c.loop-i in sym (stop_end _ l.i c.if-n-i.true) ∙ l.invariant.2
+
+pub returns-then-s-n-ne0 : goal.returns-then-s-n-ne0
+returns-then-s-n-ne0 c = let l = c.loop-i in sym (stop_last _ l.i (omega arith) (omega arith) c.if-s-n-ne0.true) ∙ l.invariant.2
+
+pub returns-then-s-i-ne0-2 : goal.returns-then-s-i-ne0-2
+returns-then-s-i-ne0-2 c = let l = c.loop-i in sym (stop_first _ l.i (omega arith) c.if-s-n-ne0.false c.if-s-i-ne0-2.true) ∙ l.invariant.2
+
+pub returns-else-s-i-ne0-2 : goal.returns-else-s-i-ne0-2
+returns-else-s-i-ne0-2 c = let l = c.loop-i in sym (stop_pair _ l.i (omega arith) c.if-s-n-ne0.false c.if-s-i-ne0-2.false) ∙ l.invariant.2
+
+pub returns-else-n-i-gt1 : goal.returns-else-n-i-gt1
+returns-else-n-i-gt1 c = let l = c.loop-i in sym (stop_single _ l.i (omega arith) c.if-s-n-ne0.false) ∙ l.invariant.2

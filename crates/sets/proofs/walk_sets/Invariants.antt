@@ -1,0 +1,12 @@
+-- The loop's invariant: what is left of the walk from p on gives the whole walk's answer. Assumes nothing.
+use native.Mathlib.Omega.{arith}
+use mathlib.Core.Path.{◌≡◌, refl, sym, ◌∙◌}
+use Rattle.sets.specs.Sets.{sets_fault, sets_end}
+use Rattle.sets.proofs.Laws.{Whole, whole, sets_none, sets_here, sets_on, walk_refused, walk_ended}
+use Rattle.sets.proofs.walk_sets.Given as goal
+
+abbrev pub invariant-loop-left : goal.invariant-loop-left
+invariant-loop-left l = (sets_fault l.types l.s l.left l.p ≡ sets_fault l.types l.s l.n l.at) × (sets_end l.s l.left l.p ≡ sets_end l.s l.n l.at)
+
+abbrev pub decreases-loop-left : goal.decreases-loop-left
+decreases-loop-left l = l.left
