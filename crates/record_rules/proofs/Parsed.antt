@@ -42,9 +42,9 @@ length_size_most k s = omega (arith, value_below (record_layout k).length_size (
 
 pub record Head (k : Kind) (s : List ℕ) : Type 0 where
   pub version : byte_at s 0 ≡ 1
-  pub length_size : fixed_in (record_layout k).length_size (byte_at s 4) ≡ (record_layout k).length_size.fixed
   pub known : length_size k s ≡ 3 → ⊥
   pub there : 5 < length s
+  pub length_size : fixed_in (record_layout k).length_size (byte_at s 4) ≡ (record_layout k).length_size.fixed
   pub count : fixed_in (record_layout k).count (byte_at s 5) ≡ (record_layout k).count.fixed
 
 pub head_good : (k : Kind) (s : List ℕ) → head_fault k s ≡ 0 → Head k s

@@ -1,6 +1,7 @@
 -- `tally::raise` meets its contract: a walk of its MIR, by hand. The borrow is opened, the tally is read and passed to `raised`, the result is stored, and the borrow is closed at it.
 -- All that the proof knows of `raised` is that it meets its contract.
 -- Assumes nothing.
+use borrow.Author.Rules.{rules}
 use mathlib.Core.Path.{◌≡◌, refl}
 use Prim.Native.Nat.{ℕ}
 use mathlib.Core.List.{[], ◌∷◌, List}
@@ -52,6 +53,7 @@ use Rattle.tally.specs.contracts.raise.Key.{name as #tally·raise}
 use Rattle.tally.specs.contracts.raise as f
 use Rattle.tally.proofs.raise.Statement as stated
 use Rattle.tally.proofs.raise.Code as code
+use Rattle.tally.proofs.raise.Goals as goal
 
 abbrev stayed : Stays (f.ended).signature.params (f.ended).kept
 stayed = (stay_ref (0 ∷ []) tt (plain (λ _. T.the_row)), (stay_none (λ _. O.the_row) yes, tt))
@@ -150,11 +152,3 @@ module _ {M : Type 1} {𝓤 : Ura M} (𝓛 : Logic 𝓤) (at_mem : Memory → SP
 raise-meets : {M : Type 1} {𝓤 : Ura M} (𝓛 : Logic 𝓤) → (at_mem : Memory → SProp 𝓤) (run : Routine → Fun 𝓤) (𝓣 : Tables 𝓤 𝓛.H) → Triple 𝓤 (𝓣.C #tally·raised) (Raised 𝓛 at_mem run)
     → Meets 𝓛 f.signature (WpFn 𝓤 𝓛.H 𝓣.C 𝓣.Λ code.function) (f.spec 𝓛 at_mem run)
 raise-meets {𝓤 = 𝓤} 𝓛 at_mem run 𝓣 known = walk_Meets 𝓛 f.ended stayed (goes 𝓛 at_mem run) (f.clauses 𝓛 at_mem run) (WpFn 𝓤 𝓛.H 𝓣.C 𝓣.Λ code.function) (WpFn-mono 𝓤 𝓛.H 𝓛.laws 𝓣 code.function) (raise-walks 𝓛 at_mem run 𝓣.C 𝓣.Λ (fm_of 𝓤 𝓛.H 𝓛.laws 𝓣) known)
-
-pub raise-spec : {M : Type 1} → stated.statement M
-unfolding code.routine tables_of
-raise-spec 𝓤 𝓛 𝓜 𝓡 =
-    entered 𝓤 𝓛.H (triple_of 𝓛 f.signature (f.spec 𝓛 𝓜.mem 𝓡.run))
-    (tables 𝓤 𝓛.H 𝓜 𝓡 code.env).C (tables 𝓤 𝓛.H 𝓜 𝓡 code.env).Λ #tally·raise code.function (code.unfolded 𝓤 𝓛.H 𝓜 𝓡)
-    (raise-meets 𝓛 𝓜.mem 𝓡.run (tables_of 𝓤 𝓛.H 𝓜 (tables 𝓤 𝓛.H 𝓜 𝓡 code.env))
-    (cited 𝓤 𝓛.H (Raised 𝓛 𝓜.mem 𝓡.run) 𝓜 𝓡 code.env #tally·raised raised-def.routine code.calls-tally::raised (raised-thm.met 𝓤 𝓛 𝓜 𝓡)))

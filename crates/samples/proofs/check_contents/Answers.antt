@@ -1,0 +1,204 @@
+-- The outer loop's invariant: the walk has come to at, and what is left of it gives the whole verdict.
+-- The inner loop's: what is left of the walk over the included units gives their verdict. Assumes nothing.
+use borrow.Author.Rules.{rules}
+use native.Mathlib.Omega.{arith}
+use mathlib.Core.Path.{◌≡◌, refl, sym, ◌∙◌}
+use Prim.Native.Nat.{ℕ, ◌+◌, ◌-◌, ◌≤◌}
+use lib.ListN.{length}
+use mathlib.Core.Logic.{⊎_elim}
+use mathlib.Core.Bool.{true}
+use borrow.Author.Tests.{eq-eqb, ne_eqb}
+use Rattle.words.specs.Refusals.{ok, refused, ◌at_place◌}
+use Rattle.words.proofs.Refusals.{at_none, at_refused}
+use Rattle.units.specs.Units.{Sample, sample, next, is_aggregator, top_units}
+use Rattle.units.specs.Aggregators.{included_start}
+use Rattle.units.specs.Rules.{Whole}
+use Rattle.units.proofs.Units.{whole_end, whole_aggregator, next_after, included_rules}
+use Rattle.units.proofs.Walks.{walk, walk_none, walk_here, walk_on, Reached, reached_start, reached_next, reached_mem}
+use Rattle.samples.specs.Check.{content_verdict, contents_verdict}
+use Rattle.samples.proofs.Walks.{included_judge, next_is, top_whole, top_has, content_included, content_cover, content_other}
+use Rattle.samples.proofs.check_contents.Goals as goal
+use Rattle.samples.proofs.check_contents.Goals.{After-loop-q, After-number, After-struct_known-1, Else-number-ne0, In-walk, Joined-type_at-eq-AGGREGATOR, Left-walk, Then-number-ne0, Then-number-ne0-2, Then-type_at-eq-AGGREGATOR}
+
+abbrev X : In-walk → Sample
+X c = sample c.args.k c.args.s.now
+
+abbrev P : In-walk → ℕ
+P c = c.walk.at
+
+-- the unit is whole, and ends where the next one starts
+unit : (c : In-walk) → Whole (X c) (length c.args.s.now) (P c)
+unit c = top_whole _ c.requires _ (reached_mem _ _ c.walk.invariant.2 c.walk-test.true)
+
+abbrev P_After_number : After-number → ℕ
+P_After_number c = c.walk.at
+
+abbrev X_After_number : After-number → Sample
+X_After_number c = sample c.args.k c.args.s.now
+
+ends : (c : After-number) → P_After_number c + c.bytes-n.result + c.number.result ≡ next (X_After_number c) (P_After_number c)
+ends c = let a = c.args in next_is a.k a.s.now _ _ _ c.bytes-n.ensures.0 c.number.ensures
+
+abbrev X_Then1 : Then-type_at-eq-AGGREGATOR → Sample
+X_Then1 c = sample c.args.k c.args.s.now
+
+abbrev P_Then1 : Then-type_at-eq-AGGREGATOR → ℕ
+P_Then1 c = c.walk.at
+
+-- it is an aggregator
+aggregator : (c : Then-type_at-eq-AGGREGATOR) → is_aggregator (X_Then1 c) (P_Then1 c) ≡ true
+aggregator c = eq-eqb _ _ (sym c.type_at.ensures ∙ c.if-type_at-eq-AGGREGATOR.true)
+
+unit_Then1 : (c : Then-type_at-eq-AGGREGATOR) → Whole (X_Then1 c) (length c.args.s.now) (P_Then1 c)
+unit_Then1 c = top_whole _ c.requires _ (reached_mem _ _ c.walk.invariant.2 c.walk-test.true)
+
+fits : (c : Then-type_at-eq-AGGREGATOR) → (included_start (X_Then1 c) (P_Then1 c) ≤ next (X_Then1 c) (P_Then1 c)) × (next (X_Then1 c) (P_Then1 c) ≤ length c.args.s.now)
+fits c = (whole_aggregator _ _ _ (unit_Then1 c) (aggregator c), (whole_end _ _ _ (unit_Then1 c)).1)
+
+abbrev X_Else2 : Else-number-ne0 → Sample
+X_Else2 c = sample c.args.k c.args.s.now
+
+abbrev P_Else2 : Else-number-ne0 → ℕ
+P_Else2 c = c.walk.at
+
+-- an included unit is whole, and ends where the next one starts
+included : (c : Else-number-ne0) → Whole (X_Else2 c) (P_Else2 c + c.bytes-n.result + c.number.result) c.loop-q.q
+included c = (included_rules _ _ _ (sym c.judge_included-u.ensures.0 ∙ c.if-number-ne0.false)).unit
+
+abbrev X_After_struct_known : After-struct_known-1 → Sample
+X_After_struct_known c = sample c.args.k c.args.s.now
+
+goes : (c : After-struct_known-1) → c.loop-q.q + c.bytes-n.result + c.judge_included-u.result.size ≡ next (X_After_struct_known c) c.loop-q.q
+goes c = rw (c.bytes-n.ensures.0, c.judge_included-u.ensures.1)
+
+abbrev X_After_loop : After-loop-q → Sample
+X_After_loop c = sample c.args.k c.args.s.now
+
+abbrev P_After_loop : After-loop-q → ℕ
+P_After_loop c = c.walk.at
+
+ends_After_loop : (c : After-loop-q) → P_After_loop c + c.bytes-n.result + c.number.result ≡ next (X_After_loop c) (P_After_loop c)
+ends_After_loop c = let a = c.args in next_is a.k a.s.now _ _ _ c.bytes-n.ensures.0 c.number.ensures
+
+-- no included unit has a fault
+passed : (c : After-loop-q) → let x = X_After_loop c in walk x (included_judge x (next x (P_After_loop c))) (included_start x (P_After_loop c)) (next x (P_After_loop c)) ≡ ok tt
+passed c = rw (ends_After_loop c) at (sym c.loop-q.invariant ∙ walk_none _ _ _ _ c.loop-q-test.false)
+
+abbrev P_Joined1 : Joined-type_at-eq-AGGREGATOR → ℕ
+P_Joined1 c = c.walk.at
+
+abbrev X_Joined1 : Joined-type_at-eq-AGGREGATOR → Sample
+X_Joined1 c = sample c.args.k c.args.s.now
+
+-- what stands in the unit, where both arms meet
+judged : (c : Joined-type_at-eq-AGGREGATOR) → c.if-type_at-eq-AGGREGATOR.number at_place P_Joined1 c ≡ content_verdict (X_Joined1 c) (P_Joined1 c)
+judged c =
+    ⊎_elim
+    (λ w. rw (w.4, w.3.ensures) (sym (content_cover _ _ (aggregator (record { before = c; if1 = w.0 })) (passed (record { before = record { before = record { before = c; if1 = w.0 }; loop = w.1 }; loop-test = w.2 })))))
+    (λ w. rw (w.2, w.1.ensures) (sym (content_other _ _ (ne_eqb _ _ (λ e. w.0.left (c.type_at.ensures ∙ e))))))
+    c.if-type_at-eq-AGGREGATOR.branch
+
+-- a unit with a fault: it is the answer
+leaves : (c : In-walk) {n q : ℕ} → content_verdict (X c) (P c) ≡ refused n q → refused n q ≡ contents_verdict (X c)
+leaves c e = sym (walk_here _ _ _ _ c.walk-test.true e) ∙ c.walk.invariant.3
+
+abbrev X_Then2 : Then-number-ne0 → Sample
+X_Then2 c = sample c.args.k c.args.s.now
+
+leaves_Then2 : (c : Then-number-ne0) {n q : ℕ} → content_verdict (X_Then2 c) (P_Then2 c) ≡ refused n q → refused n q ≡ contents_verdict (X_Then2 c)
+leaves_Then2 c e = sym (walk_here _ _ _ _ c.walk-test.true e) ∙ c.walk.invariant.3
+
+aggregator_Then2 : (c : Then-number-ne0) → is_aggregator (X_Then2 c) (P_Then2 c) ≡ true
+aggregator_Then2 c = eq-eqb _ _ (sym c.type_at.ensures ∙ c.if-type_at-eq-AGGREGATOR.true)
+
+ends_Then2 : (c : Then-number-ne0) → P_Then2 c + c.bytes-n.result + c.number.result ≡ next (X_Then2 c) (P_Then2 c)
+ends_Then2 c = let a = c.args in next_is a.k a.s.now _ _ _ c.bytes-n.ensures.0 c.number.ensures
+
+abbrev P_Then2 : Then-number-ne0 → ℕ
+P_Then2 c = c.walk.at
+
+left-included : (c : Then-number-ne0) → refused c.judge_included-u.result.fault c.loop-q.q ≡ contents_verdict (X_Then2 c)
+left-included c = leaves_Then2 c (content_included _ _ (aggregator_Then2 c) (rw (ends_Then2 c) at (sym c.loop-q.invariant ∙ walk_here _ _ _ _ c.loop-q-test.true (at_refused _ c.judge_included-u.ensures.0 c.if-number-ne0.true))))
+
+abbrev P_Then3 : Then-number-ne0-2 → ℕ
+P_Then3 c = c.walk.at
+
+abbrev X_Then3 : Then-number-ne0-2 → Sample
+X_Then3 c = sample c.args.k c.args.s.now
+
+leaves_Then3 : (c : Then-number-ne0-2) {n q : ℕ} → content_verdict (X_Then3 c) (P_Then3 c) ≡ refused n q → refused n q ≡ contents_verdict (X_Then3 c)
+leaves_Then3 c e = sym (walk_here _ _ _ _ c.walk-test.true e) ∙ c.walk.invariant.3
+
+judged_Then3 : (c : Then-number-ne0-2) → c.if-type_at-eq-AGGREGATOR.number at_place P_Then3 c ≡ content_verdict (X_Then3 c) (P_Then3 c)
+judged_Then3 c =
+    ⊎_elim
+    (λ w. rw (w.4, w.3.ensures) (sym (content_cover _ _ (aggregator (record { before = c; if1 = w.0 })) (passed (record { before = record { before = record { before = c; if1 = w.0 }; loop = w.1 }; loop-test = w.2 })))))
+    (λ w. rw (w.2, w.1.ensures) (sym (content_other _ _ (ne_eqb _ _ (λ e. w.0.left (c.type_at.ensures ∙ e))))))
+    c.if-type_at-eq-AGGREGATOR.branch
+
+left-unit : (c : Then-number-ne0-2) → refused c.if-type_at-eq-AGGREGATOR.number (P_Then3 c) ≡ contents_verdict (X_Then3 c)
+left-unit c = leaves_Then3 c (sym (judged_Then3 c) ∙ at_refused _ refl c.if-number-ne0-2.true)
+
+-- the ways out meet: the locals hold the answer
+left : (c : Left-walk) → c.walk-test.number at_place c.walk-test.place ≡ contents_verdict (sample c.args.k c.args.s.now)
+left c =
+    ⊎_elim
+    (λ w. rw (w.1 ∙ c.walk.invariant.1) (sym (walk_none _ _ _ _ w.0.left) ∙ c.walk.invariant.3))
+    (⊎_elim
+    (λ w. rw (w.8, w.9) (at_refused _ refl w.7.taken ∙ left-included (record { before = record { before = record { before = record { before = record { before = record { before = record { before = record { before = c; walk-test = w.0 }; number = w.1 }; type_at = w.2 }; if1 = w.3 }; loop = w.4 }; loop-test = w.5 }; judge-included = w.6 }; if2 = w.7 })))
+    (λ w. rw (w.5, w.6) (at_refused _ refl w.4.taken ∙ left-unit (record { before = record { before = record { before = record { before = record { before = c; walk-test = w.0 }; number = w.1 }; type_at = w.2 }; if1 = w.3 }; if3 = w.4 }))))
+    c.walk-test.branch
+
+pub walk-init : goal.walk-init
+unfolding top_units
+walk-init c = (search rules, refl, reached_start _, refl)
+
+pub overflow_add-end : goal.overflow_add-end
+overflow_add-end c = let u = unit (goal.at.overflow_add-end c).In-walk in omega arith
+
+pub overflow_add-end-in-walk : goal.overflow_add-end-in-walk
+overflow_add-end-in-walk c = let u = whole_end _ _ _ (unit (goal.at.overflow_add-end-in-walk c).In-walk) in let e = ends (goal.at.overflow_add-end-in-walk c).After-number in omega arith
+
+pub overflow_add-q : goal.overflow_add-q
+overflow_add-q c = let f = fits (goal.at.overflow_add-q c).Then-type_at-eq-AGGREGATOR in omega arith
+
+pub overflow_add-q-then-type_at-eq-AGGREGATOR : goal.overflow_add-q-then-type_at-eq-AGGREGATOR
+overflow_add-q-then-type_at-eq-AGGREGATOR c = let f = fits (goal.at.overflow_add-q-then-type_at-eq-AGGREGATOR c).Then-type_at-eq-AGGREGATOR in omega arith
+
+pub overflow_add-q-then-type_at-eq-AGGREGATOR-2 : goal.overflow_add-q-then-type_at-eq-AGGREGATOR-2
+overflow_add-q-then-type_at-eq-AGGREGATOR-2 c = let f = fits (goal.at.overflow_add-q-then-type_at-eq-AGGREGATOR-2 c).Then-type_at-eq-AGGREGATOR in omega arith
+
+pub loop-q-init : goal.loop-q-init
+loop-q-init c = rw c.bytes-n.ensures.0
+
+pub overflow_add-q-in-loop-q : goal.overflow_add-q-in-loop-q
+overflow_add-q-in-loop-q c = let i = included (goal.at.overflow_add-q-in-loop-q c).Else-number-ne0 in let f = fits (goal.at.overflow_add-q-in-loop-q c).Then-type_at-eq-AGGREGATOR in let e = ends (goal.at.overflow_add-q-in-loop-q c).After-number in omega arith
+
+pub overflow_add-q-in-loop-q-2 : goal.overflow_add-q-in-loop-q-2
+overflow_add-q-in-loop-q-2 c = let i = whole_end _ _ _ (included (goal.at.overflow_add-q-in-loop-q-2 c).Else-number-ne0) in let f = fits (goal.at.overflow_add-q-in-loop-q-2 c).Then-type_at-eq-AGGREGATOR in let e = ends (goal.at.overflow_add-q-in-loop-q-2 c).After-number in let g = goes (goal.at.overflow_add-q-in-loop-q-2 c).After-struct_known-1 in omega arith
+
+pub loop-q-smaller : goal.loop-q-smaller
+loop-q-smaller c = let i = whole_end _ _ _ (included (goal.at.loop-q-smaller c).Else-number-ne0) in let g = goes (goal.at.loop-q-smaller c).After-struct_known-1 in let n = next_after (X (goal.at.loop-q-smaller c).In-walk) c.loop-q.q in omega arith
+
+pub loop-q-preserved : goal.loop-q-preserved
+loop-q-preserved c = rw (goes (goal.at.loop-q-preserved c).After-struct_known-1) (sym (walk_on _ _ _ _ c.loop-q-test.true (at_none _ (sym c.judge_included-u.ensures.0 ∙ c.if-number-ne0.false))) ∙ c.loop-q.invariant)
+
+pub cover_fault-number-requires : goal.cover_fault-number-requires
+cover_fault-number-requires c = (c.requires, top_has _ _ c.walk.invariant.2 c.walk-test.true, aggregator (goal.at.cover_fault-number-requires c).Then-type_at-eq-AGGREGATOR)
+
+pub walk-smaller : goal.walk-smaller
+walk-smaller c = let u = whole_end _ _ _ (unit (goal.at.walk-smaller c).In-walk) in let e = ends (goal.at.walk-smaller c).After-number in let n = next_after (X (goal.at.walk-smaller c).In-walk) (P (goal.at.walk-smaller c).In-walk) in omega arith
+
+pub walk-preserved : goal.walk-preserved
+walk-preserved c = rw (ends (goal.at.walk-preserved c).After-number) (
+      (whole_end _ _ _ (unit (goal.at.walk-preserved c).In-walk)).1,
+      c.if-number-ne0-2.false,
+      reached_next _ _ c.walk-test.true c.walk.invariant.2,
+      sym (walk_on _ _ _ _ c.walk-test.true (sym (judged (goal.at.walk-preserved c).Joined-type_at-eq-AGGREGATOR) ∙ at_none _ c.if-number-ne0-2.false)) ∙ c.walk.invariant.3,
+    )
+
+pub returns-then-number-eq0 : goal.returns-then-number-eq0
+returns-then-number-eq0 c = sym (at_none _ c.if-number-eq0.true) ∙ left (goal.at.returns-then-number-eq0 c).Left-walk
+
+pub returns : goal.returns
+returns c = sym (at_refused _ refl c.if-number-eq0.false) ∙ left (goal.at.returns c).Left-walk
