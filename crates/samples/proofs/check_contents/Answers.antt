@@ -105,6 +105,9 @@ leaves c e = sym (walk_here _ _ _ _ c.walk-test.true e) ∙ c.walk.invariant.3
 abbrev X_Then2 : Then-number-ne0 → Sample
 X_Then2 c = sample c.args.k c.args.s.now
 
+abbrev P_Then2 : Then-number-ne0 → ℕ
+P_Then2 c = c.walk.at
+
 leaves_Then2 : (c : Then-number-ne0) {n q : ℕ} → content_verdict (X_Then2 c) (P_Then2 c) ≡ refused n q → refused n q ≡ contents_verdict (X_Then2 c)
 leaves_Then2 c e = sym (walk_here _ _ _ _ c.walk-test.true e) ∙ c.walk.invariant.3
 
@@ -113,9 +116,6 @@ aggregator_Then2 c = eq-eqb _ _ (sym c.type_at.ensures ∙ c.if-type_at-eq-AGGRE
 
 ends_Then2 : (c : Then-number-ne0) → P_Then2 c + c.bytes-n.result + c.number.result ≡ next (X_Then2 c) (P_Then2 c)
 ends_Then2 c = let a = c.args in next_is a.k a.s.now _ _ _ c.bytes-n.ensures.0 c.number.ensures
-
-abbrev P_Then2 : Then-number-ne0 → ℕ
-P_Then2 c = c.walk.at
 
 left-included : (c : Then-number-ne0) → refused c.judge_included-u.result.fault c.loop-q.q ≡ contents_verdict (X_Then2 c)
 left-included c = leaves_Then2 c (content_included _ _ (aggregator_Then2 c) (rw (ends_Then2 c) at (sym c.loop-q.invariant ∙ walk_here _ _ _ _ c.loop-q-test.true (at_refused _ c.judge_included-u.ensures.0 c.if-number-ne0.true))))

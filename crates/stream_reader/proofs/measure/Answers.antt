@@ -56,8 +56,7 @@ next :
     (c : After-added-t) →
     let a = c.args in
     let i = c.loop-p in
-    let u = c.judged-in-Unit-1.given.0 in
-    (i.p < u.1.0) × Measuring (in_bytes a.l) a.s.now a.room c.added-t.result u.1.0
+    (i.p < c.in-Unit.next) × Measuring (in_bytes a.l) a.s.now a.room c.added-t.result c.in-Unit.next
 next c =
     let a = c.args in
     let i = c.loop-p in
@@ -65,10 +64,10 @@ next c =
     (measuring_good (in_bytes a.l) a.s.now a.room i.t i.p i.invariant c.loop-p-test.true c.judge-judged.ensures (ap judged_of c.in-Unit.is))
 
 pub loop-p-smaller : goal.loop-p-smaller
-loop-p-smaller c = let k = (next c).0 in omega arith
+loop-p-smaller c = let k = (next (goal.at.loop-p-smaller c).After-added-t).0 in omega arith
 
 pub loop-p-preserved : goal.loop-p-preserved
-loop-p-preserved c = (next c).1
+loop-p-preserved c = (next (goal.at.loop-p-preserved c).After-added-t).1
 
 pub returns-in-TooLong : goal.returns-in-TooLong
 returns-in-TooLong c = let a = c.args in

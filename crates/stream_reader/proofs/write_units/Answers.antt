@@ -70,9 +70,6 @@ written c =
     rw (c.put_bytes.ensures, c.put_length.ensures, c.bytes-w.ensures.0)
     (writing_next (in_bytes a.l) a.s.now a.first a.out.now i.out i.at i.p i.invariant h u.result u.ensures (zeros_end a.s.now u.result) refl)
 
-pub shape_of-out-then-at-size : goal.shape_of-out-then-at-size
-shape_of-out-then-at-size c = writing_length _ _ _ _ _ _ _ (written (goal.at.shape_of-out-then-at-size c).After-slice_known-in-loop-p-2-1).1
-
 pub returns-then-at-size : goal.returns-then-at-size
 returns-then-at-size c = let e = c.requires.2 in
     writing_full _ _ _ _ _ _ _ (written (goal.at.returns-then-at-size c).After-slice_known-in-loop-p-2-1).1 (c.if-at-size.true ∙ sym e)
@@ -82,9 +79,6 @@ loop-p-smaller c = let k = (written (goal.at.loop-p-smaller c).After-slice_known
 
 pub loop-p-preserved : goal.loop-p-preserved
 loop-p-preserved c = rw c.zeros_end-p.ensures (written (goal.at.loop-p-preserved c).After-slice_known-in-loop-p-2-1).1
-
-pub shape_of-out : goal.shape_of-out
-shape_of-out c = writing_length _ _ _ _ _ _ _ c.loop-p.invariant
 
 pub returns : goal.returns
 returns c = let a = c.args in

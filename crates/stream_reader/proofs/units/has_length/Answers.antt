@@ -55,10 +55,10 @@ on c =
     ending_on a.s.now a.start l.stop l.next l.invariant i c.if-s-next-eq1.false u.result c.zeros_end-next-in-loop-next.result u.ensures c.zeros_end-next-in-loop-next.ensures
 
 pub loop-next-smaller : goal.loop-next-smaller
-loop-next-smaller c = let k = (on c).0 in omega arith
+loop-next-smaller c = let k = (on (goal.at.loop-next-smaller c).After-zeros_end-next-in-loop-next).0 in omega arith
 
 pub loop-next-preserved : goal.loop-next-preserved
-loop-next-preserved c = (on c).1
+loop-next-preserved c = (on (goal.at.loop-next-preserved c).After-zeros_end-next-in-loop-next).1
 
 pub overflow_sub-result-2 : goal.overflow_sub-result-2
 overflow_sub-result-2 c = c.loop-next.invariant.order.0

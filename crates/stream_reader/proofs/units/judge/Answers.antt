@@ -21,20 +21,32 @@ next c =
     let u = c.unit_stop-stop in
     next_by a.s.now a.start u.result u.ensures c.zeros_end-next.ensures
 
+next_Then2 : (c : Then-s-next-ne1) → let a = c.args in c.zeros_end-next.result ≡ next_from a.s.now a.start
+next_Then2 c =
+    let a = c.args in
+    let u = c.unit_stop-stop in
+    next_by a.s.now a.start u.result u.ensures c.zeros_end-next.ensures
+
 -- a byte follows that may not
 bad : (c : Then-s-next-ne1) → let a = c.args in Bad a.s.now a.start
 bad c =
     let a = c.args in
     let h = c.requires.1 in
     let z = c.zeros_end-next.result in
-    found_bad a.s.now a.start h z (next c) c.if-next-s.true c.if-s-next-ne1.true
+    found_bad a.s.now a.start h z (next_Then2 c) c.if-next-s.true c.if-s-next-ne1.true
+
+next_Joined1 : (c : Joined-next-s) → let a = c.args in c.zeros_end-next.result ≡ next_from a.s.now a.start
+next_Joined1 c =
+    let a = c.args in
+    let u = c.unit_stop-stop in
+    next_by a.s.now a.start u.result u.ensures c.zeros_end-next.ensures
 
 -- nothing or a start code does
 good : (c : Joined-next-s) → let a = c.args in Good a.s.now a.start
 good c =
     let a = c.args in
     let h = c.requires.1 in
-    found_good a.s.now a.start h c.zeros_end-next.result (next c)
+    found_good a.s.now a.start h c.zeros_end-next.result (next_Joined1 c)
     (λ i. ⊎_elim (λ w. w.2.left) (λ e. let j = e.left in absurd (omega arith)) c.if-next-s.branch)
 
 -- its size
@@ -45,7 +57,7 @@ size :
 size c = let g = (good c).size in let u = c.unit_stop-stop.ensures in omega arith
 
 pub judge_bad-requires : goal.judge_bad-requires
-judge_bad-requires c = (c.requires.1, (bad c).verdict ∙ ap (refused bad_byte_stream) (sym (next (goal.at.judge_bad-requires c).After-zeros_end-next)))
+judge_bad-requires c = (c.requires.1, (bad (goal.at.judge_bad-requires c).Then-s-next-ne1).verdict ∙ ap (refused bad_byte_stream) (sym (next (goal.at.judge_bad-requires c).After-zeros_end-next)))
 
 pub overflow_sub-size : goal.overflow_sub-size
 overflow_sub-size c = let a = c.args in
