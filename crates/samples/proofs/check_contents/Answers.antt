@@ -2,7 +2,7 @@
 -- The inner loop's: what is left of the walk over the included units gives their verdict. Assumes nothing.
 use borrow.Author.Rules.{rules}
 use native.Mathlib.Omega.{arith}
-use mathlib.Core.Path.{◌≡◌, refl, sym, ◌∙◌}
+use mathlib.Core.Path.{ap, ap₂, ◌≡◌, refl, sym, ◌∙◌}
 use Prim.Native.Nat.{ℕ, ◌+◌, ◌-◌, ◌≤◌}
 use lib.ListN.{length}
 use mathlib.Core.Logic.{⊎_elim}
@@ -18,7 +18,7 @@ use Rattle.units.proofs.Walks.{walk, walk_none, walk_here, walk_on, Reached, rea
 use Rattle.samples.specs.Check.{content_verdict, contents_verdict}
 use Rattle.samples.proofs.Walks.{included_judge, next_is, top_whole, top_has, content_included, content_cover, content_other}
 use Rattle.samples.proofs.check_contents.Goals as goal
-use Rattle.samples.proofs.check_contents.Goals.{After-loop-q, After-number, After-struct_known-1, Else-number-ne0, In-walk, Joined-type_at-eq-AGGREGATOR, Left-walk, Then-number-ne0, Then-number-ne0-2, Then-type_at-eq-AGGREGATOR}
+use Rattle.samples.proofs.check_contents.Goals.{then-type_at-eq-AGGREGATOR+else-loop-q-test, else-type_at-eq-AGGREGATOR, else-walk-test, then-walk-test+then-type_at-eq-AGGREGATOR+then-loop-q-test+then-number-ne0, then-walk-test+then-number-ne0-2, After-loop-q, After-number, After-struct_known-1, Else-number-ne0, In-walk, Joined-type_at-eq-AGGREGATOR, Left-walk, Then-number-ne0, Then-number-ne0-2, Then-type_at-eq-AGGREGATOR}
 
 abbrev X : In-walk → Sample
 X c = sample c.args.k c.args.s.now
@@ -93,10 +93,17 @@ X_Joined1 c = sample c.args.k c.args.s.now
 -- what stands in the unit, where both arms meet
 judged : (c : Joined-type_at-eq-AGGREGATOR) → c.if-type_at-eq-AGGREGATOR.number at_place P_Joined1 c ≡ content_verdict (X_Joined1 c) (P_Joined1 c)
 judged c =
-    ⊎_elim
-    (λ w. rw (w.4, w.3.ensures) (sym (content_cover _ _ (aggregator (record { before = c; if1 = w.0 })) (passed (record { before = record { before = record { before = c; if1 = w.0 }; loop = w.1 }; loop-test = w.2 })))))
-    (λ w. rw (w.2, w.1.ensures) (sym (content_other _ _ (ne_eqb _ _ (λ e. w.0.left (c.type_at.ensures ∙ e))))))
-    c.if-type_at-eq-AGGREGATOR.branch
+    elim c.if-type_at-eq-AGGREGATOR.branch [
+      then-type_at-eq-AGGREGATOR+else-loop-q-test w ↦
+        let a = c.args in
+        let e : P_Joined1 c + c.bytes-n.result + c.number.result ≡ next (X_Joined1 c) (P_Joined1 c) = next_is a.k a.s.now _ _ _ c.bytes-n.ensures.0 c.number.ensures in
+        let t : is_aggregator (X_Joined1 c) (P_Joined1 c) ≡ true = eq-eqb _ _ (sym c.type_at.ensures ∙ w.if-type_at-eq-AGGREGATOR.true) in
+        let i = rw e at (sym w.loop-q.invariant ∙ walk_none _ _ _ _ w.loop-q-test.false) in
+        ap (λ (n : ℕ). n at_place P_Joined1 c) (w.number-is ∙ w.cover_fault-number.ensures) ∙ sym (content_cover _ _ t i)
+    | else-type_at-eq-AGGREGATOR w ↦
+        ap (λ (n : ℕ). n at_place P_Joined1 c) (w.number-is ∙ w.extractor_fault-number.ensures)
+        ∙ sym (content_other _ _ (ne_eqb _ _ (λ e. w.if-type_at-eq-AGGREGATOR.false (c.type_at.ensures ∙ e))))
+    ]
 
 -- a unit with a fault: it is the answer
 leaves : (c : In-walk) {n q : ℕ} → content_verdict (X c) (P c) ≡ refused n q → refused n q ≡ contents_verdict (X c)
@@ -131,10 +138,17 @@ leaves_Then3 c e = sym (walk_here _ _ _ _ c.walk-test.true e) ∙ c.walk.invaria
 
 judged_Then3 : (c : Then-number-ne0-2) → c.if-type_at-eq-AGGREGATOR.number at_place P_Then3 c ≡ content_verdict (X_Then3 c) (P_Then3 c)
 judged_Then3 c =
-    ⊎_elim
-    (λ w. rw (w.4, w.3.ensures) (sym (content_cover _ _ (aggregator (record { before = c; if1 = w.0 })) (passed (record { before = record { before = record { before = c; if1 = w.0 }; loop = w.1 }; loop-test = w.2 })))))
-    (λ w. rw (w.2, w.1.ensures) (sym (content_other _ _ (ne_eqb _ _ (λ e. w.0.left (c.type_at.ensures ∙ e))))))
-    c.if-type_at-eq-AGGREGATOR.branch
+    elim c.if-type_at-eq-AGGREGATOR.branch [
+      then-type_at-eq-AGGREGATOR+else-loop-q-test w ↦
+        let a = c.args in
+        let e : P_Then3 c + c.bytes-n.result + c.number.result ≡ next (X_Then3 c) (P_Then3 c) = next_is a.k a.s.now _ _ _ c.bytes-n.ensures.0 c.number.ensures in
+        let t : is_aggregator (X_Then3 c) (P_Then3 c) ≡ true = eq-eqb _ _ (sym c.type_at.ensures ∙ w.if-type_at-eq-AGGREGATOR.true) in
+        let i = rw e at (sym w.loop-q.invariant ∙ walk_none _ _ _ _ w.loop-q-test.false) in
+        ap (λ (n : ℕ). n at_place P_Then3 c) (w.number-is ∙ w.cover_fault-number.ensures) ∙ sym (content_cover _ _ t i)
+    | else-type_at-eq-AGGREGATOR w ↦
+        ap (λ (n : ℕ). n at_place P_Then3 c) (w.number-is ∙ w.extractor_fault-number.ensures)
+        ∙ sym (content_other _ _ (ne_eqb _ _ (λ e. w.if-type_at-eq-AGGREGATOR.false (c.type_at.ensures ∙ e))))
+    ]
 
 left-unit : (c : Then-number-ne0-2) → refused c.if-type_at-eq-AGGREGATOR.number (P_Then3 c) ≡ contents_verdict (X_Then3 c)
 left-unit c = leaves_Then3 c (sym (judged_Then3 c) ∙ at_refused _ refl c.if-number-ne0-2.true)
@@ -142,12 +156,32 @@ left-unit c = leaves_Then3 c (sym (judged_Then3 c) ∙ at_refused _ refl c.if-nu
 -- the ways out meet: the locals hold the answer
 left : (c : Left-walk) → c.walk-test.number at_place c.walk-test.place ≡ contents_verdict (sample c.args.k c.args.s.now)
 left c =
-    ⊎_elim
-    (λ w. rw (w.1 ∙ c.walk.invariant.1) (sym (walk_none _ _ _ _ w.0.left) ∙ c.walk.invariant.3))
-    (⊎_elim
-    (λ w. rw (w.8, w.9) (at_refused _ refl w.7.taken ∙ left-included (record { before = record { before = record { before = record { before = record { before = record { before = record { before = record { before = c; walk-test = w.0 }; number = w.1 }; type_at = w.2 }; if1 = w.3 }; loop = w.4 }; loop-test = w.5 }; judge-included = w.6 }; if2 = w.7 })))
-    (λ w. rw (w.5, w.6) (at_refused _ refl w.4.taken ∙ left-unit (record { before = record { before = record { before = record { before = record { before = c; walk-test = w.0 }; number = w.1 }; type_at = w.2 }; if1 = w.3 }; if3 = w.4 }))))
-    c.walk-test.branch
+    let a = c.args in
+    let x : Sample = sample a.k a.s.now in
+    let p = c.walk.at in
+    elim c.walk-test.branch [
+      else-walk-test w ↦ ap (λ (n : ℕ). n at_place c.walk-test.place) (w.number-is ∙ c.walk.invariant.1) ∙ sym (walk_none _ _ _ _ w.walk-test.false) ∙ c.walk.invariant.3
+    | then-walk-test+then-type_at-eq-AGGREGATOR+then-loop-q-test+then-number-ne0 w ↦
+        let e : p + c.bytes-n.result + w.number.result ≡ next x p = next_is a.k a.s.now _ _ _ c.bytes-n.ensures.0 w.number.ensures in
+        let t : is_aggregator x p ≡ true = eq-eqb _ _ (sym w.type_at.ensures ∙ w.if-type_at-eq-AGGREGATOR.true) in
+        let i = rw e at (sym w.loop-q.invariant ∙ walk_here _ _ _ _ w.loop-q-test.true (at_refused _ w.judge_included-u.ensures.0 w.if-number-ne0.true)) in
+        ap₂ (λ (n q : ℕ). n at_place q) w.number-is w.place-is ∙ at_refused _ refl w.if-number-ne0.true
+        ∙ sym (walk_here _ _ _ _ w.walk-test.true (content_included _ _ t i)) ∙ c.walk.invariant.3
+    | then-walk-test+then-number-ne0-2 w ↦
+        let e : p + c.bytes-n.result + w.number.result ≡ next x p = next_is a.k a.s.now _ _ _ c.bytes-n.ensures.0 w.number.ensures in
+        let j : w.if-type_at-eq-AGGREGATOR.number at_place p ≡ content_verdict x p =
+            elim w.if-type_at-eq-AGGREGATOR.branch [
+              then-type_at-eq-AGGREGATOR+else-loop-q-test v ↦
+                let t : is_aggregator x p ≡ true = eq-eqb _ _ (sym w.type_at.ensures ∙ v.if-type_at-eq-AGGREGATOR.true) in
+                let i = rw e at (sym v.loop-q.invariant ∙ walk_none _ _ _ _ v.loop-q-test.false) in
+                ap (λ (n : ℕ). n at_place p) (v.number-is ∙ v.cover_fault-number.ensures) ∙ sym (content_cover _ _ t i)
+            | else-type_at-eq-AGGREGATOR v ↦
+                ap (λ (n : ℕ). n at_place p) (v.number-is ∙ v.extractor_fault-number.ensures)
+                ∙ sym (content_other _ _ (ne_eqb _ _ (λ f. v.if-type_at-eq-AGGREGATOR.false (w.type_at.ensures ∙ f))))
+            ] in
+        ap₂ (λ (n q : ℕ). n at_place q) w.number-is w.place-is ∙ at_refused _ refl w.if-number-ne0-2.true
+        ∙ sym (walk_here _ _ _ _ w.walk-test.true (sym j ∙ at_refused _ refl w.if-number-ne0-2.true)) ∙ c.walk.invariant.3
+    ]
 
 pub walk-init : goal.walk-init
 unfolding top_units

@@ -1,0 +1,12 @@
+-- The loop's invariant: count is how many of the first i references come from the track. Assumes nothing.
+use native.Mathlib.Omega.{arith}
+use mathlib.Core.Path.{◌≡◌, sym, ◌∙◌}
+use Prim.Native.Nat.{◌-◌, ◌≤◌}
+use Rattle.tables.proofs.References.{counted, counted_none, counted_more, counted_all_lem}
+use Rattle.tables.proofs.reference_count.Given as goal
+
+abbrev pub invariant-loop-i : goal.invariant-loop-i
+invariant-loop-i l = (l.i ≤ l.total) × (l.count ≤ l.i) × (l.count ≡ counted l.t l.n l.i)
+
+abbrev pub decreases-loop-i : goal.decreases-loop-i
+decreases-loop-i l = l.total - l.i
