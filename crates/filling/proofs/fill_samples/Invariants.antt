@@ -1,0 +1,21 @@
+-- The loop's invariant: the rows of the first i samples are written, p is the place of the next entry, and place that of the next sample's bytes.
+-- Assumes nothing.
+use native.Mathlib.Omega.{arith}
+use mathlib.Core.Path.{◌≡◌, refl, sym, ap, ◌∙◌}
+use Prim.Native.Nat.{ℕ, ◌+◌, ◌-◌, ◌*◌, ◌≤◌, ◌<◌}
+use lib.ListN.{length}
+use Rattle.bundles.specs.Limits.{sample_most}
+use Rattle.bundles.specs.Fields.{sample_entry_size, byte_count_size}
+use Rattle.bundles.specs.Bundles.{recording_of, content_at}
+use Rattle.tables.specs.Tables.{sample_row}
+use Rattle.bundles.specs.Samples.{entry_count, entry_at}
+use Rattle.bundles.proofs.Sections.{Accepted, accepted}
+use Rattle.filling.specs.Filling.{write_rows, sample_cells}
+use Rattle.filling.proofs.Rows.{rows_none, rows_put, sample_row_lem, entry_sound, entries_inside, start_of, start_first, start_next, start_inside}
+use Rattle.filling.proofs.fill_samples.Given as goal
+
+abbrev pub invariant-loop-i : goal.invariant-loop-i
+invariant-loop-i l = (l.i ≤ l.n) × (l.p ≡ l.start + l.i * sample_entry_size) × (l.place ≡ start_of l.b l.i) × (length l.t ≡ length l.initial.t) × (l.t ≡ write_rows l.initial.t (sample_row 1) (sample_cells (recording_of l.b) (content_at l.b)) l.i)
+
+abbrev pub decreases-loop-i : goal.decreases-loop-i
+decreases-loop-i l = l.n - l.i

@@ -1,0 +1,16 @@
+-- The invariant: from here the walk comes to the same state. Assumes nothing.
+use native.Mathlib.Omega.{arith}
+use mathlib.Core.Path.{◌≡◌, refl, sym, ◌∙◌}
+use Prim.Native.Nat.{◌-◌}
+use Rattle.units.specs.Units.{sample}
+use Rattle.mark_rules.specs.States.{reach}
+use Rattle.mark_rules.proofs.States.{step_after, reach_here, reach_step}
+use Rattle.marks.specs.Fits.{Fits}
+use Rattle.marks.proofs.Steps.{fits_step}
+use Rattle.marks.proofs.reach.Given as goal
+
+abbrev pub invariant-loop-s : goal.invariant-loop-s
+invariant-loop-s l = Fits l.s × (reach (sample l.k l.z) l.to l.s ≡ reach (sample l.k l.z) l.to l.initial.s)
+
+abbrev pub decreases-loop-s : goal.decreases-loop-s
+decreases-loop-s l = l.to - l.s.place

@@ -1,0 +1,6 @@
+-- A number of the sample's row. Assumes nothing.
+use borrow.Author.Rules.{rules}
+use Rattle.sample_tables.proofs.kept_count.Goals as goal
+
+pub returns : goal.returns
+returns c = c.sample_cell.ensures
