@@ -1,0 +1,6 @@
+-- Two numbers, one after the other. Assumes nothing.
+use borrow.Author.Rules.{rules}
+use Rattle.naming_list.proofs.put_entry.Goals as goal
+
+pub returns : goal.returns
+returns c = rw (c.put_number-2.ensures, c.put_number.ensures)

@@ -1,0 +1,32 @@
+-- The invariant: what is known is right. Assumes nothing.
+use borrow.Author.Rules.{rules}
+use native.Mathlib.Omega.{arith}
+use mathlib.Core.Path.{◌≡◌, refl, sym, ap, ◌∙◌}
+use Prim.Native.Nat.{ℕ, zero, suc, ◌+◌, ◌-◌, ◌*◌, ◌≤◌, ◌<◌}
+use lib.ListN.{length, get_or, take, drop}
+use Rattle.verdicts.specs.Surveys.{Survey}
+use Rattle.verdicts.proofs.surveys.mark_range.Goals as goal
+
+pub overflow_sub-n : goal.overflow_sub-n
+overflow_sub-n c = omega (arith, c.requires.3)
+
+pub loop-n-init : goal.loop-n-init
+loop-n-init c = (c.requires.2, refl, refl)
+
+pub mark_with_named-used-requires : goal.mark_with_named-used-requires
+mark_with_named-used-requires c = let i = c.loop-n.invariant in (c.requires.0, omega (arith, c.requires.1, i.2), i.0)
+
+pub loop-n-smaller : goal.loop-n-smaller
+loop-n-smaller c = omega (arith, c.loop-n-test.true)
+
+pub loop-n-preserved : goal.loop-n-preserved
+loop-n-preserved c = let i = c.loop-n.invariant in let m = c.mark_with_named-used in (m.ensures, m.auto.1.1.1.0 ∙ i.1, m.auto.1.1.1.1.0 ∙ i.2)
+
+pub shape_of-forms : goal.shape_of-forms
+shape_of-forms c = c.loop-n.invariant.1
+
+pub shape_of-rows : goal.shape_of-rows
+shape_of-rows c = c.loop-n.invariant.2
+
+pub returns : goal.returns
+returns c = c.loop-n.invariant.0.tells

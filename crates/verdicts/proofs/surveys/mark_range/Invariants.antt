@@ -1,0 +1,13 @@
+-- The invariant: what is known is right. Assumes nothing.
+use native.Mathlib.Omega.{arith}
+use mathlib.Core.Path.{◌≡◌, refl, sym, ap, ◌∙◌}
+use Prim.Native.Nat.{ℕ, zero, suc, ◌+◌, ◌-◌, ◌*◌, ◌≤◌, ◌<◌}
+use lib.ListN.{length, get_or, take, drop}
+use Rattle.verdicts.specs.Surveys.{Survey}
+use Rattle.verdicts.proofs.surveys.mark_range.Given as goal
+
+abbrev pub invariant-loop-n : goal.invariant-loop-n
+invariant-loop-n l = Survey l.b l.t l.forms l.rows l.used × (length l.forms ≡ length l.initial.forms) × (length l.rows ≡ length l.initial.rows)
+
+abbrev pub decreases-loop-n : goal.decreases-loop-n
+decreases-loop-n l = l.last - l.n
