@@ -6,7 +6,7 @@
 --   between_layout, -recording, -length with judgements kept, the table says the same
 --   more                                one judgement more
 --   upto_between                        the first n samples are samples 1 to n
---   all_long, all_short                 of a bundle too long, and of another
+--   all_upto, all_long, all_short                 of a bundle too long, and of another
 --   all_layout, all_recording           the table says the same
 --   between_kept, kept_judgement        what is kept beside a sample is its judgement
 --   units_refused, units_good           what a judgement says of a sample
@@ -126,6 +126,10 @@ module _ (b t : List ℕ) where
   pub all_short : length b ≤ bundle_most → with_judgements b t ≡ judgements_between b t 1 (sample_count (layout_in t))
   unfolding with_judgements
   all_short h = rw (le-ltb bundle_most (length b) h, upto_between (sample_count (layout_in t)))
+
+  pub all_upto : length b ≤ bundle_most → with_judgements b t ≡ judgements_upto b t (sample_count (layout_in t))
+  unfolding with_judgements
+  all_upto h = rw (le-ltb bundle_most (length b) h)
 
   pub all_recording : recording_in b (with_judgements b t) ≡ recording_in b t
   all_recording = by_bool (bundle_most <? length b)

@@ -1,7 +1,7 @@
 -- The loop's invariant: the walk has come to p, and has not passed an extractor at the place. Assumes nothing.
 use borrow.Author.Rules.{rules}
 use native.Mathlib.Omega.{arith}
-use mathlib.Core.Path.{◌≡◌, sym, ◌∙◌}
+use mathlib.Core.Path.{◌≡◌, ap, sym, ◌∙◌}
 use mathlib.Core.Bool.{true, false}
 use Prim.Native.Nat.{ℕ, ◌-◌}
 use Rattle.units.specs.Units.{Sample, sample, next, is_aggregator}
@@ -10,6 +10,7 @@ use Rattle.units.proofs.Units.{next_after}
 use Rattle.unit_steps.proofs.Items.{aggregator_is, extractor_is, unit_is}
 use Rattle.copies.proofs.Rest.{walking_never}
 use Rattle.named_sample.proofs.Seeks.{none_past, Seeking, seeking_start, seeking_passed, seeking_here, seeking_skip, seeking_next}
+use Rattle.units.specs.declared.NalUnit.{NalUnit}
 use Rattle.named_sample.proofs.extractor_in.Goals as goal
 use Rattle.named_sample.proofs.extractor_in.Goals.{After-item_at-item, In-Aggregator, In-Extractor, In-Unit}
 
@@ -45,7 +46,7 @@ abbrev P_After_known_told3 : In-Unit → ℕ
 P_After_known_told3 c = c.loop-p.p
 
 unit : (c : In-Unit) → (is_aggregator (X_After_known_told3 c) (P_After_known_told3 c) ≡ false) × (c.in-Unit.u.next.0 ≡ next (X_After_known_told3 c) (P_After_known_told3 c))
-unit c = let w = unit_is _ _ (sym c.item_at-item.ensures ∙ c.in-Unit.is) in (w.0, rw w.2)
+unit c = let w = unit_is _ _ (sym c.item_at-item.ensures ∙ c.in-Unit.is) in (w.0, ap (λ (u : NalUnit). u.next.0) w.2)
 
 pub returns-then-x-at : goal.returns-then-x-at
 returns-then-x-at c = none_past _ _ c.requires c.if-x-at.true

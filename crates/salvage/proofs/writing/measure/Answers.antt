@@ -12,46 +12,34 @@ use Rattle.salvage_rules.specs.Salvage.{change_size}
 use Rattle.salvage.specs.Steps.{left_size, list_size}
 use Rattle.salvage.proofs.Loops.{Measuring, measuring_start, measuring_fits, measuring_next, measuring_end, walking_whole, walking_has}
 use Rattle.salvage.proofs.writing.measure.Goals as goal
-use Rattle.salvage.proofs.writing.measure.Goals.{After-fate_of-f, After-left_size-left, After-number, In-loop-at, Start}
-
-abbrev S : In-loop-at → Start
-S c = c
+use Rattle.salvage.proofs.writing.measure.Goals.{After-fate_of-f, After-left_size-left, After-number, In-loop-at}
 
 abbrev X : In-loop-at → Sample
-X c = sample (S c).args.k (S c).args.y.now
+X c = sample c.args.k c.args.y.now
 
-here : (c : In-loop-at) → Whole (X c) (length (S c).args.y.now) c.loop-at.at
+here : (c : In-loop-at) → Whole (X c) (length c.args.y.now) c.loop-at.at
 here c = walking_whole (X c) c.loop-at.at c.loop-at.invariant.walking c.loop-at-test.true
 
-abbrev S_After_number : After-number → After-number
-S_After_number c = c
-
 abbrev X_After_number : After-number → Sample
-X_After_number c = sample (S_After_number c).args.k (S_After_number c).args.y.now
+X_After_number c = sample c.args.k c.args.y.now
 
 goes : (c : After-number) → c.loop-at.at + c.bytes-n.result + c.number.result ≡ next (X_After_number c) c.loop-at.at
-goes c = let a = (S_After_number c).args in next_is a.k a.y.now _ _ _ c.bytes-n.ensures.0 c.number.ensures
-
-abbrev S_After_left_size : After-left_size-left → After-left_size-left
-S_After_left_size c = c
+goes c = let a = c.args in next_is a.k a.y.now _ _ _ c.bytes-n.ensures.0 c.number.ensures
 
 abbrev X_After_left_size : After-left_size-left → Sample
-X_After_left_size c = sample (S_After_left_size c).args.k (S_After_left_size c).args.y.now
+X_After_left_size c = sample c.args.k c.args.y.now
 
 goes_After_left_size : (c : After-left_size-left) → c.loop-at.at + c.bytes-n.result + c.number.result ≡ next (X_After_left_size c) c.loop-at.at
-goes_After_left_size c = let a = (S_After_left_size c).args in next_is a.k a.y.now _ _ _ c.bytes-n.ensures.0 c.number.ensures
+goes_After_left_size c = let a = c.args in next_is a.k a.y.now _ _ _ c.bytes-n.ensures.0 c.number.ensures
 
 left_is : (c : After-left_size-left) → c.left_size-left.result ≡ left_size c.fate_of-f.result (next (X_After_left_size c) c.loop-at.at - c.loop-at.at)
 left_is c = rw (← goes_After_left_size c) c.left_size-left.ensures
 
-abbrev S_After_fate_of : After-fate_of-f → After-fate_of-f
-S_After_fate_of c = c
-
 abbrev X_After_fate_of : After-fate_of-f → Sample
-X_After_fate_of c = sample (S_After_fate_of c).args.k (S_After_fate_of c).args.y.now
+X_After_fate_of c = sample c.args.k c.args.y.now
 
 fits : (c : After-fate_of-f) → let p = c.loop-at.at in let f = c.fate_of-f.result in
-    (c.loop-at.left + left_size f (next (X_After_fate_of c) p - p) ≤ next (X_After_fate_of c) p) × (c.loop-at.listed + list_size f ≤ change_size * next (X_After_fate_of c) p) × (next (X_After_fate_of c) p ≤ length (S_After_fate_of c).args.y.now)
+    (c.loop-at.left + left_size f (next (X_After_fate_of c) p - p) ≤ next (X_After_fate_of c) p) × (c.loop-at.listed + list_size f ≤ change_size * next (X_After_fate_of c) p) × (next (X_After_fate_of c) p ≤ length c.args.y.now)
 fits c = measuring_fits _ _ _ _ c.loop-at.invariant c.loop-at-test.true _ c.fate_of-f.ensures
 
 pub loop-at-init : goal.loop-at-init
@@ -64,13 +52,13 @@ pub overflow_add-end-in-loop-at : goal.overflow_add-end-in-loop-at
 overflow_add-end-in-loop-at c = let w = whole_end _ _ _ (here (goal.at.overflow_add-end-in-loop-at c).In-loop-at) in let e = goes (goal.at.overflow_add-end-in-loop-at c).After-number in omega arith
 
 pub fate_of-f-requires : goal.fate_of-f-requires
-fate_of-f-requires c = ((S (goal.at.fate_of-f-requires c).In-loop-at).pre.0, walking_has _ _ c.loop-at.invariant.walking c.loop-at-test.true)
+fate_of-f-requires c = (c.requires.0, walking_has _ _ c.loop-at.invariant.walking c.loop-at-test.true)
 
 pub overflow_add-left : goal.overflow_add-left
 overflow_add-left c = let l = left_is (goal.at.overflow_add-left c).After-left_size-left in let f = fits (goal.at.overflow_add-left c).After-fate_of-f in omega arith
 
 pub overflow_add-listed : goal.overflow_add-listed
-overflow_add-listed c = let l = c.list_size-listed.ensures in let f = fits (goal.at.overflow_add-listed c).After-fate_of-f in let m = (S (goal.at.overflow_add-listed c).In-loop-at).pre.1 in omega arith
+overflow_add-listed c = let l = c.list_size-listed.ensures in let f = fits (goal.at.overflow_add-listed c).After-fate_of-f in let m = c.requires.1 in omega arith
 
 pub loop-at-smaller : goal.loop-at-smaller
 loop-at-smaller c = let w = whole_end _ _ _ (here (goal.at.loop-at-smaller c).In-loop-at) in let e = goes (goal.at.loop-at-smaller c).After-number in let n = next_after (X (goal.at.loop-at-smaller c).In-loop-at) c.loop-at.at in omega arith

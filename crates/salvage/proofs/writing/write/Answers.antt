@@ -15,8 +15,7 @@ pub write_units-c-requires : goal.write_units-c-requires
 write_units-c-requires c = let p = c.requires in (cut_top _ _ _ p.0, rw (new_is _ _ _ p.0) p.1, list_fits _ _ _ p.0 c.args.list.now p.2)
 
 pub put_tail-requires : goal.put_tail-requires
-put_tail-requires c = let w = c.write_units-c in
-    λ l. let n = w.auto.1 in let m = w.ensures.0 in let f = tail_fits c.args.k c.args.s.now _ c.requires.0 _ c.requires.2 l in omega arith
+put_tail-requires c = λ l. let n = c.write_units-c.auto.list in let m = c.write_units-c.ensures.0 in let f = tail_fits c.args.k c.args.s.now _ c.requires.0 _ c.requires.2 l in omega arith
 
 pub returns : goal.returns
 returns c = let w = c.write_units-c.ensures in

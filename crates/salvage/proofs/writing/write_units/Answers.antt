@@ -11,44 +11,32 @@ use Rattle.samples.proofs.Walks.{next_is}
 use Rattle.salvage.specs.Steps.{left_size, list_size}
 use Rattle.salvage.proofs.Loops.{Writing, writing_start, writing_lengths, writing_room, writing_fits, writing_next, writing_end, walking_whole, walking_has}
 use Rattle.salvage.proofs.writing.write_units.Goals as goal
-use Rattle.salvage.proofs.writing.write_units.Goals.{After-fate_of-f, After-left_size-o, After-number, In-loop-at, Start}
-
-abbrev S : In-loop-at → Start
-S c = c
+use Rattle.salvage.proofs.writing.write_units.Goals.{After-fate_of-f, After-left_size-o, After-number, In-loop-at}
 
 abbrev X : In-loop-at → Sample
-X c = sample (S c).args.k (S c).args.y.now
+X c = sample c.args.k c.args.y.now
 
-here : (c : In-loop-at) → Whole (X c) (length (S c).args.y.now) c.loop-at.at
+here : (c : In-loop-at) → Whole (X c) (length c.args.y.now) c.loop-at.at
 here c = walking_whole (X c) c.loop-at.at c.loop-at.invariant.walking c.loop-at-test.true
 
-abbrev S_After_number : After-number → After-number
-S_After_number c = c
-
 abbrev X_After_number : After-number → Sample
-X_After_number c = sample (S_After_number c).args.k (S_After_number c).args.y.now
+X_After_number c = sample c.args.k c.args.y.now
 
 goes : (c : After-number) → c.loop-at.at + c.bytes-n.result + c.number.result ≡ next (X_After_number c) c.loop-at.at
-goes c = let a = (S_After_number c).args in next_is a.k a.y.now _ _ _ c.bytes-n.ensures.0 c.number.ensures
-
-abbrev S_After_fate_of : After-fate_of-f → After-fate_of-f
-S_After_fate_of c = c
+goes c = let a = c.args in next_is a.k a.y.now _ _ _ c.bytes-n.ensures.0 c.number.ensures
 
 abbrev X_After_fate_of : After-fate_of-f → Sample
-X_After_fate_of c = sample (S_After_fate_of c).args.k (S_After_fate_of c).args.y.now
+X_After_fate_of c = sample c.args.k c.args.y.now
 
 fits : (c : After-fate_of-f) → let p = c.loop-at.at in let f = c.fate_of-f.result in
     (c.loop-at.o + left_size f (next (X_After_fate_of c) p - p) ≤ length c.loop-at.out) × (c.loop-at.c + list_size f ≤ length c.loop-at.list)
 fits c = writing_fits _ _ _ _ _ _ _ _ c.loop-at.invariant c.loop-at-test.true _ c.fate_of-f.ensures
 
-abbrev S_After_left_size : After-left_size-o → After-left_size-o
-S_After_left_size c = c
-
 abbrev X_After_left_size : After-left_size-o → Sample
-X_After_left_size c = sample (S_After_left_size c).args.k (S_After_left_size c).args.y.now
+X_After_left_size c = sample c.args.k c.args.y.now
 
 goes_After_left_size : (c : After-left_size-o) → c.loop-at.at + c.bytes-n.result + c.number.result ≡ next (X_After_left_size c) c.loop-at.at
-goes_After_left_size c = let a = (S_After_left_size c).args in next_is a.k a.y.now _ _ _ c.bytes-n.ensures.0 c.number.ensures
+goes_After_left_size c = let a = c.args in next_is a.k a.y.now _ _ _ c.bytes-n.ensures.0 c.number.ensures
 
 left_is : (c : After-left_size-o) → c.left_size-o.result ≡ left_size c.fate_of-f.result (next (X_After_left_size c) c.loop-at.at - c.loop-at.at)
 left_is c = rw (← goes_After_left_size c) c.left_size-o.ensures
@@ -63,10 +51,10 @@ pub overflow_add-end-in-loop-at : goal.overflow_add-end-in-loop-at
 overflow_add-end-in-loop-at c = let w = whole_end _ _ _ (here (goal.at.overflow_add-end-in-loop-at c).In-loop-at) in let e = goes (goal.at.overflow_add-end-in-loop-at c).After-number in omega arith
 
 pub fate_of-f-requires : goal.fate_of-f-requires
-fate_of-f-requires c = ((S (goal.at.fate_of-f-requires c).In-loop-at).pre.0, walking_has _ _ c.loop-at.invariant.walking c.loop-at-test.true)
+fate_of-f-requires c = (c.requires.0, walking_has _ _ c.loop-at.invariant.walking c.loop-at-test.true)
 
 pub put_unit-requires : goal.put_unit-requires
-put_unit-requires c = (((S (goal.at.put_unit-requires c).In-loop-at).requires.0, walking_has _ _ c.loop-at.invariant.walking c.loop-at-test.true), goes (goal.at.put_unit-requires c).After-number, c.fate_of-f.ensures, writing_room _ _ _ _ _ _ _ _ c.loop-at.invariant c.loop-at-test.true)
+put_unit-requires c = ((c.requires.0, walking_has _ _ c.loop-at.invariant.walking c.loop-at-test.true), goes (goal.at.put_unit-requires c).After-number, c.fate_of-f.ensures, writing_room _ _ _ _ _ _ _ _ c.loop-at.invariant c.loop-at-test.true)
 
 pub put_fate-requires : goal.put_fate-requires
 put_fate-requires c = (c.fate_of-f.ensures, (fits (goal.at.put_fate-requires c).After-fate_of-f).1)

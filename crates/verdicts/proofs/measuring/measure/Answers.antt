@@ -24,25 +24,19 @@ use Rattle.mark_rules.specs.declared.CopyAmount.{CopyAmount}
 use Rattle.mark_rules.specs.declared.CopyCounted.TheVariants as counted
 use Rattle.verdicts.proofs.Counting.{Counting, counting_start, counting_skip, unit_fits, counting_unit, counting_refused, copy_fits, counting_copy, counting_end}
 use Rattle.verdicts.proofs.measuring.measure.Goals as goal
-use Rattle.verdicts.proofs.measuring.measure.Goals.{After-amount_at-copy, After-item_at-item, In-Aggregator, In-Extractor, In-Unit, Start}
-
-abbrev S : After-item_at-item → Start
-S c = c
+use Rattle.verdicts.proofs.measuring.measure.Goals.{After-amount_at-copy, After-item_at-item, In-Aggregator, In-Extractor, In-Unit}
 
 abbrev R : After-item_at-item → Recording
-R c = recording_in (S c).args.b.now (S c).args.t.now
+R c = recording_in c.args.b.now c.args.t.now
 
 abbrev X : After-item_at-item → Sample
-X c = sample (S c).args.k (S c).args.x.now
+X c = sample c.args.k c.args.x.now
 
 abbrev P : After-item_at-item → ℕ
 P c = c.loop-p.p
 
-abbrev S_After_known_told : In-Aggregator → In-Aggregator
-S_After_known_told c = c
-
 abbrev X_After_known_told : In-Aggregator → Sample
-X_After_known_told c = sample (S_After_known_told c).args.k (S_After_known_told c).args.x.now
+X_After_known_told c = sample c.args.k c.args.x.now
 
 abbrev P_After_known_told : In-Aggregator → ℕ
 P_After_known_told c = c.loop-p.p
@@ -51,11 +45,8 @@ P_After_known_told c = c.loop-p.p
 aggregator : (c : In-Aggregator) → (is_aggregator (X_After_known_told c) (P_After_known_told c) ≡ true) × (c.in-Aggregator.included.0 ≡ included_start (X_After_known_told c) (P_After_known_told c))
 aggregator c = aggregator_is _ _ (sym c.item_at-item.ensures ∙ c.in-Aggregator.is)
 
-abbrev S_After_known_told2 : In-Extractor → In-Extractor
-S_After_known_told2 c = c
-
 abbrev X_After_known_told2 : In-Extractor → Sample
-X_After_known_told2 c = sample (S_After_known_told2 c).args.k (S_After_known_told2 c).args.x.now
+X_After_known_told2 c = sample c.args.k c.args.x.now
 
 abbrev P_After_known_told2 : In-Extractor → ℕ
 P_After_known_told2 c = c.loop-p.p
@@ -63,11 +54,8 @@ P_After_known_told2 c = c.loop-p.p
 extractor : (c : In-Extractor) → (is_aggregator (X_After_known_told2 c) (P_After_known_told2 c) ≡ false) × (is_extractor (X_After_known_told2 c) (P_After_known_told2 c) ≡ true) × (c.in-Extractor.next.0 ≡ next (X_After_known_told2 c) (P_After_known_told2 c))
 extractor c = extractor_is _ _ (sym c.item_at-item.ensures ∙ c.in-Extractor.is)
 
-abbrev S_After_known_told5 : In-Unit → In-Unit
-S_After_known_told5 c = c
-
 abbrev X_After_known_told5 : In-Unit → Sample
-X_After_known_told5 c = sample (S_After_known_told5 c).args.k (S_After_known_told5 c).args.x.now
+X_After_known_told5 c = sample c.args.k c.args.x.now
 
 abbrev P_After_known_told5 : In-Unit → ℕ
 P_After_known_told5 c = c.loop-p.p
@@ -77,20 +65,19 @@ unit c = unit_is _ _ (sym c.item_at-item.ensures ∙ c.in-Unit.is)
 
 -- no sample is too long
 few : (c : After-item_at-item) (m : ℕ) → end (sample_of (R c) m) ≤ bundle_most
-few c m = let l = content_most (S c).args.b.now (S c).args.t.now m in let h = own_length (R c) m in omega (arith, (S c).requires.2)
+few c m = let l = content_most c.args.b.now c.args.t.now m in let h = own_length (R c) m in omega (arith, c.requires.2)
 
 -- the unit at hand lies in the sample, which is not too long
 short : (c : After-item_at-item) → (P c < end (X c)) × (end (X c) ≤ bundle_most)
-short c = (c.loop-p-test.true, rw (S c).requires.0 (few c (S c).args.n.0))
+short c =
+    let e = ap end c.requires.0 in
+    (c.loop-p-test.true, omega (arith, few c c.args.n.0, e))
 
 ends : (c : After-item_at-item) → is_aggregator (X c) (P c) ≡ false → next (X c) (P c) ≤ end (X c)
 ends c t = (whole_end (X c) (end (X c)) (P c) (walking_whole (X c) (end (X c)) (P c) c.loop-p.invariant.passing.walking c.loop-p-test.true)).1
 
-abbrev S_After_amount_at : After-amount_at-copy → After-amount_at-copy
-S_After_amount_at c = c
-
 abbrev X_After_amount_at : After-amount_at-copy → Sample
-X_After_amount_at c = sample (S_After_amount_at c).args.k (S_After_amount_at c).args.x.now
+X_After_amount_at c = sample c.args.k c.args.x.now
 
 abbrev P_After_amount_at : After-amount_at-copy → ℕ
 P_After_amount_at c = c.loop-p.p
@@ -99,42 +86,46 @@ extractor_After_amount_at : (c : After-amount_at-copy) → (is_aggregator (X_Aft
 extractor_After_amount_at c = extractor_is _ _ (sym c.item_at-item.ensures ∙ c.in-Extractor.is)
 
 abbrev R_After_amount_at : After-amount_at-copy → Recording
-R_After_amount_at c = recording_in (S_After_amount_at c).args.b.now (S_After_amount_at c).args.t.now
+R_After_amount_at c = recording_in c.args.b.now c.args.t.now
 
 few_After_amount_at : (c : After-amount_at-copy) (m : ℕ) → end (sample_of (R_After_amount_at c) m) ≤ bundle_most
-few_After_amount_at c m = let l = content_most (S_After_amount_at c).args.b.now (S_After_amount_at c).args.t.now m in let h = own_length (R_After_amount_at c) m in omega (arith, (S_After_amount_at c).requires.2)
+few_After_amount_at c m = let l = content_most c.args.b.now c.args.t.now m in let h = own_length (R_After_amount_at c) m in omega (arith, c.requires.2)
 
 ends_After_amount_at : (c : After-amount_at-copy) → is_aggregator (X_After_amount_at c) (P_After_amount_at c) ≡ false → next (X_After_amount_at c) (P_After_amount_at c) ≤ end (X_After_amount_at c)
 ends_After_amount_at c t = (whole_end (X_After_amount_at c) (end (X_After_amount_at c)) (P_After_amount_at c) (walking_whole (X_After_amount_at c) (end (X_After_amount_at c)) (P_After_amount_at c) c.loop-p.invariant.passing.walking c.loop-p-test.true)).1
 
 short_After_amount_at : (c : After-amount_at-copy) → (P_After_amount_at c < end (X_After_amount_at c)) × (end (X_After_amount_at c) ≤ bundle_most)
-short_After_amount_at c = (c.loop-p-test.true, rw (S_After_amount_at c).requires.0 (few_After_amount_at c (S_After_amount_at c).args.n.0))
+short_After_amount_at c =
+    let e = ap end c.requires.0 in
+    (c.loop-p-test.true, omega (arith, few_After_amount_at c c.args.n.0, e))
 
 -- the sums fit
 copied-fits : (c : After-amount_at-copy) {k : CopyAmount} → c.amount_at-copy.result ≡ counted.Units k → (c.loop-p.count + k.count ≤ bundle_most * bundle_most) × (c.loop-p.copied + k.bytes ≤ bundle_most * bundle_most)
 copied-fits c e =
     let t = extractor_After_amount_at c in
-    let f = copy_fits (R_After_amount_at c) (S_After_amount_at c).args.n.0 (X_After_amount_at c) _ _ _ (P_After_amount_at c) c.loop-p.invariant c.loop-p-test.true t.0 t.1 (few_After_amount_at c) (sym c.amount_at-copy.ensures ∙ e) in
+    let f = copy_fits (R_After_amount_at c) c.args.n.0 (X_After_amount_at c) _ _ _ (P_After_amount_at c) c.loop-p.invariant c.loop-p-test.true t.0 t.1 (few_After_amount_at c) (sym c.amount_at-copy.ensures ∙ e) in
     let l = ends_After_amount_at c t.0 in
     let s = short_After_amount_at c in
     (omega arith, omega arith)
 
 abbrev R_After_known_told5 : In-Unit → Recording
-R_After_known_told5 c = recording_in (S_After_known_told5 c).args.b.now (S_After_known_told5 c).args.t.now
+R_After_known_told5 c = recording_in c.args.b.now c.args.t.now
 
 ends_After_known_told5 : (c : In-Unit) → is_aggregator (X_After_known_told5 c) (P_After_known_told5 c) ≡ false → next (X_After_known_told5 c) (P_After_known_told5 c) ≤ end (X_After_known_told5 c)
 ends_After_known_told5 c t = (whole_end (X_After_known_told5 c) (end (X_After_known_told5 c)) (P_After_known_told5 c) (walking_whole (X_After_known_told5 c) (end (X_After_known_told5 c)) (P_After_known_told5 c) c.loop-p.invariant.passing.walking c.loop-p-test.true)).1
 
 few_After_known_told5 : (c : In-Unit) (m : ℕ) → end (sample_of (R_After_known_told5 c) m) ≤ bundle_most
-few_After_known_told5 c m = let l = content_most (S_After_known_told5 c).args.b.now (S_After_known_told5 c).args.t.now m in let h = own_length (R_After_known_told5 c) m in omega (arith, (S_After_known_told5 c).requires.2)
+few_After_known_told5 c m = let l = content_most c.args.b.now c.args.t.now m in let h = own_length (R_After_known_told5 c) m in omega (arith, c.requires.2)
 
 short_After_known_told5 : (c : In-Unit) → (P_After_known_told5 c < end (X_After_known_told5 c)) × (end (X_After_known_told5 c) ≤ bundle_most)
-short_After_known_told5 c = (c.loop-p-test.true, rw (S_After_known_told5 c).requires.0 (few_After_known_told5 c (S_After_known_told5 c).args.n.0))
+short_After_known_told5 c =
+    let e = ap end c.requires.0 in
+    (c.loop-p-test.true, omega (arith, few_After_known_told5 c c.args.n.0, e))
 
 units-fit : (c : In-Unit) → (c.loop-p.count + 1 ≤ bundle_most * bundle_most) × (c.loop-p.own + size (X_After_known_told5 c) (P_After_known_told5 c) ≤ bundle_most)
 units-fit c =
     let t = unit c in
-    let f = unit_fits (R_After_known_told5 c) (S_After_known_told5 c).args.n.0 (X_After_known_told5 c) _ _ _ (P_After_known_told5 c) c.loop-p.invariant c.loop-p-test.true t.0 t.1 in
+    let f = unit_fits (R_After_known_told5 c) c.args.n.0 (X_After_known_told5 c) _ _ _ (P_After_known_told5 c) c.loop-p.invariant c.loop-p-test.true t.0 t.1 in
     let l = ends_After_known_told5 c t.0 in
     let s = short_After_known_told5 c in
     (omega arith, omega arith)
@@ -149,14 +140,14 @@ pub loop-p-smaller-in-Aggregator : goal.loop-p-smaller-in-Aggregator
 loop-p-smaller-in-Aggregator c = let l = L_some (X (goal.at.loop-p-smaller-in-Aggregator c).After-item_at-item).length_size in let e = (aggregator (goal.at.loop-p-smaller-in-Aggregator c).In-Aggregator).1 in omega (arith, c.loop-p-test.true)
 
 pub loop-p-preserved-in-Aggregator : goal.loop-p-preserved-in-Aggregator
-loop-p-preserved-in-Aggregator c = rw (aggregator (goal.at.loop-p-preserved-in-Aggregator c).In-Aggregator).1 (counting_skip (R (goal.at.loop-p-preserved-in-Aggregator c).After-item_at-item) (S (goal.at.loop-p-preserved-in-Aggregator c).After-item_at-item).args.n.0 (X (goal.at.loop-p-preserved-in-Aggregator c).After-item_at-item) _ _ _ (P (goal.at.loop-p-preserved-in-Aggregator c).After-item_at-item) c.loop-p.invariant c.loop-p-test.true (aggregator (goal.at.loop-p-preserved-in-Aggregator c).In-Aggregator).0)
+loop-p-preserved-in-Aggregator c = rw (aggregator (goal.at.loop-p-preserved-in-Aggregator c).In-Aggregator).1 (counting_skip (R (goal.at.loop-p-preserved-in-Aggregator c).After-item_at-item) c.args.n.0 (X (goal.at.loop-p-preserved-in-Aggregator c).After-item_at-item) _ _ _ (P (goal.at.loop-p-preserved-in-Aggregator c).After-item_at-item) c.loop-p.invariant c.loop-p-test.true (aggregator (goal.at.loop-p-preserved-in-Aggregator c).In-Aggregator).0)
 
 pub amount_at-copy-requires : goal.amount_at-copy-requires
-amount_at-copy-requires c = (S (goal.at.amount_at-copy-requires c).After-item_at-item).pre.3
+amount_at-copy-requires c = c.requires.3
 
 pub returns-in-Refused : goal.returns-in-Refused
 returns-in-Refused c = let t = extractor (goal.at.returns-in-Refused c).In-Extractor in
-    c.refused.ensures ∙ sym (counting_refused (R (goal.at.returns-in-Refused c).After-item_at-item) (S (goal.at.returns-in-Refused c).After-item_at-item).args.n.0 (X (goal.at.returns-in-Refused c).After-item_at-item) _ _ _ (P (goal.at.returns-in-Refused c).After-item_at-item) c.loop-p.invariant c.loop-p-test.true t.0 t.1 (few (goal.at.returns-in-Refused c).After-item_at-item) (sym c.amount_at-copy.ensures ∙ c.in-Refused.is))
+    c.refused.ensures ∙ sym (counting_refused (R (goal.at.returns-in-Refused c).After-item_at-item) c.args.n.0 (X (goal.at.returns-in-Refused c).After-item_at-item) _ _ _ (P (goal.at.returns-in-Refused c).After-item_at-item) c.loop-p.invariant c.loop-p-test.true t.0 t.1 (few (goal.at.returns-in-Refused c).After-item_at-item) (sym c.amount_at-copy.ensures ∙ c.in-Refused.is))
 
 pub overflow_add-count : goal.overflow_add-count
 overflow_add-count c = let f = copied-fits (goal.at.overflow_add-count c).After-amount_at-copy c.in-Units.is in omega arith
@@ -171,7 +162,7 @@ loop-p-smaller-in-Units c = let l = next_after (X (goal.at.loop-p-smaller-in-Uni
 
 pub loop-p-preserved-in-Units : goal.loop-p-preserved-in-Units
 loop-p-preserved-in-Units c = let t = extractor (goal.at.loop-p-preserved-in-Units c).In-Extractor in
-    rw t.2 (counting_copy (R (goal.at.loop-p-preserved-in-Units c).After-item_at-item) (S (goal.at.loop-p-preserved-in-Units c).After-item_at-item).args.n.0 (X (goal.at.loop-p-preserved-in-Units c).After-item_at-item) _ _ _ (P (goal.at.loop-p-preserved-in-Units c).After-item_at-item) c.loop-p.invariant c.loop-p-test.true t.0 t.1 (few (goal.at.loop-p-preserved-in-Units c).After-item_at-item) (sym c.amount_at-copy.ensures ∙ c.in-Units.is))
+    rw t.2 (counting_copy (R (goal.at.loop-p-preserved-in-Units c).After-item_at-item) c.args.n.0 (X (goal.at.loop-p-preserved-in-Units c).After-item_at-item) _ _ _ (P (goal.at.loop-p-preserved-in-Units c).After-item_at-item) c.loop-p.invariant c.loop-p-test.true t.0 t.1 (few (goal.at.loop-p-preserved-in-Units c).After-item_at-item) (sym c.amount_at-copy.ensures ∙ c.in-Units.is))
 
 pub overflow_add-count-in-Unit : goal.overflow_add-count-in-Unit
 overflow_add-count-in-Unit c = let f = units-fit (goal.at.overflow_add-count-in-Unit c).In-Unit in omega arith
@@ -186,7 +177,7 @@ loop-p-smaller c = let l = next_after (X (goal.at.loop-p-smaller c).After-item_a
 
 pub loop-p-preserved : goal.loop-p-preserved
 loop-p-preserved c = let t = unit (goal.at.loop-p-preserved c).In-Unit in
-    rw t.2 (counting_unit (R (goal.at.loop-p-preserved c).After-item_at-item) (S (goal.at.loop-p-preserved c).After-item_at-item).args.n.0 (X (goal.at.loop-p-preserved c).After-item_at-item) _ _ _ (P (goal.at.loop-p-preserved c).After-item_at-item) c.loop-p.invariant c.loop-p-test.true t.0 t.1)
+    rw t.2 (counting_unit (R (goal.at.loop-p-preserved c).After-item_at-item) c.args.n.0 (X (goal.at.loop-p-preserved c).After-item_at-item) _ _ _ (P (goal.at.loop-p-preserved c).After-item_at-item) c.loop-p.invariant c.loop-p-test.true t.0 t.1)
 
 pub returns : goal.returns
-returns c = c.good3.ensures ∙ sym (counting_end _ _ _ _ _ _ _ c.loop-p.invariant c.loop-p-test.false)
+returns c = c.good-2.ensures ∙ sym (counting_end _ _ _ _ _ _ _ c.loop-p.invariant c.loop-p-test.false)

@@ -44,7 +44,7 @@ pub loop-p-smaller-in-Extractor : goal.loop-p-smaller-in-Extractor
 loop-p-smaller-in-Extractor c = let l = next_after (X (goal.at.loop-p-smaller-in-Extractor c).After-item_at-item) (Q (goal.at.loop-p-smaller-in-Extractor c).After-item_at-item) in let e = (extractor_is (X (goal.at.loop-p-smaller-in-Extractor c).After-item_at-item) (Q (goal.at.loop-p-smaller-in-Extractor c).After-item_at-item) (sym c.item_at-item.ensures ∙ c.in-Extractor.is)).2 in omega (arith, c.loop-p-test.true)
 
 pub loop-p-preserved-in-Extractor : goal.loop-p-preserved-in-Extractor
-loop-p-preserved-in-Extractor c = let i = c.loop-p.invariant in let m = c.mark_linked-used in (m.ensures, m.auto.1.1.1.1.1.1.0 ∙ i.1, m.auto.1.1.1.1.1.1.1.0 ∙ i.2)
+loop-p-preserved-in-Extractor c = let i = c.loop-p.invariant in (c.mark_linked-used.ensures, c.mark_linked-used.auto.forms ∙ i.1, c.mark_linked-used.auto.rows ∙ i.2)
 
 pub loop-p-smaller : goal.loop-p-smaller
 loop-p-smaller c = let l = next_after (X (goal.at.loop-p-smaller c).After-item_at-item) (Q (goal.at.loop-p-smaller c).After-item_at-item) in let e = ap (λ (u : NalUnit). u.next.0) (unit_is (X (goal.at.loop-p-smaller c).After-item_at-item) (Q (goal.at.loop-p-smaller c).After-item_at-item) (sym c.item_at-item.ensures ∙ c.in-Unit.is)).2 in omega (arith, c.loop-p-test.true)

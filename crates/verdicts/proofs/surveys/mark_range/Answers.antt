@@ -20,7 +20,7 @@ pub loop-n-smaller : goal.loop-n-smaller
 loop-n-smaller c = omega (arith, c.loop-n-test.true)
 
 pub loop-n-preserved : goal.loop-n-preserved
-loop-n-preserved c = let i = c.loop-n.invariant in let m = c.mark_with_named-used in (m.ensures, m.auto.1.1.1.0 ∙ i.1, m.auto.1.1.1.1.0 ∙ i.2)
+loop-n-preserved c = let i = c.loop-n.invariant in (c.mark_with_named-used.ensures, c.mark_with_named-used.auto.forms ∙ i.1, c.mark_with_named-used.auto.rows ∙ i.2)
 
 pub shape_of-forms : goal.shape_of-forms
 shape_of-forms c = c.loop-n.invariant.1
