@@ -1,0 +1,20 @@
+-- A bundle that is refused gives no bytes; the table has room for any. Assumes nothing.
+use borrow.Author.Rules.{rules}
+use native.Mathlib.Omega.{arith}
+use mathlib.Core.Path.{sym, ap, ◌∙◌}
+use Rattle.bundles.specs.Readers.{first_layout}
+use Rattle.filling.proofs.Promises.{table_refuses, table_short}
+use Rattle.resolution_rules.specs.Calls.{unit_part}
+use Rattle.resolution_rules.proofs.Calls.{unit_bundle}
+use Rattle.delivered_unit.proofs.Answered.{part_filled}
+use Rattle.delivered_unit.proofs.unit_bytes.Goals as goal
+
+pub unit_part-requires : goal.unit_part-requires
+unit_part-requires c = table_short _ _ (sym c.fill_table-filled.ensures.0 ∙ c.in-Done.is)
+
+pub returns-in-Refused : goal.returns-in-Refused
+returns-in-Refused c = let a = c.args in
+    sym (ap (unit_part first_layout a.b.now) (unit_bundle first_layout a.b.now a.n.0 a.k (table_refuses a.b.now _ _ (omega arith) (sym c.fill_table-filled.ensures.0 ∙ c.in-Refused.is))))
+
+pub returns-in-Done : goal.returns-in-Done
+returns-in-Done c = c.unit_part.ensures ∙ part_filled _ _ (sym c.fill_table-filled.ensures.0 ∙ c.in-Done.is) c.fill_table-filled.ensures.1 _ _

@@ -1,0 +1,21 @@
+-- A bundle that is refused is so by its own refusal; the table has room for any. Assumes nothing.
+use borrow.Author.Rules.{rules}
+use native.Mathlib.Omega.{arith}
+use mathlib.Core.Path.{sym, ◌∙◌}
+use lib.ListN.{length}
+use Rattle.words.proofs.Buffers.{refuse}
+use Rattle.bundles.specs.Readers.{first_layout}
+use Rattle.filling.proofs.Promises.{table_refuses, table_short}
+use Rattle.resolution_rules.proofs.Streams.{stream_bundle}
+use Rattle.resolution.proofs.Answered.{stream_filled}
+use Rattle.resolution.proofs.stream.Goals as goal
+
+pub stream_sample-requires : goal.stream_sample-requires
+stream_sample-requires c = table_short _ _ (sym c.fill_table-filled.ensures.0 ∙ c.in-Done.is)
+
+pub returns-in-Refused : goal.returns-in-Refused
+returns-in-Refused c = let a = c.args in
+    refuse (stream_bundle first_layout a.b.now a.n.0 _ (table_refuses a.b.now _ c.in-Refused.f (omega arith) (sym c.fill_table-filled.ensures.0 ∙ c.in-Refused.is)))
+
+pub returns-in-Done : goal.returns-in-Done
+returns-in-Done c = rw (← stream_filled _ _ (sym c.fill_table-filled.ensures.0 ∙ c.in-Done.is) c.fill_table-filled.ensures.1 c.args.n.0 (length c.args.out.now)) c.stream_sample.ensures

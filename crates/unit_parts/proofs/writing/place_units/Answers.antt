@@ -1,0 +1,84 @@
+-- Each return is a case of the answer; nothing is written before all is known. Assumes nothing.
+use borrow.Author.Rules.{rules}
+use mathlib.Core.Path.{◌≡◌, sym, ap, ◌∙◌}
+use Prim.Native.Nat.{ℕ, ◌*◌, ◌≤◌}
+use native.Mathlib.Omega.{arith}
+use mathlib.Core.List.{List}
+use lib.ListN.{length}
+use Rattle.words.specs.Refusals.{ok}
+use Rattle.words.proofs.Buffers.{refuse, accept}
+use Rattle.bundles.specs.Recordings.{sample_count}
+use Rattle.tables.specs.Tables.{recording_in}
+use Rattle.resolution_rules.specs.Resolving.{judged}
+use Rattle.resolution_rules.specs.Calls.{number_fault}
+use Rattle.delivery.proofs.Steps.{sample_from}
+use Rattle.judging.specs.Steps.{judgement_in, answer_of}
+use Rattle.judging.specs.declared.Amount.{Amount}
+use Rattle.judging.proofs.Judgements.{judged_number, judged_good}
+use Rattle.unit_parts.specs.Answers.{parts_in}
+use Rattle.unit_parts.proofs.Answered.{sample_refused, room_refused, units_placed, parts_size, parts_fit}
+use Rattle.unit_parts.proofs.writing.place_units.Goals as goal
+use Rattle.unit_parts.proofs.writing.place_units.Goals.{Else-out-size, In-Good}
+
+-- the bundle, the table and the number
+abbrev B : In-Good → List ℕ
+B c = c.args.b.now
+
+abbrev T : In-Good → List ℕ
+T c = c.args.t.now
+
+abbrev N : In-Good → ℕ
+N c = c.args.n.0
+
+-- the number is good, the sample is good, and its amount says how many numbers there are
+abbrev A : In-Good → Amount
+A c = c.in-Good.a
+
+answered : (c : In-Good) → judgement_in (B c) (T c) (N c) ≡ ok (A c)
+answered c = sym c.judge-judged.ensures ∙ ap answer_of c.in-Good.is
+
+sound : (c : In-Good) → number_fault (sample_count (recording_in (B c) (T c)).layout) (N c) ≡ 0
+sound c = judged_number _ _ _ c.requires _ (answered c)
+
+good : (c : In-Good) → judged (recording_in (B c) (T c)) (N c) ≡ ok tt
+good c = (judged_good _ _ _ c.requires (A c) (answered c)).0
+
+size : (c : In-Good) → 2 * (A c).count ≡ length (parts_in (B c) (T c) (N c))
+size c = parts_size _ _ _ c.requires (A c) (answered c)
+
+abbrev B_Else1 : Else-out-size → List ℕ
+B_Else1 c = c.args.b.now
+
+abbrev T_Else1 : Else-out-size → List ℕ
+T_Else1 c = c.args.t.now
+
+abbrev N_Else1 : Else-out-size → ℕ
+N_Else1 c = c.args.n.0
+
+abbrev A_Else1 : Else-out-size → Amount
+A_Else1 c = c.in-Good.a
+
+answered_Else1 : (c : Else-out-size) → judgement_in (B_Else1 c) (T_Else1 c) (N_Else1 c) ≡ ok (A_Else1 c)
+answered_Else1 c = sym c.judge-judged.ensures ∙ ap answer_of c.in-Good.is
+
+size_Else1 : (c : Else-out-size) → 2 * (A_Else1 c).count ≡ length (parts_in (B_Else1 c) (T_Else1 c) (N_Else1 c))
+size_Else1 c = parts_size _ _ _ c.requires (A_Else1 c) (answered_Else1 c)
+
+fits : (c : Else-out-size) → length (parts_in (B_Else1 c) (T_Else1 c) (N_Else1 c)) ≤ length c.args.out.now
+fits c = let s = size_Else1 c in let l = c.if-out-size.false in omega arith
+
+pub overflow_mul-size : goal.overflow_mul-size
+overflow_mul-size c = let m = parts_fit _ _ _ c.requires (A (goal.at.overflow_mul-size c).In-Good) (answered (goal.at.overflow_mul-size c).In-Good) in omega arith
+
+pub returns-then-out-size : goal.returns-then-out-size
+returns-then-out-size c = rw c.refused.ensures (refuse (room_refused _ _ _ _ (sound (goal.at.returns-then-out-size c).In-Good) (good (goal.at.returns-then-out-size c).In-Good) (let s = size (goal.at.returns-then-out-size c).In-Good in let l = c.if-out-size.true in omega arith)))
+
+pub write_parts-requires : goal.write_parts-requires
+write_parts-requires c = let a = c.args in
+    (sample_from a.b.now a.t.now a.n.0 c.track_of-k.ensures c.sample_bytes-x.ensures, good (goal.at.write_parts-requires c).In-Good, c.requires, fits (goal.at.write_parts-requires c).Else-out-size)
+
+pub returns-in-Refused : goal.returns-in-Refused
+returns-in-Refused c = refuse (sample_refused _ _ _ c.requires (sym c.judge-judged.ensures ∙ ap answer_of c.in-Refused.is) _)
+
+pub returns-else-out-size : goal.returns-else-out-size
+returns-else-out-size c = rw (size (goal.at.returns-else-out-size c).In-Good) (accept (units_placed _ _ _ _ (sound (goal.at.returns-else-out-size c).In-Good) (good (goal.at.returns-else-out-size c).In-Good) (fits (goal.at.returns-else-out-size c).Else-out-size)) c.write_parts.ensures)
