@@ -14,17 +14,17 @@ use Rattle.stream_reader.proofs.Totals.{capped_size, capped_long}
 use Rattle.stream_reader.proofs.Front.{Started, stray_short, stray_byte, started_end, started_code}
 use Rattle.stream_reader.proofs.Measures.{Measuring, measuring_start, measuring_good, measuring_end, measuring_refused, sized, sized_refused, sized_fits, sized_long}
 use Rattle.stream_reader.proofs.measure.Goals as goal
-use Rattle.stream_reader.proofs.measure.Goals.{After-added-t, Joined-first-n}
+use Rattle.stream_reader.proofs.measure.Goals.{then-first-n+else-first-lt2+else-s-first-ne1, else-first-n, After-added-t, Joined-first-n}
 
 -- no byte before the first start code is above 00
 started : (c : Joined-first-n) → Started c.args.s.now
 started c =
     let a = c.args in
     let e = c.requires in
-    ⊎_elim
-    (λ w. started_code a.s.now a.first e (let k = w.1.left in omega arith) w.3.left)
-    (λ w. started_end a.s.now a.first e (let k = w.left in omega arith))
-    c.if-first-n.branch
+    elim c.if-first-n.branch [
+      then-first-n+else-first-lt2+else-s-first-ne1 w ↦ started_code a.s.now a.first e (omega (arith, w.if-first-lt2.false)) w.if-s-first-ne1.false
+    | else-first-n w ↦ started_end a.s.now a.first e (omega (arith, w.if-first-n.false))
+    ]
 
 pub returns-then-first-lt2 : goal.returns-then-first-lt2
 returns-then-first-lt2 c = let a = c.args in

@@ -12,7 +12,7 @@ use Rattle.stream_reader.specs.Steps.{unit_from, next_from}
 use Rattle.stream_reader.proofs.Judged.{judged_empty, judged_long, judged_inside}
 use Rattle.stream_reader.proofs.Found.{Good, Bad, found_good, found_bad, next_inside, next_by}
 use Rattle.stream_reader.proofs.units.judge.Goals as goal
-use Rattle.stream_reader.proofs.units.judge.Goals.{After-zeros_end-next, Joined-next-s, Then-s-next-ne1}
+use Rattle.stream_reader.proofs.units.judge.Goals.{then-next-s+else-s-next-ne1, else-next-s, After-zeros_end-next, Joined-next-s, Then-s-next-ne1}
 
 -- where the zeros after the unit end
 next : (c : After-zeros_end-next) → let a = c.args in c.zeros_end-next.result ≡ next_from a.s.now a.start
@@ -47,7 +47,10 @@ good c =
     let a = c.args in
     let h = c.requires.1 in
     found_good a.s.now a.start h c.zeros_end-next.result (next_Joined1 c)
-    (λ i. ⊎_elim (λ w. w.2.left) (λ e. let j = e.left in absurd (omega arith)) c.if-next-s.branch)
+    (λ i. elim c.if-next-s.branch [
+      then-next-s+else-s-next-ne1 w ↦ w.if-s-next-ne1.false
+    | else-next-s w ↦ absurd (omega (arith, w.if-next-s.false))
+    ])
 
 -- its size
 size :

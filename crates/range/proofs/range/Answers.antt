@@ -1,0 +1,23 @@
+-- A bundle that is refused is so by its own refusal; the table has room for any. Assumes nothing.
+use borrow.Author.Rules.{rules}
+use native.Mathlib.Omega.{arith}
+use mathlib.Core.Path.{◌≡◌, refl, sym, ap, ◌∙◌}
+use Prim.Native.Nat.{ℕ, zero, suc, ◌+◌, ◌-◌, ◌*◌, ◌≤◌, ◌<◌}
+use lib.ListN.{length, get_or, take, drop}
+use Rattle.words.proofs.Buffers.{refuse_all}
+use Rattle.bundles.specs.Readers.{first_layout}
+use Rattle.filling.proofs.Promises.{table_refuses, table_short}
+use Rattle.range_rules.proofs.Calls.{range_bundle}
+use Rattle.range.proofs.Answers.{filled_range}
+use Rattle.range.proofs.range.Goals as goal
+
+pub range_accepted-requires : goal.range_accepted-requires
+range_accepted-requires c = let f = c.fill_table-filled.ensures in (table_short _ _ (sym f.0 ∙ c.in-Done.is), omega arith)
+
+pub returns-in-Refused : goal.returns-in-Refused
+returns-in-Refused c = let a = c.args in
+    refuse_all (range_bundle first_layout a.b.now a.first.0 a.last.0 _ _ (table_refuses a.b.now _ c.in-Refused.f (omega arith) (sym c.fill_table-filled.ensures.0 ∙ c.in-Refused.is)))
+
+pub returns-in-Done : goal.returns-in-Done
+returns-in-Done c = let a = c.args in let f = c.fill_table-filled.ensures in
+    rw (← filled_range a.b.now _ (sym f.0 ∙ c.in-Done.is) f.1 a.first.0 a.last.0 (length a.out.now) (length a.lines.now)) c.range_accepted.ensures
