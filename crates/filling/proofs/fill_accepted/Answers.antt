@@ -15,9 +15,6 @@ use Rattle.filling.proofs.Accepted.{table_sections, short_here, done_here}
 use Rattle.filling.proofs.fill_accepted.Goals as goal
 use Rattle.filling.proofs.fill_accepted.Goals.{After-number-references, After-number-samples, After-number-tracks}
 
-all : (c : After-number-tracks) → Accepted c.args.b.now
-all c = accepted c.args.b.now c.requires
-
 -- the counts that were read, and where section three starts
 references-is : (c : After-number-references) → c.number-references.result ≡ reference_count c.args.b.now
 references-is c = c.number-references.ensures ∙ ap (λ (x : ℕ). big c.args.b.now x reference_count_size) c.references_at-at.ensures

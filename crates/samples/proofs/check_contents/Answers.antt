@@ -71,19 +71,6 @@ X_After_struct_known c = sample c.args.k c.args.s.now
 goes : (c : After-struct_known-1) → c.loop-q.q + c.bytes-n.result + c.judge_included-u.result.size ≡ next (X_After_struct_known c) c.loop-q.q
 goes c = rw (c.bytes-n.ensures.0, c.judge_included-u.ensures.1)
 
-abbrev X_After_loop : After-loop-q → Sample
-X_After_loop c = sample c.args.k c.args.s.now
-
-abbrev P_After_loop : After-loop-q → ℕ
-P_After_loop c = c.walk.at
-
-ends_After_loop : (c : After-loop-q) → P_After_loop c + c.bytes-n.result + c.number.result ≡ next (X_After_loop c) (P_After_loop c)
-ends_After_loop c = let a = c.args in next_is a.k a.s.now _ _ _ c.bytes-n.ensures.0 c.number.ensures
-
--- no included unit has a fault
-passed : (c : After-loop-q) → let x = X_After_loop c in walk x (included_judge x (next x (P_After_loop c))) (included_start x (P_After_loop c)) (next x (P_After_loop c)) ≡ ok tt
-passed c = rw (ends_After_loop c) at (sym c.loop-q.invariant ∙ walk_none _ _ _ _ c.loop-q-test.false)
-
 abbrev P_Joined1 : Joined-type_at-eq-AGGREGATOR → ℕ
 P_Joined1 c = c.walk.at
 
@@ -104,54 +91,6 @@ judged c =
         ap (λ (n : ℕ). n at_place P_Joined1 c) (w.number-is ∙ w.extractor_fault-number.ensures)
         ∙ sym (content_other _ _ (ne_eqb _ _ (λ e. w.if-type_at-eq-AGGREGATOR.false (c.type_at.ensures ∙ e))))
     ]
-
--- a unit with a fault: it is the answer
-leaves : (c : In-walk) {n q : ℕ} → content_verdict (X c) (P c) ≡ refused n q → refused n q ≡ contents_verdict (X c)
-leaves c e = sym (walk_here _ _ _ _ c.walk-test.true e) ∙ c.walk.invariant.3
-
-abbrev X_Then2 : Then-number-ne0 → Sample
-X_Then2 c = sample c.args.k c.args.s.now
-
-abbrev P_Then2 : Then-number-ne0 → ℕ
-P_Then2 c = c.walk.at
-
-leaves_Then2 : (c : Then-number-ne0) {n q : ℕ} → content_verdict (X_Then2 c) (P_Then2 c) ≡ refused n q → refused n q ≡ contents_verdict (X_Then2 c)
-leaves_Then2 c e = sym (walk_here _ _ _ _ c.walk-test.true e) ∙ c.walk.invariant.3
-
-aggregator_Then2 : (c : Then-number-ne0) → is_aggregator (X_Then2 c) (P_Then2 c) ≡ true
-aggregator_Then2 c = eq-eqb _ _ (sym c.type_at.ensures ∙ c.if-type_at-eq-AGGREGATOR.true)
-
-ends_Then2 : (c : Then-number-ne0) → P_Then2 c + c.bytes-n.result + c.number.result ≡ next (X_Then2 c) (P_Then2 c)
-ends_Then2 c = let a = c.args in next_is a.k a.s.now _ _ _ c.bytes-n.ensures.0 c.number.ensures
-
-left-included : (c : Then-number-ne0) → refused c.judge_included-u.result.fault c.loop-q.q ≡ contents_verdict (X_Then2 c)
-left-included c = leaves_Then2 c (content_included _ _ (aggregator_Then2 c) (rw (ends_Then2 c) at (sym c.loop-q.invariant ∙ walk_here _ _ _ _ c.loop-q-test.true (at_refused _ c.judge_included-u.ensures.0 c.if-number-ne0.true))))
-
-abbrev P_Then3 : Then-number-ne0-2 → ℕ
-P_Then3 c = c.walk.at
-
-abbrev X_Then3 : Then-number-ne0-2 → Sample
-X_Then3 c = sample c.args.k c.args.s.now
-
-leaves_Then3 : (c : Then-number-ne0-2) {n q : ℕ} → content_verdict (X_Then3 c) (P_Then3 c) ≡ refused n q → refused n q ≡ contents_verdict (X_Then3 c)
-leaves_Then3 c e = sym (walk_here _ _ _ _ c.walk-test.true e) ∙ c.walk.invariant.3
-
-judged_Then3 : (c : Then-number-ne0-2) → c.if-type_at-eq-AGGREGATOR.number at_place P_Then3 c ≡ content_verdict (X_Then3 c) (P_Then3 c)
-judged_Then3 c =
-    elim c.if-type_at-eq-AGGREGATOR.branch [
-      then-type_at-eq-AGGREGATOR+else-loop-q-test w ↦
-        let a = c.args in
-        let e : P_Then3 c + c.bytes-n.result + c.number.result ≡ next (X_Then3 c) (P_Then3 c) = next_is a.k a.s.now _ _ _ c.bytes-n.ensures.0 c.number.ensures in
-        let t : is_aggregator (X_Then3 c) (P_Then3 c) ≡ true = eq-eqb _ _ (sym c.type_at.ensures ∙ w.if-type_at-eq-AGGREGATOR.true) in
-        let i = rw e at (sym w.loop-q.invariant ∙ walk_none _ _ _ _ w.loop-q-test.false) in
-        ap (λ (n : ℕ). n at_place P_Then3 c) (w.number-is ∙ w.cover_fault-number.ensures) ∙ sym (content_cover _ _ t i)
-    | else-type_at-eq-AGGREGATOR w ↦
-        ap (λ (n : ℕ). n at_place P_Then3 c) (w.number-is ∙ w.extractor_fault-number.ensures)
-        ∙ sym (content_other _ _ (ne_eqb _ _ (λ e. w.if-type_at-eq-AGGREGATOR.false (c.type_at.ensures ∙ e))))
-    ]
-
-left-unit : (c : Then-number-ne0-2) → refused c.if-type_at-eq-AGGREGATOR.number (P_Then3 c) ≡ contents_verdict (X_Then3 c)
-left-unit c = leaves_Then3 c (sym (judged_Then3 c) ∙ at_refused _ refl c.if-number-ne0-2.true)
 
 -- the ways out meet: the locals hold the answer
 left : (c : Left-walk) → c.walk-test.number at_place c.walk-test.place ≡ contents_verdict (sample c.args.k c.args.s.now)

@@ -18,10 +18,6 @@ fit c = numbers c.args.k c.args.f c.requires
 less : (c : Start) → c.args.f.length_size - 1 < (record_layout c.args.k).length_size.low
 less c = let n = fit c in omega (arith, n.some, n.most)
 
--- the flags before it
-flags : (c : Start) → Flagged c.args.k c.args.f.complete (byte_of (record_layout c.args.k).length_size (c.args.f.length_size - 1))
-flags c = flagged c.args.k c.args.f.complete _ (fit c).flags (byte_below (record_layout c.args.k).length_size (row c.args.k).length_size (c.args.f.length_size - 1) (less c))
-
 -- the bytes as they were found
 less_one : (c : After-byte_of-less_one) → c.byte_of-less_one.result ≡ byte_of (record_layout c.args.k).length_size (c.args.f.length_size - 1)
 less_one c = rw (← c.record_layout-l.ensures) c.byte_of-less_one.ensures

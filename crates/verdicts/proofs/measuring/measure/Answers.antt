@@ -67,15 +67,6 @@ unit c = unit_is _ _ (sym c.item_at-item.ensures ∙ c.in-Unit.is)
 few : (c : After-item_at-item) (m : ℕ) → end (sample_of (R c) m) ≤ bundle_most
 few c m = let l = content_most c.args.b.now c.args.t.now m in let h = own_length (R c) m in omega (arith, c.requires.2)
 
--- the unit at hand lies in the sample, which is not too long
-short : (c : After-item_at-item) → (P c < end (X c)) × (end (X c) ≤ bundle_most)
-short c =
-    let e = ap end c.requires.0 in
-    (c.loop-p-test.true, omega (arith, few c c.args.n.0, e))
-
-ends : (c : After-item_at-item) → is_aggregator (X c) (P c) ≡ false → next (X c) (P c) ≤ end (X c)
-ends c t = (whole_end (X c) (end (X c)) (P c) (walking_whole (X c) (end (X c)) (P c) c.loop-p.invariant.passing.walking c.loop-p-test.true)).1
-
 abbrev X_After_amount_at : After-amount_at-copy → Sample
 X_After_amount_at c = sample c.args.k c.args.x.now
 

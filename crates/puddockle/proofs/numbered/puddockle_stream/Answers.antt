@@ -1,0 +1,7 @@
+-- The answer of the function below, given back. Assumes nothing.
+use borrow.Author.Rules.{rules}
+use Rattle.puddockle.proofs.Returned.{output}
+use Rattle.puddockle.proofs.numbered.puddockle_stream.Goals as goal
+
+pub returns : goal.returns
+returns c = output c.stream-streamed.ensures c.written.ensures.0 c.written.ensures.1 c.written.ensures.2

@@ -1,0 +1,11 @@
+-- The answer of the function below, given back. Assumes nothing.
+use borrow.Author.Rules.{rules}
+use mathlib.Core.Path.{refl}
+use Rattle.puddockle.proofs.Returned.{outputs}
+use Rattle.puddockle.proofs.salvaged.puddockle_salvage.Goals as goal
+
+pub returns-in-Refused : goal.returns-in-Refused
+returns-in-Refused c = outputs (rw c.in-Refused.is at c.salvage-salvaged.ensures) c.refused.ensures.0 c.refused.ensures.1 refl
+
+pub returns-in-Done : goal.returns-in-Done
+returns-in-Done c = outputs (rw c.in-Done.is at c.salvage-salvaged.ensures) refl refl refl
