@@ -1,5 +1,6 @@
 // Which units can stand in a byte stream, and where they stop in one.
 #![tactic(auto)]
+
 ghost use Rattle.std.specs.Prelude.{◌≡◌};
 ghost use Rattle.byte_streams.specs.Writing.{is_streamable};
 ghost use Rattle.byte_streams.specs.Places.{unit_stop, zeros_end};

@@ -1,5 +1,6 @@
 // Numbers that must not be mixed up, a track's kind and length size, and numbers in bytes.
 #![tactic(auto)]
+
 pub mod refusals;
 
 ghost use Rattle.std.specs.Prelude.{◌≡◌, ◌+◌, ◌≤◌, ◌<◌, length};

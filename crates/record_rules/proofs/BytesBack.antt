@@ -2,23 +2,23 @@
 --
 --   end_back       what ends an accepted record is what stands after its picture sets
 --   bytes_back     the fields and the parts of an accepted record make its bytes
-use Prim.Native.Nat.{ℕ, ◌+◌, ◌-◌, ◌≤◌, ◌<◌}
-use mathlib.Core.Path.{◌≡◌, refl, ap, sym, ◌∙◌}
+use Prim.Native.Nat.{ℕ, ◌+◌, ◌-◌}
+use mathlib.Core.Path.{◌≡◌, refl}
 use mathlib.Core.List.{List, [], ◌∷◌, ◌++◌}
 use native.Mathlib.Omega.{arith}
 use native.Mathlib.Nat.{add-zero}
-use lib.ListN.{length, drop}
+use lib.ListN.{drop}
 use Rattle.words.specs.Bytes.{Bytes, byte_at, part}
 use Rattle.words.proofs.Positions.{split_one, split_part, part_rest, six, four}
 use Rattle.numbers.specs.declared.Kind.{Kind}
 use Rattle.record_rules.specs.Layout.{record_layout, byte_of, value_in, flag_in, flags_byte}
 use Rattle.record_rules.specs.Trailers.{chroma_shape, depth_shape, high_bytes, high_of, ending}
-use Rattle.record_rules.specs.Read.{record_fault, length_size, sequences_end, pictures_end, trailer_of, extensions_at, record_end, fields_of, record_of}
+use Rattle.record_rules.specs.Read.{record_fault, length_size, sequences_end, pictures_end, trailer_of, extensions_at, record_end, record_of}
 use Rattle.record_rules.specs.Fields.{record_bytes}
 use Rattle.record_rules.specs.Answers.{part_bytes, written_again}
 use Rattle.record_rules.proofs.Shapes.{row, byte_rest, plain_byte, flags_made}
 use Rattle.record_rules.proofs.Endings.{by_ending, ending_none, ending_absent, ending_present}
-use Rattle.record_rules.proofs.Parsed.{Head, Trailed, Parsed, parsed}
+use Rattle.record_rules.proofs.Parsed.{Trailed, Parsed, parsed}
 
 -- the bytes of a trailer before its sets, with what follows them, are what stands from q on
 high_back : (s : List ℕ) (q : ℕ) → Bytes s → Trailed s q → high_bytes (high_of s q) ++ drop (q + 4) s ≡ drop q s

@@ -7,11 +7,11 @@
 --   read_fits         the fields and the parts of an accepted record fit
 use Prim.Native.Nat.{ℕ, ◌+◌, ◌-◌, ◌≤◌, ◌<◌}
 use mathlib.Core.Path.{◌≡◌, refl, ap, sym, ◌∙◌}
-use mathlib.Core.Bool.{Bool, true, false, ◌&&◌, not}
-use mathlib.Core.List.{List, [], ◌∷◌, ◌++◌}
+use mathlib.Core.Bool.{true}
+use mathlib.Core.List.{List, ◌∷◌, ◌++◌}
 use native.Mathlib.Omega.{arith}
 use native.Mathlib.Nat.{add-zero}
-use borrow.Author.Tests.{eqb-true, eqb-false, eq-eqb, ne_eqb, not-true}
+use borrow.Author.Tests.{eqb-true, eq-eqb, not-true}
 use lib.ListN.{length, drop}
 use Rattle.words.specs.Tests.{◌≡?◌, all}
 use Rattle.words.specs.RefusalNumbers.{bad_length_size}
@@ -25,19 +25,19 @@ use lib.Dec.{lit<}
 use Rattle.numbers.specs.declared.Kind.{Kind}
 use Rattle.sets.specs.Sets.{sets_fault, sets_end, exactly, sets_fit}
 use Rattle.sets.specs.declared.SetTypes.{SetTypes}
-use Rattle.sets.proofs.Laws.{fit_true, fit_sets, sets_inside, sets_outside}
-use Rattle.record_rules.specs.Layout.{record_layout, value_in, picture_types}
+use Rattle.sets.proofs.Laws.{fit_true, sets_inside, sets_outside}
+use Rattle.record_rules.specs.Layout.{record_layout, picture_types}
 use Rattle.record_rules.specs.Trailers.{extension_types, chroma_shape, depth_shape, high_of, ending}
-use Rattle.record_rules.specs.Read.{record_fault, length_size, sequence_count, picture_count, sequences_end, pictures_end, trailer_of, extensions_at, record_end, fields_of, record_of}
-use Rattle.record_rules.specs.Fields.{record_bytes, numbers_fit, fits}
+use Rattle.record_rules.specs.Read.{record_fault, sequence_count, picture_count, sequences_end, pictures_end, trailer_of, extensions_at, record_end, fields_of, record_of}
+use Rattle.record_rules.specs.Fields.{record_bytes, fits}
 use Rattle.record_rules.specs.Parts.{fits_by_parts}
-use Rattle.record_rules.specs.Answers.{part_bytes, written_again}
+use Rattle.record_rules.specs.Answers.{part_bytes}
 use Rattle.record_rules.specs.declared.Trailer.{Trailer}
 use Rattle.record_rules.specs.declared.Trailer.TheVariants.{None, Absent, Present}
 use Rattle.record_rules.specs.declared.Fields.{Fields}
 use Rattle.record_rules.proofs.Shapes.{row, value_below, byte_below, plain_below, flagged, flags_fit_lem, sound_chroma, sound_depth}
 use Rattle.record_rules.proofs.Endings.{by_ending, ending_none, ending_absent, ending_present}
-use Rattle.record_rules.proofs.Parsed.{Parsed, parsed, Trailed}
+use Rattle.record_rules.proofs.Parsed.{Parsed, parsed}
 use Rattle.record_rules.proofs.BytesBack.{bytes_back}
 use Rattle.record_rules.proofs.Numbers.{Numbers, numbers, numbers_true, high_numbers, high_true}
 use Rattle.record_rules.proofs.ReadsBack.{bytes_fault}

@@ -2,12 +2,11 @@
 --
 --   Numbers, numbers, numbers_true             of a record's fields
 --   HighNumbers, high_numbers, high_true       of a trailer's values
-use Prim.Native.Nat.{ℕ, ◌≤◌, ◌<◌}
+use Prim.Native.Nat.{◌≤◌, ◌<◌}
 use mathlib.Core.Path.{◌≡◌}
-use mathlib.Core.Bool.{Bool, true}
-use mathlib.Core.List.{List, [], ◌∷◌}
+use mathlib.Core.Bool.{true}
 use borrow.Author.Tests.{ltb-true, leb-true, lt-ltb, le-leb}
-use Rattle.words.specs.Tests.{◌<?◌, ◌≤?◌, all}
+use Rattle.words.specs.Tests.{all}
 use Rattle.words.proofs.Tests.{all_first}
 use Rattle.numbers.specs.declared.Kind.{Kind}
 use Rattle.record_rules.specs.Layout.{record_layout, flags_fit}

@@ -5,22 +5,22 @@
 --   Head, head_good           what the six bytes before the sequence sets are
 --   Trailed, values_good      what the bytes of a trailer before its sets are
 --   Parsed, parsed            all of it
-use Prim.Native.Nat.{ℕ, zero, suc, ◌+◌, ◌-◌, ◌≤◌, ◌<◌}
-use mathlib.Core.Path.{◌≡◌, refl, ap, sym, ◌∙◌}
-use mathlib.Core.Bool.{Bool, true, false, not}
+use Prim.Native.Nat.{ℕ, ◌+◌, ◌≤◌, ◌<◌}
+use mathlib.Core.Path.{◌≡◌}
+use mathlib.Core.Bool.{true, not}
 use mathlib.Core.List.{List}
 use native.Mathlib.Omega.{arith}
 use borrow.Author.Tests.{ltb-false, leb-false, eqb-true, eqb-false, not-false}
 use lib.ListN.{length}
-use Rattle.words.specs.Tests.{◌<?◌, ◌≡?◌, pick}
-use Rattle.words.specs.RefusalNumbers.{bad_version, bad_length_size, wrong_fixed_bits, bytes_after_record}
-use Rattle.words.specs.Refusals.{◌if◌, ◌or_else◌}
+use Rattle.words.specs.Tests.{◌≡?◌}
+use Rattle.words.specs.RefusalNumbers.{bad_version, bad_length_size}
+use Rattle.words.specs.Refusals.{◌if◌}
 use Rattle.words.specs.Bytes.{byte_at}
 use Rattle.words.proofs.Refusals.{if_none, or_else_none}
 use Rattle.numbers.specs.declared.Kind.{Kind}
-use Rattle.sets.specs.Sets.{sets_fault, sets_end}
+use Rattle.sets.specs.Sets.{sets_fault}
 use Rattle.sets.proofs.Laws.{sets_within}
-use Rattle.record_rules.specs.Layout.{record_layout, fixed_in, value_in, picture_types, missing, byte_fault}
+use Rattle.record_rules.specs.Layout.{record_layout, fixed_in, picture_types, missing, byte_fault}
 use Rattle.record_rules.specs.Trailers.{extension_types, chroma_shape, depth_shape, trailer_belongs, values_fault, ending}
 use Rattle.record_rules.specs.Read.{length_size, head_fault, sequence_count, sequences_fault, sequences_end, picture_count, pictures_fault, pictures_end, trailer_of, follow_fault, extensions_at, record_end, record_fault}
 use Rattle.record_rules.specs.declared.Shape.{Shape}

@@ -6,15 +6,15 @@
 --   bytes_fault             the refusal of the bytes of fields and sets: only a length size of 3, or a set
 --   bytes_record          what these bytes mean: the fields, and where the sets stand
 --   bytes_parts           the sets stand there
-use Prim.Native.Nat.{ℕ, zero, suc, ◌+◌, ◌-◌, ◌*◌, ◌%◌, ◌≤◌, ◌<◌}
+use Prim.Native.Nat.{ℕ, ◌+◌, ◌-◌, ◌%◌, ◌≤◌, ◌<◌}
 use mathlib.Core.Path.{◌≡◌, refl, ap, sym, ◌∙◌}
-use mathlib.Core.Bool.{Bool, true, false, not}
+use mathlib.Core.Bool.{true}
 use mathlib.Core.List.{List, [], ◌∷◌, ◌++◌, append-nil}
 use native.Mathlib.Omega.{arith}
 use native.Mathlib.Nat.{add-zero}
 use borrow.Author.Tests.{eqb-true, lt-leb, le-ltb, eq-eqb, not-true}
-use lib.ListN.{length, drop, length-append}
-use Rattle.words.specs.Tests.{◌<?◌, ◌≡?◌, pick}
+use lib.ListN.{length, drop}
+use Rattle.words.specs.Tests.{◌≡?◌}
 use Rattle.words.specs.RefusalNumbers.{bad_length_size}
 use Rattle.words.specs.Refusals.{◌if◌, ◌or_else◌}
 use Rattle.words.specs.Bytes.{byte_at, part}
@@ -23,9 +23,9 @@ use Rattle.numbers.specs.declared.Kind.{Kind}
 use Rattle.sets.specs.Sets.{sets_fault, sets_end, exactly}
 use Rattle.sets.specs.declared.SetTypes.{SetTypes}
 use Rattle.sets.proofs.Laws.{sets_none, sets_inside}
-use Rattle.record_rules.specs.Layout.{SoundShape, record_layout, byte_of, fixed_in, value_in, picture_types, flag_in, flags_byte, missing, byte_fault}
-use Rattle.record_rules.specs.Trailers.{extension_types, chroma_shape, depth_shape, values_fault, high_bytes, high_of, ending, ending_of}
-use Rattle.record_rules.specs.Read.{length_size, head_fault, sequence_count, sequences_fault, sequences_end, picture_count, pictures_fault, pictures_end, follow_fault, trailer_of, extensions_at, record_end, record_fault, fields_of, record_of}
+use Rattle.record_rules.specs.Layout.{SoundShape, record_layout, byte_of, fixed_in, picture_types, flag_in, flags_byte, byte_fault}
+use Rattle.record_rules.specs.Trailers.{extension_types, chroma_shape, depth_shape, values_fault, high_of, ending, ending_of}
+use Rattle.record_rules.specs.Read.{length_size, head_fault, sequence_count, sequences_fault, sequences_end, picture_count, pictures_fault, pictures_end, record_fault, record_of}
 use Rattle.record_rules.specs.Fields.{flags_of, record_bytes, placed}
 use Rattle.record_rules.specs.Answers.{part_bytes}
 use Rattle.record_rules.specs.declared.Shape.{Shape}
@@ -33,7 +33,6 @@ use Rattle.record_rules.specs.declared.High.{High}
 use Rattle.record_rules.specs.declared.Trailer.{Trailer}
 use Rattle.record_rules.specs.declared.Trailer.TheVariants.{None, Absent, Present}
 use Rattle.record_rules.specs.declared.Fields.{Fields}
-use Rattle.record_rules.specs.declared.Record.{Record}
 use Rattle.record_rules.proofs.Endings.{ending_none, ending_absent, ending_present}
 use Rattle.record_rules.proofs.Shapes.{sound_chroma, sound_depth, row, byte_below, plain_rest, fixed_back, value_back, Flagged, flagged}
 use Rattle.record_rules.proofs.Numbers.{Numbers, HighNumbers, high_numbers}

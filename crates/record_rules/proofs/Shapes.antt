@@ -8,10 +8,10 @@
 --   sound_chroma, sound_depth, Row, row    every shape is sound: a new kind is one more clause
 --   Flagged, flagged, flags_made, flags_fit_lem    the flags of the length size's byte: a new kind is one more clause in each
 --   flag_back                     a flag that fits is read back from its bit
-use Prim.Native.Nat.{ℕ, zero, suc, ◌+◌, ◌-◌, ◌*◌, ◌/◌, ◌%◌, ◌≤◌, ◌<◌}
+use Prim.Native.Nat.{ℕ, ◌+◌, ◌*◌, ◌/◌, ◌%◌, ◌≤◌, ◌<◌}
 use mathlib.Core.Path.{◌≡◌, refl, ap, sym, ◌∙◌}
 use mathlib.Core.Bool.{Bool, true, false}
-use mathlib.Core.List.{List, [], ◌∷◌}
+use mathlib.Core.List.{[], ◌∷◌}
 use native.Mathlib.Omega.{arith}
 use native.Mathlib.Nat.{div-add-mod', mul-add-div_right, mul-add-mod_self_right, div-eq_of_lt, mod-eq_of_lt, mod-lt, add-zero}
 use lib.Dec.{lit<, lit≤}
@@ -20,7 +20,7 @@ use Rattle.words.specs.Tests.{◌≡?◌}
 use Rattle.words.proofs.Tests.{by_bool, true_false}
 use Rattle.numbers.specs.declared.Kind.{Kind}
 use Rattle.numbers.specs.declared.Kind.TheVariants.{Avc, Svc}
-use Rattle.record_rules.specs.Layout.{SoundShape, record_layout, byte_of, fixed_in, value_in, bit, flag_of, flag_fits, flag_in, flags_byte, flags_fit}
+use Rattle.record_rules.specs.Layout.{SoundShape, record_layout, byte_of, fixed_in, value_in, bit, flag_of, flag_in, flags_byte, flags_fit}
 use Rattle.record_rules.specs.Trailers.{chroma_shape, depth_shape}
 use Rattle.record_rules.specs.declared.Shape.{Shape}
 use Rattle.record_rules.specs.declared.RecordLayout.{RecordLayout}

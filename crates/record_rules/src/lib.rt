@@ -1,5 +1,6 @@
 // Decoder configuration records: what they hold. The reader is the crate records, the writer record_writer.
 #![tactic(auto)]
+
 pub mod layouts;
 
 use numbers::{ByteOffset, Refusal};

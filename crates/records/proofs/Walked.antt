@@ -7,15 +7,15 @@
 --   refused_head, -sequences, -pictures, -follow, -after, whole_record, accepted    the reader's answer, from its steps
 use Prim.Native.Nat.{ℕ, ◌+◌, ◌≤◌, ◌<◌}
 use mathlib.Core.Path.{◌≡◌, refl, ap, sym, ◌∙◌}
-use mathlib.Core.Bool.{Bool, true, false, not}
+use mathlib.Core.Bool.{true, false}
 use mathlib.Core.List.{List}
 use native.Mathlib.Omega.{arith}
 use native.Mathlib.Nat.{add-zero}
 use borrow.Author.Tests.{lt-leb, eq-eqb, le-ltb, lt-ltb}
 use lib.ListN.{length}
-use Rattle.words.specs.Tests.{◌<?◌, ◌≡?◌, pick}
+use Rattle.words.specs.Tests.{◌≡?◌}
 use Rattle.words.specs.RefusalNumbers.{bad_length_size, bytes_after_record}
-use Rattle.words.specs.Refusals.{◌if◌, ◌or_else◌, Answer, refused, ok}
+use Rattle.words.specs.Refusals.{◌if◌, ◌or_else◌, refused, ok}
 use Rattle.words.specs.Bytes.{byte_at}
 use Rattle.words.proofs.Refusals.{or_else_here, at_refused}
 use Rattle.numbers.specs.declared.Kind.{Kind}

@@ -1,5 +1,6 @@
 // The reader of decoder configuration records.
 #![tactic(auto)]
+
 mod steps;
 
 ghost use Rattle.std.specs.Prelude.{◌≡◌};

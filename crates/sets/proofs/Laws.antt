@@ -7,27 +7,26 @@
 --   sets_inside, sets_outside        sets in a part are those sets in the whole, both ways
 --   fit_sets, fit_true               what `sets_fit` says
 use Prim.Native.Nat.{ℕ, zero, suc, ◌+◌, ◌-◌, ◌%◌, ◌≤◌, ◌<◌}
-use mathlib.Core.Path.{◌≡◌, refl, ap, ap₂, sym, ◌∙◌}
-use mathlib.Core.Bool.{Bool, true, false, ◌||◌, ◌&&◌, not}
-use mathlib.Core.List.{List, [], ◌∷◌, ◌++◌, map, Memᴰ}
+use mathlib.Core.Path.{◌≡◌, refl, ap, sym, ◌∙◌}
+use mathlib.Core.Bool.{true}
+use mathlib.Core.List.{List, ◌++◌, map}
 use native.Mathlib.Omega.{arith}
 use native.Mathlib.Numerals.{sub-one}
-use native.Mathlib.Nat.{pos_of_ne-zero, add-zero}
+use native.Mathlib.Nat.{pos_of_ne-zero}
 use borrow.Author.Tests.{ltb-false, eqb-true, eqb-false, leb-false, not-false, lt-leb, le-ltb, eq-eqb, ne_eqb}
 use lib.ListN.{length, drop}
-use Rattle.words.specs.Tests.{◌<?◌, ◌≤?◌, ◌≡?◌, pick}
+use Rattle.words.specs.Tests.{◌<?◌, ◌≤?◌, ◌≡?◌}
 use Rattle.words.specs.RefusalNumbers.{record_cut, bad_set}
-use Rattle.words.specs.Refusals.{◌if◌, ◌or_else◌, first_of}
+use Rattle.words.specs.Refusals.{◌if◌, first_of}
 use Rattle.words.specs.Walks.{entries, skip}
 use Rattle.words.specs.Bytes.{byte_at, big}
 use Rattle.words.proofs.Tests.{by_bool, and_both}
-use Rattle.words.proofs.Refusals.{if_none, or_else_none, or_else_here, or_else_on, first_of_none, first_of_cong, first_of_map}
-use Rattle.words.proofs.Walks.{skip_grows, entries_end, entries_same, entries_shift, skip_shift}
-use Rattle.words.proofs.Positions.{Append, at_append, at_inside}
+use Rattle.words.proofs.Refusals.{if_none, or_else_none, or_else_here, first_of_cong, first_of_map}
+use Rattle.words.proofs.Walks.{entries_end, entries_same, entries_shift, skip_shift}
+use Rattle.words.proofs.Positions.{at_append, at_inside}
 use Rattle.words.proofs.Bytes.{big_inside}
 use Rattle.sets.specs.Sets.{one_of, set_end, sets_end, exactly, set_fault, sets_fault, sets_fit, walk_of}
 use Rattle.sets.specs.declared.SetTypes.{SetTypes}
-use Rattle.sets.specs.declared.Walk.{Walk}
 
 -- a set without a refusal
 pub record Whole (types : SetTypes) (s : List ℕ) (p : ℕ) : Type 0 where

@@ -11,7 +11,7 @@
 --   exactly s n           s is n sets, cut by their lengths, and nothing else
 --   sets_fit types s n     the same, and none of them is refused
 --   walk_of types s n p    what a walk over the sets answers
-use Rattle.std.specs.Prelude.{ℕ, ◌+◌, List, Bool, true, false, ◌||◌, ◌&&◌, not, length}
+use Rattle.std.specs.Prelude.{ℕ, ◌+◌, List, Bool, ◌||◌, ◌&&◌, not, length}
 use Rattle.words.specs.Tests.{◌<?◌, ◌≡?◌, pick}
 use Rattle.words.specs.RefusalNumbers.{record_cut, bad_set}
 use Rattle.words.specs.Refusals.{◌if◌, ◌or_else◌, first_of}

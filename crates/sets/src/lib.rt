@@ -1,5 +1,6 @@
 // Parameter sets as a configuration record holds them: each after its 2-byte length.
 #![tactic(auto)]
+
 ghost use Rattle.std.specs.Prelude.{◌≡◌, ◌≤◌, length};
 ghost use Rattle.sets.specs.Sets.{set_fault, walk_of, sets_fit};
 

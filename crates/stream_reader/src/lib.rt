@@ -1,5 +1,6 @@
 // A byte stream read, and written as a sample.
 #![tactic(auto)]
+
 mod units;
 
 ghost use Rattle.std.specs.Prelude.{◌≡◌, ◌≤◌, map, length};

@@ -11,8 +11,8 @@
 --   refuse, accept           what a call did: refused, or wrote bytes that fit
 --   fit_all, lacks_here, lacks_later    several rooms: all are enough; one is not
 --   within_all_room, within_all_not, refused_leaves_all, refuse_all, accept_all    the same laws of several buffers
-use Prim.Native.Nat.{ℕ, zero, suc, ◌+◌, ◌-◌, ◌≤◌, ◌<◌}
-use mathlib.Core.Path.{◌≡◌, refl, ap, sym, ◌∙◌}
+use Prim.Native.Nat.{ℕ, suc, ◌+◌, ◌≤◌, ◌<◌}
+use mathlib.Core.Path.{◌≡◌, ap, sym, ◌∙◌}
 use mathlib.Core.Bool.{true, false, true-or, or-true}
 use mathlib.Core.List.{List, [], ◌∷◌, ◌++◌, map, append_assoc, append-nil}
 use native.Mathlib.Nat.{add_assoc, add-zero, zero-add}
@@ -24,7 +24,7 @@ use lib.ListN.{length, get_or, take, drop, set, take-append-drop, length-append,
 use lib.Seq.{paste, paste-suc, length-take-le, drop-drop, take_at, drop_at, take-length, set_at, take-suc}
 use Rattle.words.specs.RefusalNumbers.{output_too_long}
 use Rattle.words.specs.Refusals.{Answer, refused, ok, passed, count_of}
-use Rattle.words.specs.Buffers.{write_at, overwrite, put, lacks_room, within, leaves, counted, Wrote, within_all, leaves_all, counted_all, overwrite_all, WroteAll}
+use Rattle.words.specs.Buffers.{write_at, overwrite, put, lacks_room, within, Wrote, within_all, overwrite_all, WroteAll}
 use Rattle.words.proofs.Tests.{by_bool, true_false}
 
 pub copy_step : (o s : List ℕ) (p i : ℕ) → p + i < length o → i < length s → set (paste o p s i) (p + i) (get_or s i 0) ≡ paste o p s (i + 1)

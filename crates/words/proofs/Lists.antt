@@ -12,7 +12,7 @@
 --   last_that_snoc                     one element more at the end
 --   map_cong                          `map` of functions that are equal on the list
 --   Rising, rising_append, -keep, -each, -map, -upto, -weaken    every element before every later one
-use Prim.Native.Nat.{ℕ, zero, suc, ◌+◌, ◌≤◌, ◌<◌}
+use Prim.Native.Nat.{ℕ, zero, suc, ◌≤◌, ◌<◌}
 use mathlib.Core.Path.{◌≡◌, refl, ap, ap₂, sym, ◌∙◌, subst}
 use mathlib.Core.List.Memᴰ
 use mathlib.Core.List.{List, [], ◌∷◌, ◌++◌, map, append_assoc, Memᴰ}

@@ -6,13 +6,13 @@
 --     part_here    drop p s ≡ b ++ r: b is the part at p
 --     split_one    drop p s is the byte at p, and what stands from p + 1 on
 --     split_part   drop a s is the part from a to b, and what stands from b on
-use Prim.Native.Nat.{ℕ, zero, suc, ◌+◌, ◌-◌, ◌≤◌, ◌<◌}
-use mathlib.Core.Path.{◌≡◌, refl, ap, sym, ◌∙◌, subst}
+use Prim.Native.Nat.{ℕ, suc, ◌+◌, ◌-◌, ◌≤◌, ◌<◌}
+use mathlib.Core.Path.{◌≡◌, refl, ap, sym, ◌∙◌}
 use mathlib.Core.List.{List, [], ◌∷◌, ◌++◌}
 use native.Mathlib.Omega.{arith}
 use native.Mathlib.Numerals.{add-one}
 use native.Mathlib.Nat.{add-zero}
-use lib.ListN.{length, get_or, take, drop, take-append-drop, length-append, length-take, length-drop, get_or-append}
+use lib.ListN.{length, get_or, take, drop, take-append-drop, length-append, length-drop, get_or-append}
 use lib.Seq.{drop-cons, drop-drop, get_or-drop, drop-append_seam, take-append_seam, length-take-le, take_all}
 use Rattle.words.specs.Bytes.{byte_at, part}
 

@@ -11,7 +11,7 @@
 --   first_of_none, -cong, -map     the first refusal number of a list
 --   first_ok, first_all, first_from, first_cong    the first refusal of a list
 --   ok_same, ok_refused, refused_same, refused_along    two answers that are equal; what is said of the number and place of the one holds of the other's
-use Prim.Native.Nat.{ℕ, zero, suc, ◌≤◌, ◌<◌}
+use Prim.Native.Nat.{ℕ, zero, suc, ◌<◌}
 use mathlib.Core.Path.{◌≡◌, refl, ap, ap₂, sym, ◌∙◌, subst}
 use mathlib.Core.List.Memᴰ
 use mathlib.Core.List.{List, [], ◌∷◌, map, Memᴰ}

@@ -10,21 +10,21 @@
 --   take_sum_le                        the sum of the first numbers
 --   rows_length, rows_more, rows_at    rows of four numbers, one after the other
 use Prim.Native.Nat.{ℕ, zero, suc, ◌+◌, ◌-◌, ◌*◌, ◌≤◌, ◌<◌}
-use mathlib.Core.Path.{◌≡◌, refl, ap, ap₂, sym, ◌∙◌, subst}
+use mathlib.Core.Path.{◌≡◌, refl, ap, ◌∙◌, subst}
 use mathlib.Core.List.{List, [], ◌∷◌, ◌++◌, map, append_assoc, append-nil, Memᴰ}
-use mathlib.Core.Bool.{Bool, true, false}
+use mathlib.Core.Bool.{Bool, true}
 use native.Mathlib.Omega.{arith}
 use native.Mathlib.Numerals.{add-one, add-two, add-three}
-use borrow.Author.Tests.{leb-true, leb-false, le-leb, lt-leb, ltb-true, ltb-false}
-use lib.Dec.{leb, ltb}
-use lib.ListN.{length, get_or, take, drop, set, length-append, length-map, length-take, length-drop, get_or-append, get_or-eq_default}
+use borrow.Author.Tests.{leb-true, leb-false}
+use lib.Dec.{leb}
+use lib.ListN.{length, get_or, take, drop, set, length-append, length-map, get_or-append, get_or-eq_default}
 use lib.Seq.{sets-eq, get_or-append-add, get_or_at, get_or-take, get_or-drop, length-take-le, ext_get_or}
 use Rattle.words.specs.Tests.{◌≤?◌, pick}
 use Rattle.words.specs.Lists.{keep, nth, upto, last_that, each, sum}
 use Rattle.words.specs.Buffers.{write_at}
 use Rattle.words.proofs.Tests.{by_bool}
 use Rattle.words.proofs.Lists.{keep_append, last_that_snoc, each_append}
-use Rattle.words.proofs.Entries.{map_append, map_at}
+use Rattle.words.proofs.Entries.{map_at}
 
 -- 1, 2, .. n
 pub upto_more : (n : ℕ) → upto (n + 1) ≡ upto n ++ ((n + 1) ∷ [])

@@ -5,13 +5,12 @@
 --   splice_before, splice_after       the bytes before and after what was put in
 --   splice_part                       what was put in
 --   cuts_splice                       cuts of a list in which one cut is replaced
-use Prim.Native.Nat.{ℕ, zero, suc, ◌+◌, ◌-◌, ◌≤◌, ◌<◌, min}
-use mathlib.Core.Path.{◌≡◌, refl, ap, ap₂, sym, ◌∙◌, subst}
+use Prim.Native.Nat.{ℕ, zero, suc, ◌+◌, ◌-◌, ◌≤◌, ◌<◌}
+use mathlib.Core.Path.{◌≡◌, refl, ap₂, sym, ◌∙◌, subst}
 use mathlib.Core.List.{List, [], ◌∷◌, ◌++◌}
 use native.Mathlib.Omega.{arith}
-use native.Mathlib.Nat.{add_assoc}
 use lib.ListN.{length, get_or, take, drop, set, length-append, length-take, length-drop, get_or-append}
-use lib.Seq.{length-take-le, take_at, drop_at, take-append_seam, get_or-take, get_or-drop, get_or-append-add, ext_get_or}
+use lib.Seq.{length-take-le, drop_at, take-append_seam, get_or-take, get_or-drop, get_or-append-add, ext_get_or}
 use Rattle.words.specs.Bytes.{part, splice, cuts}
 use Rattle.words.specs.Lists.{sum}
 use Rattle.words.proofs.Positions.{part_length}

@@ -8,7 +8,7 @@
 --   upto n                 1, 2, .. n
 --   last_that t xs          the number, from 1, of the last element that passes; 0 if none does
 --   sum ns                 the sum of numbers
-use Rattle.std.specs.Prelude.{ℕ, zero, suc, ◌+◌, Bool, true, false, ◌||◌, get_or}
+use Rattle.std.specs.Prelude.{ℕ, zero, suc, ◌+◌, Bool, false, ◌||◌, get_or}
 use mathlib.Core.List.{List, [], ◌∷◌, ◌++◌, Memᴰ}
 use Rattle.words.specs.Tests.{◌≡?◌, pick, ◌when◌else◌}
 

@@ -1,5 +1,4 @@
 -- A unit that does not stop before its end. Assumes nothing.
-use borrow.Author.Rules.{rules}
 use mathlib.Core.Path.{sym}
 use Rattle.byte_streams.proofs.Places.{streamable_none, streamable_by}
 use Rattle.byte_streams.proofs.is_streamable.Goals as goal

@@ -1,10 +1,6 @@
 -- The loop goes on from a place where the unit stops where it did before. Assumes nothing.
-use borrow.Author.Rules.{rules}
 use native.Mathlib.Omega.{arith}
-use mathlib.Core.Path.{◌≡◌, refl, sym, ◌∙◌}
-use Prim.Native.Nat.{◌-◌, ◌≤◌}
-use lib.ListN.{length}
-use Rattle.byte_streams.specs.Places.{unit_stop}
+use mathlib.Core.Path.{refl, sym, ◌∙◌}
 use Rattle.byte_streams.proofs.Places.{stop_zeros, stop_end, stop_one, stop_two, stop_three, stop_last, stop_first, stop_pair, stop_single}
 use Rattle.byte_streams.proofs.unit_stop.Goals as goal
 

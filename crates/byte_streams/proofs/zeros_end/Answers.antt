@@ -1,10 +1,6 @@
 -- The loop goes on from a place where the zeros end where they did before. Assumes nothing.
-use borrow.Author.Rules.{rules}
 use native.Mathlib.Omega.{arith}
-use mathlib.Core.Path.{◌≡◌, refl, sym, ◌∙◌}
-use Prim.Native.Nat.{◌-◌}
-use lib.ListN.{length}
-use Rattle.byte_streams.specs.Places.{zeros_end}
+use mathlib.Core.Path.{refl, sym, ◌∙◌}
 use Rattle.byte_streams.proofs.Places.{zero_at, zero_on, zero_end}
 use Rattle.byte_streams.proofs.zeros_end.Goals as goal
 

@@ -1,10 +1,8 @@
 -- The loop goes on from a place where the zeros end where they did before. Assumes nothing.
-use native.Mathlib.Omega.{arith}
-use mathlib.Core.Path.{◌≡◌, refl, sym, ◌∙◌}
+use mathlib.Core.Path.{◌≡◌}
 use Prim.Native.Nat.{◌-◌}
 use lib.ListN.{length}
 use Rattle.byte_streams.specs.Places.{zeros_end}
-use Rattle.byte_streams.proofs.Places.{zero_at, zero_on, zero_end}
 use Rattle.byte_streams.proofs.zeros_end.Given as goal
 
 abbrev pub invariant-loop-p : goal.invariant-loop-p

@@ -2,10 +2,8 @@
 use borrow.Author.Rules.{rules}
 use native.Mathlib.Omega.{arith}
 use mathlib.Core.Path.{◌≡◌, ap, ◌∙◌}
-use Prim.Native.Nat.{◌-◌, ◌≤◌, ◌<◌, ◌^◌}
 use Rattle.words.specs.Bytes.{big}
 use Rattle.words.proofs.Bytes.{big_more, pow_more, pow_small}
-use Rattle.words.proofs.Tests.{tests}
 use borrow.Author.Tests.{le-leb}
 use Rattle.numbers.proofs.number.Goals as goal
 

@@ -1,11 +1,7 @@
 -- The loop's invariant: v is the number of the first i bytes, and below 256 ^ i. Assumes nothing.
-use native.Mathlib.Omega.{arith}
-use mathlib.Core.Path.{◌≡◌, ap, ◌∙◌}
+use mathlib.Core.Path.{◌≡◌}
 use Prim.Native.Nat.{◌-◌, ◌≤◌, ◌<◌, ◌^◌}
 use Rattle.words.specs.Bytes.{big}
-use Rattle.words.proofs.Bytes.{big_more, pow_more, pow_small}
-use Rattle.words.proofs.Tests.{tests}
-use borrow.Author.Tests.{le-leb}
 use Rattle.numbers.proofs.number.Given as goal
 
 abbrev pub invariant-loop-i : goal.invariant-loop-i

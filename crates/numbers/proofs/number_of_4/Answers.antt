@@ -1,5 +1,4 @@
 -- Four bytes that are there, or any by the loop. Assumes nothing.
-use borrow.Author.Rules.{rules}
 use native.Mathlib.Omega.{arith}
 use Rattle.numbers.proofs.Laws.{big_4}
 use Rattle.numbers.proofs.number_of_4.Goals as goal

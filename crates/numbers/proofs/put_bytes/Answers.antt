@@ -2,9 +2,8 @@
 use borrow.Author.Rules.{rules}
 use native.Mathlib.Omega.{arith}
 use mathlib.Core.Path.{◌≡◌, refl, sym, ◌∙◌}
-use Prim.Native.Nat.{◌-◌, ◌≤◌}
 use lib.ListN.{length, length-set}
-use lib.Seq.{paste, paste-zero}
+use lib.Seq.{paste-zero}
 use Rattle.words.proofs.Buffers.{copy_step, copy_done, put_fits, put_not}
 use Rattle.numbers.proofs.put_bytes.Goals as goal
 
@@ -19,10 +18,10 @@ loop-i-init c = (search rules, refl, paste-zero c.args.out.now c.args.at c.args.
 
 pub loop-i-preserved : goal.loop-i-preserved
 loop-i-preserved c = let a = c.args in (
-      omega arith,
-      simp length-set c.loop-i.invariant.1,
-      rw c.loop-i.invariant.2 (copy_step a.out.now a.s.now a.at c.loop-i.i (omega arith) (omega arith)),
-    )
+  omega arith,
+  simp length-set c.loop-i.invariant.1,
+  rw c.loop-i.invariant.2 (copy_step a.out.now a.s.now a.at c.loop-i.i (omega arith) (omega arith)),
+)
 
 pub shape_of-out : goal.shape_of-out
 shape_of-out c = c.loop-i.invariant.1

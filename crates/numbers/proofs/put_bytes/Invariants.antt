@@ -1,10 +1,8 @@
 -- The loop's invariant: the first i bytes are copied. Assumes nothing.
-use native.Mathlib.Omega.{arith}
-use mathlib.Core.Path.{◌≡◌, refl, sym, ◌∙◌}
+use mathlib.Core.Path.{◌≡◌}
 use Prim.Native.Nat.{◌-◌, ◌≤◌}
-use lib.ListN.{length, length-set}
-use lib.Seq.{paste, paste-zero}
-use Rattle.words.proofs.Buffers.{copy_step, copy_done, put_fits, put_not}
+use lib.ListN.{length}
+use lib.Seq.{paste}
 use Rattle.numbers.proofs.put_bytes.Given as goal
 
 abbrev pub invariant-loop-i : goal.invariant-loop-i

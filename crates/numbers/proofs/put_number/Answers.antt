@@ -1,13 +1,12 @@
 -- The loop's invariant: the last n - left bytes are written, and rest is what is left of v. Assumes nothing.
 use borrow.Author.Rules.{rules}
 use native.Mathlib.Omega.{arith}
-use mathlib.Core.Path.{◌≡◌, refl, sym}
-use Prim.Native.Nat.{◌≤◌}
-use lib.ListN.{length, length-set}
+use mathlib.Core.Path.{refl, sym}
+use lib.ListN.{length-set}
 use Rattle.words.specs.Bytes.{bytes}
 use Rattle.words.proofs.Bytes.{bytes_length}
 use Rattle.words.proofs.Buffers.{put_not}
-use Rattle.numbers.proofs.Laws.{Back, back_start, back_next, back_end}
+use Rattle.numbers.proofs.Laws.{back_start, back_next, back_end}
 use Rattle.numbers.proofs.put_number.Goals as goal
 
 pub returns-then-out-at : goal.returns-then-out-at

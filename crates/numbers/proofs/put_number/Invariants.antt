@@ -1,12 +1,8 @@
 -- The loop's invariant: the last n - left bytes are written, and rest is what is left of v. Assumes nothing.
-use native.Mathlib.Omega.{arith}
-use mathlib.Core.Path.{◌≡◌, refl, sym}
+use mathlib.Core.Path.{◌≡◌}
 use Prim.Native.Nat.{◌≤◌}
-use lib.ListN.{length, length-set}
-use Rattle.words.specs.Bytes.{bytes}
-use Rattle.words.proofs.Bytes.{bytes_length}
-use Rattle.words.proofs.Buffers.{put_not}
-use Rattle.numbers.proofs.Laws.{Back, back_start, back_next, back_end}
+use lib.ListN.{length}
+use Rattle.numbers.proofs.Laws.{Back}
 use Rattle.numbers.proofs.put_number.Given as goal
 
 abbrev pub invariant-loop-left : goal.invariant-loop-left

@@ -1,5 +1,4 @@
 -- The fields and the places of an accepted record are the definition's. Assumes nothing.
-use borrow.Author.Rules.{rules}
 use native.Mathlib.Omega.{arith}
 use Rattle.record_rules.proofs.Parsed.{Parsed, parsed}
 use Rattle.records.proofs.Walked.{accepted}

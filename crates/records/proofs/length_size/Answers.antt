@@ -1,5 +1,4 @@
 -- The value of the fifth byte, and one. Assumes nothing.
-use borrow.Author.Rules.{rules}
 use native.Mathlib.Omega.{arith}
 use mathlib.Core.Path.{◌≡◌}
 use Rattle.words.specs.Bytes.{byte_at}

@@ -1,5 +1,4 @@
 -- An unknown kind is refused; a known one goes on. Assumes nothing.
-use borrow.Author.Rules.{rules}
 use Rattle.record_rules.specs.Read.{read_record}
 use Rattle.records.proofs.read.Goals as goal
 

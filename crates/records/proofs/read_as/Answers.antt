@@ -1,5 +1,4 @@
 -- Step after step: a refusal is the reader's, none goes on to the next. Assumes nothing.
-use borrow.Author.Rules.{rules}
 use native.Mathlib.Omega.{arith}
 use mathlib.Core.Path.{◌≡◌, sym, ◌∙◌}
 use Rattle.record_rules.specs.Read.{head_fault, sequences_fault, sequences_end, pictures_fault, pictures_end, follow_fault, record_end}

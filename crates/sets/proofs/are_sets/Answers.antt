@@ -1,5 +1,4 @@
 -- The walk's answer tells whether the bytes are the sets. Assumes nothing.
-use borrow.Author.Rules.{rules}
 use mathlib.Core.Path.{◌≡◌, sym, ap, ◌∙◌}
 use borrow.Author.Tests.{ne_eqb}
 use Rattle.sets.specs.Sets.{sets_fault, sets_fit, exactly}

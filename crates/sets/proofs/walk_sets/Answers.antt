@@ -1,8 +1,6 @@
 -- The loop's invariant: what is left of the walk from p on gives the whole walk's answer. Assumes nothing.
-use borrow.Author.Rules.{rules}
 use native.Mathlib.Omega.{arith}
-use mathlib.Core.Path.{◌≡◌, refl, sym, ◌∙◌}
-use Rattle.sets.specs.Sets.{sets_fault, sets_end}
+use mathlib.Core.Path.{refl, sym, ◌∙◌}
 use Rattle.sets.proofs.Laws.{Whole, whole, sets_none, sets_here, sets_on, walk_refused, walk_ended}
 use Rattle.sets.proofs.walk_sets.Goals as goal
 use Rattle.sets.proofs.walk_sets.Goals.{Else-fault-ne0}

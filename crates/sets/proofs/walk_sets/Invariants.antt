@@ -1,8 +1,6 @@
 -- The loop's invariant: what is left of the walk from p on gives the whole walk's answer. Assumes nothing.
-use native.Mathlib.Omega.{arith}
-use mathlib.Core.Path.{◌≡◌, refl, sym, ◌∙◌}
+use mathlib.Core.Path.{◌≡◌}
 use Rattle.sets.specs.Sets.{sets_fault, sets_end}
-use Rattle.sets.proofs.Laws.{Whole, whole, sets_none, sets_here, sets_on, walk_refused, walk_ended}
 use Rattle.sets.proofs.walk_sets.Given as goal
 
 abbrev pub invariant-loop-left : goal.invariant-loop-left

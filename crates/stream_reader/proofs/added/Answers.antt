@@ -1,5 +1,4 @@
 -- By the room that is left. Assumes nothing.
-use borrow.Author.Rules.{rules}
 use native.Mathlib.Omega.{arith}
 use Rattle.stream_reader.proofs.Totals.{total_more, total_fits}
 use Rattle.stream_reader.proofs.added.Goals as goal

@@ -1,10 +1,7 @@
 -- The loop's invariant: what was added up so far, with what is left, is the size of the sample. The rest falls. Assumes nothing.
-use borrow.Author.Rules.{rules}
 use native.Mathlib.Omega.{arith}
-use Prim.Native.Nat.{◌-◌, ◌<◌}
+use Prim.Native.Nat.{◌<◌}
 use mathlib.Core.Path.{sym, ap, ◌∙◌}
-use mathlib.Core.Logic.{⊎_elim}
-use lib.ListN.{length}
 use Rattle.words.specs.RefusalNumbers.{bad_byte_stream}
 use Rattle.words.specs.Refusals.{refused, ok}
 use Rattle.numbers.specs.Sizes.{in_bytes}
@@ -22,8 +19,8 @@ started c =
     let a = c.args in
     let e = c.requires in
     elim c.if-first-n.branch [
-      then-first-n+else-first-lt2+else-s-first-ne1 w ↦ started_code a.s.now a.first e (omega (arith, w.if-first-lt2.false)) w.if-s-first-ne1.false
-    | else-first-n w ↦ started_end a.s.now a.first e (omega (arith, w.if-first-n.false))
+      | then-first-n+else-first-lt2+else-s-first-ne1 w ↦ started_code a.s.now a.first e (omega (arith, w.if-first-lt2.false)) w.if-s-first-ne1.false
+      | else-first-n w ↦ started_end a.s.now a.first e (omega (arith, w.if-first-n.false))
     ]
 
 pub returns-then-first-lt2 : goal.returns-then-first-lt2

@@ -1,5 +1,4 @@
 -- 1, 2 or 4. Assumes nothing.
-use borrow.Author.Rules.{rules}
 use Rattle.stream_reader.proofs.put_length.Goals as goal
 
 pub returns-in-One : goal.returns-in-One

@@ -1,12 +1,11 @@
 -- The loop's invariant: what is written so far, with what is left, is the sample. The rest falls. Assumes nothing.
-use borrow.Author.Rules.{rules}
 use native.Mathlib.Omega.{arith}
 use Prim.Native.Nat.{◌+◌, ◌-◌, ◌≤◌, ◌<◌}
 use mathlib.Core.Path.{refl, sym, ◌∙◌}
 use lib.ListN.{length}
 use Rattle.numbers.specs.Sizes.{in_bytes}
 use Rattle.byte_streams.specs.Places.{zeros_end}
-use Rattle.stream_reader.proofs.Writes.{Writing, writing_start, writing_next, writing_full, writing_end, writing_length, writing_place}
+use Rattle.stream_reader.proofs.Writes.{Writing, writing_start, writing_next, writing_full, writing_end, writing_place}
 use Rattle.stream_reader.proofs.write_units.Goals as goal
 use Rattle.stream_reader.proofs.write_units.Goals.{After-slice_known-in-loop-p-2-1, After-unit_stop-stop}
 

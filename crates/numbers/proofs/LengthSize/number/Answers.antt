@@ -1,5 +1,4 @@
 -- By the case of L. Assumes nothing.
-use borrow.Author.Rules.{rules}
 use Rattle.numbers.proofs.LengthSize.number.Goals as goal
 
 pub returns-in-One : goal.returns-in-One

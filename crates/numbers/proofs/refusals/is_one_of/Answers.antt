@@ -1,10 +1,8 @@
 -- The loop's invariant: whether n is among all elements is whether it is among those from i on. Assumes nothing.
-use borrow.Author.Rules.{rules}
 use native.Mathlib.Omega.{arith}
 use mathlib.Core.Path.{◌≡◌, refl, sym, ◌∙◌}
-use Prim.Native.Nat.{◌-◌, ◌≤◌, ◌<◌}
-use lib.ListN.{length, drop}
-use Rattle.words.specs.Lists.{has}
+use Prim.Native.Nat.{◌<◌}
+use lib.ListN.{length}
 use Rattle.numbers.proofs.Members.{has_here, has_next, has_none}
 use Rattle.numbers.proofs.refusals.is_one_of.Goals as goal
 

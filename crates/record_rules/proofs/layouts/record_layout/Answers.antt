@@ -1,5 +1,4 @@
 -- Each kind's row, by its variant. Assumes nothing.
-use borrow.Author.Rules.{rules}
 use Rattle.record_rules.proofs.layouts.record_layout.Goals as goal
 
 pub returns-in-Avc : goal.returns-in-Avc

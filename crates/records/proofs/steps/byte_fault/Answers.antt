@@ -1,6 +1,4 @@
 -- Two tests, in the definition's order. Assumes nothing.
-use borrow.Author.Rules.{rules}
-use native.Mathlib.Omega.{arith}
 use Rattle.words.proofs.Tests.{tests}
 use Rattle.record_rules.specs.Layout.{byte_fault}
 use Rattle.records.proofs.steps.byte_fault.Goals as goal

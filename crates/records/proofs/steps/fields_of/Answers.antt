@@ -1,8 +1,6 @@
 -- Each field by its byte. Assumes nothing.
-use borrow.Author.Rules.{rules}
 use native.Mathlib.Omega.{arith}
 use mathlib.Core.Path.{◌≡◌}
-use lib.ListN.{length}
 use Rattle.words.specs.Bytes.{byte_at}
 use Rattle.record_rules.specs.Layout.{record_layout, value_in}
 use Rattle.record_rules.proofs.Shapes.{row, value_byte}

@@ -1,11 +1,9 @@
 -- No trailer belongs there; it is absent; it is refused; it is there. Assumes nothing.
-use borrow.Author.Rules.{rules}
 use native.Mathlib.Omega.{arith}
 use mathlib.Core.Path.{◌≡◌, sym, ◌∙◌}
 use Prim.Native.Nat.{◌+◌, ◌<◌}
 use lib.ListN.{length}
 use mathlib.Core.Bool.{true}
-use borrow.Author.Tests.{not-true, not-false}
 use Rattle.words.specs.Bytes.{byte_at}
 use Rattle.words.proofs.Refusals.{or_else_none}
 use Rattle.record_rules.specs.Trailers.{trailer_belongs, values_fault}

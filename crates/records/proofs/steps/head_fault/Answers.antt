@@ -1,5 +1,4 @@
 -- The six bytes, test by test. Assumes nothing.
-use borrow.Author.Rules.{rules}
 use native.Mathlib.Omega.{arith}
 use mathlib.Core.Path.{◌≡◌, sym, ◌∙◌}
 use Rattle.words.specs.Refusals.{◌if◌, ◌or_else◌}

@@ -1,7 +1,4 @@
 -- Each value by its shape. Assumes nothing.
-use borrow.Author.Rules.{rules}
-use native.Mathlib.Omega.{arith}
-use Prim.Native.Nat.{◌+◌}
 use Rattle.record_rules.proofs.Shapes.{sound_chroma, sound_depth}
 use Rattle.records.proofs.steps.high_of.Goals as goal
 

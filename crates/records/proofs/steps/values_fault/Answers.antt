@@ -1,5 +1,4 @@
 -- The four bytes, test by test. Assumes nothing.
-use borrow.Author.Rules.{rules}
 use Rattle.words.proofs.Tests.{tests}
 use Rattle.words.proofs.Refusals.{or_else_here, or_else_on}
 use Rattle.record_rules.specs.Trailers.{values_fault}

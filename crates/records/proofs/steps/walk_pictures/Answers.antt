@@ -1,5 +1,4 @@
 -- The count is there, or the walk is cut; then the walk over the sets. Assumes nothing.
-use borrow.Author.Rules.{rules}
 use native.Mathlib.Omega.{arith}
 use mathlib.Core.Path.{refl}
 use Prim.Native.Nat.{◌+◌}

@@ -1,5 +1,4 @@
 -- The walk over the sets, with the kind's types and the count of the sixth byte. Assumes nothing.
-use borrow.Author.Rules.{rules}
 use mathlib.Core.Path.{◌≡◌}
 use Rattle.record_rules.specs.Layout.{record_layout}
 use Rattle.record_rules.specs.Read.{sequences_end, sequence_count}

@@ -1,8 +1,7 @@
 -- The loop's invariant: the unit goes on from stop to stop. What is left after the zeros falls. Assumes nothing.
-use borrow.Author.Rules.{rules}
 use borrow.Author.Tests.{le-leb, lt-leb}
 use native.Mathlib.Omega.{arith}
-use Prim.Native.Nat.{ℕ, ◌-◌, ◌<◌}
+use Prim.Native.Nat.{ℕ, ◌<◌}
 use mathlib.Core.Path.{ap, sym}
 use lib.ListN.{length}
 use Rattle.words.specs.Tests.{◌≤?◌}

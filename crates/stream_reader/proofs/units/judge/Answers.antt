@@ -1,9 +1,7 @@
 -- By what follows the unit, then by its length. Assumes nothing.
-use borrow.Author.Rules.{rules}
 use native.Mathlib.Omega.{arith}
 use Prim.Native.Nat.{ℕ, ◌-◌}
 use mathlib.Core.Path.{◌≡◌, ap, ap₂, sym, ◌∙◌}
-use mathlib.Core.Logic.{⊎_elim}
 use lib.ListN.{length}
 use Rattle.words.specs.Refusals.{Answer, refused, ok, Verdict, ◌and_then◌}
 use Rattle.words.specs.RefusalNumbers.{bad_byte_stream}
@@ -48,8 +46,8 @@ good c =
     let h = c.requires.1 in
     found_good a.s.now a.start h c.zeros_end-next.result (next_Joined1 c)
     (λ i. elim c.if-next-s.branch [
-      then-next-s+else-s-next-ne1 w ↦ w.if-s-next-ne1.false
-    | else-next-s w ↦ absurd (omega (arith, w.if-next-s.false))
+      | then-next-s+else-s-next-ne1 w ↦ w.if-s-next-ne1.false
+      | else-next-s w ↦ absurd (omega (arith, w.if-next-s.false))
     ])
 
 -- its size

@@ -1,5 +1,4 @@
 -- By the length of the unit, which goes on after that byte. Assumes nothing.
-use borrow.Author.Rules.{rules}
 use borrow.Author.Tests.{leb-true, leb-false}
 use native.Mathlib.Omega.{arith}
 use Prim.Native.Nat.{ℕ}

@@ -1,5 +1,4 @@
 -- 256, 65,536 or 4,294,967,296. Assumes nothing.
-use borrow.Author.Rules.{rules}
 use Rattle.stream_reader.proofs.units.length_limit.Goals as goal
 
 pub returns-in-One : goal.returns-in-One
