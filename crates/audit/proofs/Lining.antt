@@ -1,8 +1,8 @@
 -- Lines by what a table keeps of the samples. Assumes nothing.
 --
---   line_for_lem, line_kept             the line of a judgement as the code has it; of a sample whose judgement is kept
---   kept_none, kept_length, kept_short    no sample; how long they are; no room
---   Lining, lining_start, -room, -more, -length, -end    a loop over the samples
+--   line_for_lem, line_kept                            the line of a judgement as the code has it; of a sample whose judgement is kept
+--   kept_none, kept_length, kept_short                 no sample; how long they are; no room
+--   Lining, lining_start, -room, -more, -length, -end  a loop over the samples
 use Prim.Native.Nat.{ℕ, zero, suc, ◌+◌, ◌-◌, ◌*◌, ◌≤◌, ◌<◌}
 use mathlib.Core.Path.{◌≡◌, refl, ap, sym, ◌∙◌}
 use mathlib.Core.List.{List, [], ◌∷◌, ◌++◌, append-nil}

@@ -1,9 +1,9 @@
 -- The steps of the code. Assumes nothing.
 --
---   put_three                      three writes, one after the other
---   judgements_kept                the judgements are there after all samples are judged
---   line_judged, outcome_judged    the line and the outcome of a sample that was judged
---   Auditing, auditing_start, -length, -room, -more, -end    a loop over the samples
+--   put_three                                              three writes, one after the other
+--   judgements_kept                                        the judgements are there after all samples are judged
+--   line_judged, outcome_judged                            the line and the outcome of a sample that was judged
+--   Auditing, auditing_start, -length, -room, -more, -end  a loop over the samples
 use Prim.Native.Nat.{ℕ, ◌+◌, ◌*◌, ◌≤◌, ◌<◌}
 use mathlib.Core.Path.{◌≡◌, ap, sym, ◌∙◌}
 use mathlib.Core.List.{List, [], ◌++◌}

@@ -1,10 +1,10 @@
 -- The steps of the code on a bundle and any table, as definitions over the recording that they give.
 --
---   verdict_of, units_in     a judged sample: its verdict, and how many units it delivers
---   outcome_in j size       what the audit finds of a judged sample of so many bytes
---   JudgementsKept b t     beside each sample of the table its judgement is kept
---   line_for a              the line by a judgement: its refusal, or how many units are delivered
---   kept_lines t skipped last    the lines of the samples after the first `skipped` ones, up to last, by what the table keeps of them
+--   verdict_of, units_in       a judged sample: its verdict, and how many units it delivers
+--   outcome_in j size          what the audit finds of a judged sample of so many bytes
+--   JudgementsKept b t         beside each sample of the table its judgement is kept
+--   line_for a                 the line by a judgement: its refusal, or how many units are delivered
+--   kept_lines t skipped last  the lines of the samples after the first `skipped` ones, up to last, by what the table keeps of them
 use Rattle.std.specs.Prelude.{ℕ, ◌+◌, ◌≤◌, ◌<◌, ◌≡◌, List}
 use Rattle.words.specs.Tests.{◌≡?◌, pick}
 use Rattle.words.specs.Refusals.{Answer, refused, ok, Verdict}

@@ -1,7 +1,7 @@
 -- What `line_of` reads of an audit, in plain facts, in which the promises of proofs/Promises are stated.
 --
---   line_read out r n     what line n of out says of sample n, by the sample's length
---   LineHolds r n l      what holds of sample n where its line says l: one of three
+--   line_read out r n  what line n of out says of sample n, by the sample's length
+--   LineHolds r n l    what holds of sample n where its line says l: one of three
 use Rattle.std.specs.Prelude.{ℕ, ◌<◌, ◌≡◌, List, length}
 use Rattle.words.specs.Refusals.{refused, ok}
 use Rattle.bundles.specs.Recordings.{Recording, content_of}

@@ -1,14 +1,14 @@
 -- What the call on a bundle answers, by any reader: the lines and the tally, refused alike. Assumes nothing.
 --
---   lines_not, tally_not                a recording without room for its lines
---   lines_fit, tally_fits               one with room
---   audit_bundle, tally_bundle          the bundle's own refusal
---   audit_means, tally_means            else by the recording, with 29
---   audit_refuses, tally_refuses        refused
---   audits, tallies                     answered
---   answered                            one of the two holds
---   audit_because, tally_because, audited_because, tallied_because    from the answer, what holds
---   refused_with                        which numbers, and where
+--   lines_not, tally_not                                            a recording without room for its lines
+--   lines_fit, tally_fits                                           one with room
+--   audit_bundle, tally_bundle                                      the bundle's own refusal
+--   audit_means, tally_means                                        else by the recording, with 29
+--   audit_refuses, tally_refuses                                    refused
+--   audits, tallies                                                 answered
+--   answered                                                        one of the two holds
+--   audit_because, tally_because, audited_because, tallied_because  from the answer, what holds
+--   refused_with                                                    which numbers, and where
 use Prim.Native.Nat.{ℕ, ◌*◌, ◌≤◌, ◌<◌}
 use mathlib.Core.Path.{◌≡◌, refl, sym, ◌∙◌, subst}
 use mathlib.Core.List.{List}

@@ -4,7 +4,7 @@
 --   line_bytes_length, line_length  a line is 13 bytes
 --   joined_length, joined_at        joined lists of 13 bytes: their length, and which stands where
 --   lines_length                    all lines
---   line_at_lem                         line n stands at 13 · (n - 1)
+--   line_at_lem                     line n stands at 13 · (n - 1)
 --   line_refused, line_good         the line of a sample that is refused, and of one that is good
 use Prim.Native.Nat.{ℕ, zero, suc, ◌+◌, ◌-◌, ◌*◌, ◌≤◌, ◌<◌}
 use mathlib.Core.Path.{◌≡◌, refl, ap, ◌∙◌}

@@ -1,9 +1,9 @@
 -- What the audit finds of a sample. Assumes nothing.
 --
---   empty_good, empty_nothing       a sample without bytes is good and delivers nothing
---   outcome_empty, -passed, -refused            the outcome, from what holds of the sample
---   by_outcome                      one of the three holds
---   empty_because, passed_because, refused_because    what holds of the sample, from the outcome
+--   empty_good, empty_nothing                       a sample without bytes is good and delivers nothing
+--   outcome_empty, -passed, -refused                the outcome, from what holds of the sample
+--   by_outcome                                      one of the three holds
+--   empty_because, passed_because, refused_because  what holds of the sample, from the outcome
 use Prim.Native.Nat.{ℕ, ◌≤◌, ◌<◌}
 use mathlib.Core.Path.{◌≡◌, refl, sym, ◌∙◌}
 use mathlib.Core.List.{List, [], ◌∷◌}

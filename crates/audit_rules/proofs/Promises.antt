@@ -2,23 +2,23 @@
 -- that sample n of r is good. `Sound reader` is proved of the first layout in crates/resolution_rules/proofs/Readers. For any L. Assumes nothing but
 -- what each theorem states.
 --
---   empty_exactly            a sample is found empty exactly if its length is zero
---   passed_exactly           passed exactly if it has bytes and its whole length is good
---   refused_exactly          refused exactly if it has a refusal
---   refused_with             with a number of sample_refusals, at a place in the sample
---   empty_is_good            a sample without bytes is good and delivers nothing
---   lines_in_order           the lines are those of samples 1 to the last, joined
---   thirteen_each            13 bytes a sample
---   line_stands              line n stands at 13 · (n - 1), for every sample, after an empty or a refused one too
---   every_sample_one_line    with room for the lines, every sample of an accepted bundle gets exactly one line, in order; read back, it says what was
---                            found of the sample, with its refusal and place, or the number of units it delivers
---   line_empty_exactly, line_passed_exactly, line_refused_exactly    so by its line and its length a sample is empty, passed, refused exactly if ..
---   tally_adds               the three numbers add to the sample count
---   tally_counts             each is the number of samples with that outcome
---   audited_exactly, tallied_exactly               the call answers exactly if the bundle is accepted and the lines fit: with the lines, the tally
---   audit_refused_exactly, tally_refused_exactly   else it is refused: by the bundle, or the lines do not fit
---   refused_alike            lines and tally are refused alike
---   audit_refused_with       with a number of the reader's at a place in the bundle or at its end, or 29 at 0
+--   empty_exactly                                                  a sample is found empty exactly if its length is zero
+--   passed_exactly                                                 passed exactly if it has bytes and its whole length is good
+--   refused_exactly                                                refused exactly if it has a refusal
+--   refused_with                                                   with a number of sample_refusals, at a place in the sample
+--   empty_is_good                                                  a sample without bytes is good and delivers nothing
+--   lines_in_order                                                 the lines are those of samples 1 to the last, joined
+--   thirteen_each                                                  13 bytes a sample
+--   line_stands                                                    line n stands at 13 · (n - 1), for every sample, after an empty or a refused one too
+--   every_sample_one_line                                          with room for the lines, every sample of an accepted bundle gets exactly one line, in order; read back, it says what was
+--                                                                  found of the sample, with its refusal and place, or the number of units it delivers
+--   line_empty_exactly, line_passed_exactly, line_refused_exactly  so by its line and its length a sample is empty, passed, refused exactly if ..
+--   tally_adds                                                     the three numbers add to the sample count
+--   tally_counts                                                   each is the number of samples with that outcome
+--   audited_exactly, tallied_exactly                               the call answers exactly if the bundle is accepted and the lines fit: with the lines, the tally
+--   audit_refused_exactly, tally_refused_exactly                   else it is refused: by the bundle, or the lines do not fit
+--   refused_alike                                                  lines and tally are refused alike
+--   audit_refused_with                                             with a number of the reader's at a place in the bundle or at its end, or 29 at 0
 use Prim.Native.Nat.{ℕ, ◌+◌, ◌-◌, ◌*◌, ◌≤◌, ◌<◌}
 use mathlib.Core.Path.{◌≡◌, refl, sym, ◌∙◌}
 use mathlib.Core.List.{List, []}

@@ -1,12 +1,12 @@
 -- What is read back from the lines: no number is cut by its width, where samples are no longer than the longest bundle, as in every bundle
 -- that a sound reader accepts. Assumes nothing.
 --
---   read_at                     a number that was written is read back where it stands
---   line_reads                  the three numbers of a line
---   units_few                   delivered units of a sample, at most
---   sample_line                 what stands in the line of a sample
---   outcome_by_line_lem             so the line and the sample's length give the outcome
---   line_per_sample             for all lines
+--   read_at              a number that was written is read back where it stands
+--   line_reads           the three numbers of a line
+--   units_few            delivered units of a sample, at most
+--   sample_line          what stands in the line of a sample
+--   outcome_by_line_lem  so the line and the sample's length give the outcome
+--   line_per_sample      for all lines
 use Prim.Native.Nat.{ℕ, ◌+◌, ◌*◌, ◌^◌, ◌≤◌, ◌<◌}
 use mathlib.Core.Path.{◌≡◌, ap, sym, ◌∙◌}
 use mathlib.Core.List.{List, [], ◌++◌, append_assoc, append-nil}

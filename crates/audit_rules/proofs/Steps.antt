@@ -1,9 +1,9 @@
 -- Laws for a loop over the samples that writes a line and raises a tally for each. Assumes nothing.
 --
---   first_lines r n, first_tally r n        the lines and the tally of the samples 1 to n
---   lines_start, lines_more, lines_end    of none; of one sample more; of all
---   lines_put                             one line more, written right after the lines that are written
---   tally_start, tally_more, tally_end    the tally of none; of one sample more; of all
+--   first_lines r n, first_tally r n    the lines and the tally of the samples 1 to n
+--   lines_start, lines_more, lines_end  of none; of one sample more; of all
+--   lines_put                           one line more, written right after the lines that are written
+--   tally_start, tally_more, tally_end  the tally of none; of one sample more; of all
 use Prim.Native.Nat.{ℕ, ◌+◌, ◌*◌, ◌≤◌, ◌<◌}
 use mathlib.Core.Path.{◌≡◌, refl, ap, sym, ◌∙◌}
 use mathlib.Core.List.{List, [], ◌∷◌, ◌++◌, map, append-nil}

@@ -1,13 +1,13 @@
 -- The audit of a bundle (01, 'Audit and naming list').
 --
---   outcome_of r n              what the audit finds of sample n: passed, empty or refused
---   line_size                   the bytes of a line: 13
---   line_bytes v units          an audit line
---   line_of r n                 the line of sample n
---   lines r                    a line a sample, in order
---   tally r                    how many samples passed, are empty, are refused
---   audit_call reader b room    the call on a bundle, with room for the lines: 1 to 13, 29, or the lines
---   tally_call reader b room    the same call's tally
+--   outcome_of r n            what the audit finds of sample n: passed, empty or refused
+--   line_size                 the bytes of a line: 13
+--   line_bytes v units        an audit line
+--   line_of r n               the line of sample n
+--   lines r                   a line a sample, in order
+--   tally r                   how many samples passed, are empty, are refused
+--   audit_call reader b room  the call on a bundle, with room for the lines: 1 to 13, 29, or the lines
+--   tally_call reader b room  the same call's tally
 use Rattle.std.specs.Prelude.{ℕ, ◌+◌, List, [], ◌∷◌, ◌++◌, map, length}
 use Rattle.words.specs.Tests.{◌≡?◌, pick}
 use Rattle.words.specs.Refusals.{Answer, refused, ok, Verdict, ◌and_then◌, number_of, place_of}

@@ -1,8 +1,8 @@
 -- The rules of the audit in plain facts, in which the promises of proofs/Promises are stated.
 --
 --   Reads s m p count       what stands in the line s: refusal, place and units delivered, read back as numbers
---   line_at out n            line n
---   outcome_by_line s size    what a line and a sample's length say of the sample
+--   line_at out n           line n
+--   outcome_by_line s size  what a line and a sample's length say of the sample
 --   SampleLine r n s o      s is the line of sample n, whose outcome is o: what stands in it, and what holds of the sample
 --   LinePerSample r out     out has exactly one line a sample, in order
 --   Counts r t              what the tally t counts

@@ -1,13 +1,13 @@
 -- Laws for the steps of the check. Assumes nothing.
 --
---   at_count, at_entry, at_end      a section's verdict by its steps: refused at its count, refused at an entry, ended
---   ended, refused_there, not_refused    what a section's answer says of its verdict
+--   at_count, at_entry, at_end               a section's verdict by its steps: refused at its count, refused at an entry, ended
+--   ended, refused_there, not_refused        what a section's answer says of its verdict
 --   size_some, known_size_lem                L as a number, and as a length size
---   read_refused, read_accepted     what a record's answer says
---   good_size                       L of a track entry without a refusal
---   track_at_lem                        a track by its number
---   Kept, kept_start, kept_next, kept_sizes    the length sizes of the tracks so far
---   total_start, total_next         the sum of the lengths so far
+--   read_refused, read_accepted              what a record's answer says
+--   good_size                                L of a track entry without a refusal
+--   track_at_lem                             a track by its number
+--   Kept, kept_start, kept_next, kept_sizes  the length sizes of the tracks so far
+--   total_start, total_next                  the sum of the lengths so far
 use Prim.Native.Nat.{ℕ, zero, suc, ◌+◌, ◌-◌, ◌*◌, ◌%◌, ◌≤◌, ◌<◌}
 use mathlib.Core.Path.{◌≡◌, refl, ap, sym, ◌∙◌}
 use mathlib.Core.Bool.{Bool, true, false}

@@ -1,14 +1,14 @@
 -- What the four sections of an accepted bundle say, taken apart test by test. Assumes nothing.
 --
---   Count, count_good            a count without 2 and 3
---   TrackGood, track_good        a track entry without a refusal
---   exists                       a track that is none but exists
---   ReferenceGood, reference_good     a reference without a refusal
---   EntryGood, entry_good, order_good    a sample's entry without a refusal
---   entries_inside               entries without a refusal lie in the bundle
---   EndGood, end_good            section four without a refusal
---   Tracks, References, Samples  the sections one to three; the place after each lies in the bundle
---   Accepted, accepted           a bundle without a refusal, section by section
+--   Count, count_good                  a count without 2 and 3
+--   TrackGood, track_good              a track entry without a refusal
+--   exists                             a track that is none but exists
+--   ReferenceGood, reference_good      a reference without a refusal
+--   EntryGood, entry_good, order_good  a sample's entry without a refusal
+--   entries_inside                     entries without a refusal lie in the bundle
+--   EndGood, end_good                  section four without a refusal
+--   Tracks, References, Samples        the sections one to three; the place after each lies in the bundle
+--   Accepted, accepted                 a bundle without a refusal, section by section
 use Prim.Native.Nat.{ℕ, zero, suc, ◌+◌, ◌-◌, ◌*◌, ◌≤◌, ◌<◌}
 use mathlib.Core.Path.{◌≡◌, refl, ap, sym, ◌∙◌}
 use mathlib.Core.Bool.{Bool, true, false, ◌&&◌, not}

@@ -1,13 +1,13 @@
 -- Section four of a bundle b: sample bytes (01, 'The bundle', 4). The count, equal to the sum of the lengths; samples lie without gaps; the
 -- bundle ends there. And the whole: its first refusal front to back, or the recording that it means.
 --
---   byte_count_fault b p total           the refusal of section four at p, where the lengths add to total: 7 or 2
---   bundle_verdict b              the bundle's first refusal, section by section
---   BundleRefusal b n p          n at p is a refusal that a bundle can have
+--   byte_count_fault b p total     the refusal of section four at p, where the lengths add to total: 7 or 2
+--   bundle_verdict b               the bundle's first refusal, section by section
+--   BundleRefusal b n p            n at p is a refusal that a bundle can have
 --   layout_of b, recording_of b    what its sections mean
---   meaning b                    its refusal, or its recording
+--   meaning b                      its refusal, or its recording
 --   contents_at b, content_at b n  where the samples' bytes start, and those of sample n
---   SamplesTile b contents       the contents lie in section four without gaps
+--   SamplesTile b contents         the contents lie in section four without gaps
 use Rattle.std.specs.Prelude.{ℕ, suc, ◌+◌, ◌-◌, ◌≤◌, ◌<◌, ◌≡◌, List, [], map, not, length, get_or, take, drop}
 use Rattle.words.specs.Tests.{◌<?◌, ◌≡?◌}
 use Rattle.words.specs.RefusalNumbers.{bundle_too_long, bad_byte_count, bundle_refusals}

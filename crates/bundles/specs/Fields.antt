@@ -1,12 +1,12 @@
 -- The sizes in bytes of a bundle's fields (01, 'The bundle'), and where a field stands in its entry.
 --
---   track_count_size                                    section one: the count of tracks
---   kind_size, record_length_size, track_head_size         a track: kind, record length; both before the record
---   reference_count_size                                section two: the count of references
---   track_number_size, reference_size                    a track number; a reference: from-track, to-track
---   sample_count_size                                   section three: the count of samples
---   time_size, sample_length_size, sample_entry_size             a sample's entry: track, decode time, length
---   byte_count_size                                     section four: the count of bytes
+--   track_count_size                                  section one: the count of tracks
+--   kind_size, record_length_size, track_head_size    a track: kind, record length; both before the record
+--   reference_count_size                              section two: the count of references
+--   track_number_size, reference_size                 a track number; a reference: from-track, to-track
+--   sample_count_size                                 section three: the count of samples
+--   time_size, sample_length_size, sample_entry_size  a sample's entry: track, decode time, length
+--   byte_count_size                                   section four: the count of bytes
 use Rattle.std.specs.Prelude.{ℕ, ◌+◌}
 
 -- section one

@@ -1,10 +1,10 @@
 -- The limits of a bundle b (01, 'The bundle'), and the refusals that every section shares: 2 and 3.
 --
---   bundle_most                     the most bytes of a bundle
---   track_least, track_most          the fewest and the most tracks
---   reference_most, sample_most      the most references, the most samples
---   cut b p n                      2: fewer than n bytes from p on
---   count_fault b p n least most    2 or 3, of a count of n bytes at p
+--   bundle_most                   the most bytes of a bundle
+--   track_least, track_most       the fewest and the most tracks
+--   reference_most, sample_most   the most references, the most samples
+--   cut b p n                     2: fewer than n bytes from p on
+--   count_fault b p n least most  2 or 3, of a count of n bytes at p
 use Rattle.std.specs.Prelude.{ℕ, ◌+◌, List, length}
 use Rattle.words.specs.Tests.{◌<?◌}
 use Rattle.words.specs.RefusalNumbers.{bundle_cut, count_out_of_limits}

@@ -1,7 +1,7 @@
 -- Parts of a bundle.
 --
---   BundlePart       where a part starts, an offset in the bundle, and its size
---   bytes_in b q      its bytes
+--   BundlePart    where a part starts, an offset in the bundle, and its size
+--   bytes_in b q  its bytes
 use Rattle.std.specs.Prelude.{ℕ, List}
 use Rattle.words.specs.Bytes.{part}
 

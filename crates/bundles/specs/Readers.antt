@@ -1,8 +1,8 @@
 -- A reader of bundles: what the bytes of a bundle mean by one layout. The calls on a bundle are stated once, over any reader.
 --
---   Reader         the recording that a bundle means; where in the bundle the bytes of a sample start, and the record of a track stands;
---                  the numbers of its refusals
---   first_layout    the reader of document 01, 'The bundle'
+--   Reader        the recording that a bundle means; where in the bundle the bytes of a sample start, and the record of a track stands;
+--                 the numbers of its refusals
+--   first_layout  the reader of document 01, 'The bundle'
 use Rattle.std.specs.Prelude.{ℕ, List}
 use Rattle.words.specs.RefusalNumbers.{bundle_refusals}
 use Rattle.words.specs.Refusals.{Answer}
@@ -18,4 +18,9 @@ pub record Reader : Type 0 where
   pub refusals : List ℕ
 
 abbrev pub first_layout : Reader
-first_layout = record { means = bundles.meaning; content_at = bundles.content_at; record_part = tracks.record_part; refusals = bundle_refusals }
+first_layout = record {
+  means = bundles.meaning;
+  content_at = bundles.content_at;
+  record_part = tracks.record_part;
+  refusals = bundle_refusals;
+}

@@ -1,14 +1,14 @@
 -- What a bundle means: a recording. Tracks, the references of a track, and samples are numbered from 1; there is no bundle offset here.
 -- The layout is apart from the bytes, so that what goes by the layout alone visibly depends on no sample's bytes.
 --
---   sample_count y         how many samples there are
---   track_of y n           the track of sample n, 0 where there is no such sample
---   time_of y n            its decode time
---   track_at y n           the kind and length size of its track
---   references_from y k    the references of track k, in order: the nth is its track_ref_index n
---   samples_in y k         the samples of track k, in number order
---   content_of r n         the bytes of sample n
---   replaced r n new      the recording with the bytes of sample n replaced
+--   sample_count y       how many samples there are
+--   track_of y n         the track of sample n, 0 where there is no such sample
+--   time_of y n          its decode time
+--   track_at y n         the kind and length size of its track
+--   references_from y k  the references of track k, in order: the nth is its track_ref_index n
+--   samples_in y k       the samples of track k, in number order
+--   content_of r n       the bytes of sample n
+--   replaced r n new     the recording with the bytes of sample n replaced
 use Rattle.std.specs.Prelude.{ℕ, zero, suc, List, [], ◌∷◌, length, set}
 use Rattle.words.specs.Tests.{◌≡?◌}
 use Rattle.words.specs.Lists.{keep, nth, upto}

@@ -1,13 +1,13 @@
 -- Section two of a bundle b: references (01, 'The bundle', 2). The count; each: from-track, to-track.
 --
---   reference_count b             the count
---   from b p, to b p             the two tracks of the reference at p
---   no_such_track b k              whether there is no track k
---   length_size_on b k             L of track k
---   reference_fault b p           its refusal: 2 or 5
---   references_verdict b          the section's first refusal
---   references b                 what it means
---   samples_at b                  where section three starts
+--   reference_count b     the count
+--   from b p, to b p      the two tracks of the reference at p
+--   no_such_track b k     whether there is no track k
+--   length_size_on b k    L of track k
+--   reference_fault b p   its refusal: 2 or 5
+--   references_verdict b  the section's first refusal
+--   references b          what it means
+--   samples_at b          where section three starts
 use Rattle.std.specs.Prelude.{ℕ, ◌+◌, ◌*◌, List, map, Bool, not}
 use Rattle.words.specs.Tests.{◌≡?◌, out_of}
 use Rattle.words.specs.RefusalNumbers.{bad_reference}

@@ -1,15 +1,15 @@
 -- Section three of a bundle b: samples (01, 'The bundle', 3). The count; each: track, decode time, length.
 -- Entries have one size and are numbered from 1: entry n is sample n's. An entry is judged beside the one before it.
 --
---   order_fault e f               6: whether the entry f may not come after the entry e
---   entry_count b                 the count
---   entries_at b, entry_at b n     where the first entry stands, and entry n
---   track b p, time b p, length_at b p    what the entry at p says
---   entry_on b p                  its track and its decode time
---   entry_fault b n               the refusal of entry n: 2 or 6
---   samples_verdict b             the section's first refusal
---   sample_entries b, lengths b   what it means: the entries, and the samples' lengths
---   byte_count_at b                where section four starts
+--   order_fault e f                     6: whether the entry f may not come after the entry e
+--   entry_count b                       the count
+--   entries_at b, entry_at b n          where the first entry stands, and entry n
+--   track b p, time b p, length_at b p  what the entry at p says
+--   entry_on b p                        its track and its decode time
+--   entry_fault b n                     the refusal of entry n: 2 or 6
+--   samples_verdict b                   the section's first refusal
+--   sample_entries b, lengths b         what it means: the entries, and the samples' lengths
+--   byte_count_at b                     where section four starts
 use Rattle.std.specs.Prelude.{ℕ, ◌+◌, ◌-◌, ◌*◌, List, map, Bool, ◌&&◌}
 use Rattle.words.specs.Tests.{◌<?◌, ◌≤?◌, ◌≡?◌, pick}
 use Rattle.words.specs.RefusalNumbers.{bad_track_or_time}

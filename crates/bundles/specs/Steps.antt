@@ -1,9 +1,9 @@
 -- What the steps of the check say to each other.
 --
---   LengthSizes b sizes          sizes holds the length size of each track
---   ReadTrack b p r              r is what was read of the track entry at p
---   section_of r                  a section's answer
---   TracksChecked b r sizes      what the check of section one answers
+--   LengthSizes b sizes      sizes holds the length size of each track
+--   ReadTrack b p r          r is what was read of the track entry at p
+--   section_of r             a section's answer
+--   TracksChecked b r sizes  what the check of section one answers
 use Rattle.std.specs.Prelude.{ℕ, ◌≤◌, ◌<◌, ◌≡◌, List}
 use Rattle.words.specs.Refusals.{Answer, refused, ok, ◌and_then◌}
 use Rattle.words.specs.Bytes.{byte_at}

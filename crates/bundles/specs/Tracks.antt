@@ -1,16 +1,16 @@
 -- Section one of a bundle b: tracks (01, 'The bundle', 1). The count; each: kind, record length, the record.
 -- A place p is where an entry starts. Places do not stop at faults: the first refusal is what counts, and what lies behind it has no use.
 --
---   track_count b, tracks_at b     the count, and where the first entry stands
---   kind_at b p, record_at b p     the kind and the record of the entry at p
---   record_length b p, track_end b p    the record's length, and where the entry ends
---   record_part_at b p             where its record stands
---   size_at b p                   L, its length size, as a number
---   track_fault b p               its refusal: 2, 4, or the record's
---   tracks_verdict b              the section's first refusal
---   tracks b                     what it means
---   record_part b k               where the record of track k stands
---   references_at b               where section two starts
+--   track_count b, tracks_at b        the count, and where the first entry stands
+--   kind_at b p, record_at b p        the kind and the record of the entry at p
+--   record_length b p, track_end b p  the record's length, and where the entry ends
+--   record_part_at b p                where its record stands
+--   size_at b p                       L, its length size, as a number
+--   track_fault b p                   its refusal: 2, 4, or the record's
+--   tracks_verdict b                  the section's first refusal
+--   tracks b                          what it means
+--   record_part b k                   where the record of track k stands
+--   references_at b                   where section two starts
 use Rattle.std.specs.Prelude.{ℕ, ◌+◌, List, map}
 use Rattle.words.specs.RefusalNumbers.{unknown_kind}
 use Rattle.words.specs.Refusals.{◌or_else◌, Verdict, ◌and_then◌, ◌at_place◌, first}

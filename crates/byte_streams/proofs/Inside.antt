@@ -1,10 +1,10 @@
 -- What `inside_verdict` says of a unit. Assumes nothing.
 --
---   bad_from, bad_to            `is_bad_after` as a fact, both ways
---   inside_found                where a byte may not follow the zeros before it, the verdict is 33 there or before
---   inside_front, inside_run    after bytes without 33; after zeros
---   Inside, inside_by           where the verdict is 33, such a byte stands
---   inside_good, inside_bad_lem     a unit that can stand in a byte stream, and one that holds no start code but cannot
+--   bad_from, bad_to             `is_bad_after` as a fact, both ways
+--   inside_found                 where a byte may not follow the zeros before it, the verdict is 33 there or before
+--   inside_front, inside_run     after bytes without 33; after zeros
+--   Inside, inside_by            where the verdict is 33, such a byte stands
+--   inside_good, inside_bad_lem  a unit that can stand in a byte stream, and one that holds no start code but cannot
 use Prim.Native.Nat.{ℕ, zero, suc, ◌+◌, ◌-◌, ◌≤◌}
 use mathlib.Core.Path.{◌≡◌, refl, ap, ap₂, sym, ◌∙◌}
 use mathlib.Core.Bool.{true, false, ◌&&◌}

@@ -1,11 +1,11 @@
 -- Which byte streams are read, and as what. Assumes nothing.
 --
---   AllFit L us                every unit of a list has a length that L bytes can hold
---   unit_from_lem, unit_to         a unit of which nothing is refused, both ways
---   lead_from, lead_to         so the zeros before the first start code
---   read_from, read_to         what is read is a byte stream of the units, and they fit; and the other way
---   read_exactly               both
---   read_written               units that can stand in a byte stream and fit: what is written of them is read as them
+--   AllFit L us             every unit of a list has a length that L bytes can hold
+--   unit_from_lem, unit_to  a unit of which nothing is refused, both ways
+--   lead_from, lead_to      so the zeros before the first start code
+--   read_from, read_to      what is read is a byte stream of the units, and they fit; and the other way
+--   read_exactly            both
+--   read_written            units that can stand in a byte stream and fit: what is written of them is read as them
 use Prim.Native.Nat.{ℕ, zero, suc, ◌+◌, ◌-◌, ◌^◌, ◌<◌}
 use mathlib.Core.Path.{◌≡◌, refl, ap, sym, ◌∙◌, subst}
 use mathlib.Core.Logic.{◌↔◌, ⊎_elim}

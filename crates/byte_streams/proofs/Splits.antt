@@ -1,23 +1,23 @@
 -- A stream split at its start codes, and the zeros at the end of a part: so the units of a stream are found. Assumes nothing.
 --
---   code_from               what `begins_code` says
---   cons_code, cons_on      a byte before what is split already
---   coded, joined           a part after its start code; parts joined again
---   split_join              what is split, joined again, is the stream
---   split_most, strip_most  so what stands before the first start code is not longer; what is left of a part is not
---   CodeFree, split_append  a part in which no start code begins is split off whole
---   split_two               before a start code, a stream is split by itself
---   split_code              a start code starts a part
---   split_free, AllFree     no start code begins in a part
---   none_in                 no start code stands in the empty list
---   code_free, free_none    no start code begins in a unit that holds none and zeros after it; where none begins, none stands
---   strip_ends              what is left of a part does not end in 00
---   strip_part              a part is what is left of it, and zeros
---   split_byte              a stream split before a byte above 00 that ends no start code
---   free_byte, strip_byte   no start code ends with a byte above 01; a byte above 00 is not stripped
---   ends_clear, unit_part_lem   what follows a unit and its zeros; a unit and its zeros are a part
---   free_unit               no start code stands in the unit of a part
---   strip_zeros             a unit that does not end in 00 is what is left of it and zeros after it
+--   code_from                  what `begins_code` says
+--   cons_code, cons_on         a byte before what is split already
+--   coded, joined              a part after its start code; parts joined again
+--   split_join                 what is split, joined again, is the stream
+--   split_most, strip_most     so what stands before the first start code is not longer; what is left of a part is not
+--   CodeFree, split_append     a part in which no start code begins is split off whole
+--   split_two                  before a start code, a stream is split by itself
+--   split_code                 a start code starts a part
+--   split_free, AllFree        no start code begins in a part
+--   none_in                    no start code stands in the empty list
+--   code_free, free_none       no start code begins in a unit that holds none and zeros after it; where none begins, none stands
+--   strip_ends                 what is left of a part does not end in 00
+--   strip_part                 a part is what is left of it, and zeros
+--   split_byte                 a stream split before a byte above 00 that ends no start code
+--   free_byte, strip_byte      no start code ends with a byte above 01; a byte above 00 is not stripped
+--   ends_clear, unit_part_lem  what follows a unit and its zeros; a unit and its zeros are a part
+--   free_unit                  no start code stands in the unit of a part
+--   strip_zeros                a unit that does not end in 00 is what is left of it and zeros after it
 use Prim.Native.Nat.{ℕ, zero, suc, ◌≤◌}
 use mathlib.Core.Path.{◌≡◌, refl, ap, ap₂, sym, ◌∙◌, subst}
 use mathlib.Core.Bool.{Bool, true, false, ◌&&◌}

@@ -1,17 +1,17 @@
 -- Where a unit stops, and how the stream goes on there. Assumes nothing.
 --
 --   stop_none, -here, -on-list a unit stops at the end, or where what is forbidden stands
---   lead_none, -zero, -byte    zeros end there, or at a byte above 00
---   clear_most, lead_most      neither is more than the length
---   clear_length_lem               so many bytes stand before a stop
---   clear_facts, stop_clear    the bytes before a stop hold nothing that is forbidden, and do not end in 00
---   stop_good                  so 33 is not inside them
---   streamable_stop            a unit can stand in a byte stream exactly if it does not stop before its end
---   Stop, stop_by              after them: zeros to the end; zeros and a start code; zeros and a byte that may not follow
---   end_split, code_split      how that is split, and
---   bad_unit                   where 33 is then, and how long the unit is, which goes on with that byte
---   Front, front_by            so at the front of a stream
---   byte_lead                  and where 33 is there
+--   lead_none, -zero, -byte  zeros end there, or at a byte above 00
+--   clear_most, lead_most    neither is more than the length
+--   clear_length_lem         so many bytes stand before a stop
+--   clear_facts, stop_clear  the bytes before a stop hold nothing that is forbidden, and do not end in 00
+--   stop_good                so 33 is not inside them
+--   streamable_stop          a unit can stand in a byte stream exactly if it does not stop before its end
+--   Stop, stop_by            after them: zeros to the end; zeros and a start code; zeros and a byte that may not follow
+--   end_split, code_split    how that is split, and
+--   bad_unit                 where 33 is then, and how long the unit is, which goes on with that byte
+--   Front, front_by          so at the front of a stream
+--   byte_lead                and where 33 is there
 use Prim.Native.Nat.{ℕ, zero, suc, ◌+◌, ◌≤◌}
 use mathlib.Core.Path.{◌≡◌, refl, ap, sym, ◌∙◌, subst}
 use mathlib.Core.Bool.{Bool, true, false}

@@ -1,16 +1,16 @@
 -- What writing a byte stream promises. Assumes nothing.
 --
---   AllStreamable                 every unit of a list can stand in a byte stream
---   stream_written                what is written is a byte stream of the units
---   stream_all                    every unit of a byte stream can stand in one
---   stream_split                  a byte stream split at its start codes: zeros, and its units with the zeros after them
---   stream_unique                 a byte stream is that of one list of units only
---   stream_joined                 two byte streams, one after the other, are that of the units of both
---   verdict_append                32 in two lists of units, one after the other
---   verdict_ok, verdict_all       no 32 exactly where all units can stand in a byte stream
---   held_streamable, streamable_held               a unit can stand in a byte stream exactly if one holds it
---   FirstBad, verdict_first, first_verdict         32 at the first unit that cannot, exactly
---   stream_none, -append, -size                    the byte stream of no unit, of two lists of units; its length
+--   AllStreamable                           every unit of a list can stand in a byte stream
+--   stream_written                          what is written is a byte stream of the units
+--   stream_all                              every unit of a byte stream can stand in one
+--   stream_split                            a byte stream split at its start codes: zeros, and its units with the zeros after them
+--   stream_unique                           a byte stream is that of one list of units only
+--   stream_joined                           two byte streams, one after the other, are that of the units of both
+--   verdict_append                          32 in two lists of units, one after the other
+--   verdict_ok, verdict_all                 no 32 exactly where all units can stand in a byte stream
+--   held_streamable, streamable_held        a unit can stand in a byte stream exactly if one holds it
+--   FirstBad, verdict_first, first_verdict  32 at the first unit that cannot, exactly
+--   stream_none, -append, -size             the byte stream of no unit, of two lists of units; its length
 use Prim.Native.Nat.{ℕ, ◌+◌}
 use mathlib.Core.Path.{◌≡◌, refl, ap, ap₂, sym, ◌∙◌}
 use mathlib.Core.Bool.{false, not}

@@ -1,10 +1,10 @@
 -- What the code looks for, by place.
 --
---   clear_length v       how many bytes of v stand before the first 00 00 00, 00 00 01 or 00 00 02, as if zeros followed v
---   unit_stop s p        so where the search for the end of a unit that starts at p stops: at its end, or sooner at zeros that are followed
---                       by a byte that may not follow them
---   leading_zeros v      how many zeros v begins with
---   zeros_end s p        so where the zeros end that start at p
+--   clear_length v   how many bytes of v stand before the first 00 00 00, 00 00 01 or 00 00 02, as if zeros followed v
+--   unit_stop s p    so where the search for the end of a unit that starts at p stops: at its end, or sooner at zeros that are followed
+--                    by a byte that may not follow them
+--   leading_zeros v  how many zeros v begins with
+--   zeros_end s p    so where the zeros end that start at p
 use Rattle.std.specs.Prelude.{ℕ, zero, suc, ◌+◌, List, [], ◌∷◌, drop}
 use Rattle.words.specs.Tests.{pick}
 use Rattle.words.specs.Bytes.{byte_at}

@@ -1,18 +1,18 @@
 -- The units of a byte stream s, and the sample made of them (02, [3]). L is the length size of the sample.
 --
---   start_code_size         how many bytes a start code has; a zero before it, as [2] writes one, belongs to no unit
---   is_start_code x y z     whether three bytes are one: 00 00 01
---   begins_code x v        whether x before v begins a start code
+--   start_code_size       how many bytes a start code has; a zero before it, as [2] writes one, belongs to no unit
+--   is_start_code x y z   whether three bytes are one: 00 00 01
+--   begins_code x v       whether x before v begins a start code
 --   Parts, split s        what stands before the first start code, and after each one up to the next or the end; by `split_cons`
 --   strip v               v without the zeros at its end: a part's unit; by `strip_cons`
---   lead_verdict p v       33 at the first byte above 00 of v, which starts at p
---   is_bad_after z x        whether x may not follow z zeros in a unit: 02 after two, a byte above 01 after three or more
---   inside_verdict z p u   33 at the first such byte of u, which starts at p after z zeros
---   unit_verdict L p u     of the unit u, which starts at p: 33 at the 01 before it if it is empty; 34; 33 inside
---   parts_verdict L p vs   the first of these of the units of the parts vs, the first of which starts at p
---   units_in L s           the units, or the first 33 or 34 by place; by `units_of` of the parts
---   sample_with L us       each unit after its length in L bytes; by `sample_made` of an answer
---   from_stream n s room   the call, with length size n: 11, then 33 or 34, then 29
+--   lead_verdict p v      33 at the first byte above 00 of v, which starts at p
+--   is_bad_after z x      whether x may not follow z zeros in a unit: 02 after two, a byte above 01 after three or more
+--   inside_verdict z p u  33 at the first such byte of u, which starts at p after z zeros
+--   unit_verdict L p u    of the unit u, which starts at p: 33 at the 01 before it if it is empty; 34; 33 inside
+--   parts_verdict L p vs  the first of these of the units of the parts vs, the first of which starts at p
+--   units_in L s          the units, or the first 33 or 34 by place; by `units_of` of the parts
+--   sample_with L us      each unit after its length in L bytes; by `sample_made` of an answer
+--   from_stream n s room  the call, with length size n: 11, then 33 or 34, then 29
 use Rattle.std.specs.Prelude.{ℕ, zero, suc, ◌+◌, ◌-◌, ◌^◌, List, [], ◌∷◌, ◌++◌, map, Bool, ◌&&◌, ◌||◌, length, drop}
 use Rattle.words.specs.Tests.{◌≤?◌, ◌≡?◌, pick}
 use Rattle.words.specs.RefusalNumbers.{bad_byte_stream, unit_exceeds_length_size}

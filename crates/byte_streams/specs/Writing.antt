@@ -1,13 +1,13 @@
 -- Units written as a byte stream (02, [2]): each after 00 00 00 01; or 32 of the first unit that can stand in no byte stream.
 --
---   start_code            00 00 00 01, a start code of four bytes; where one is read, its last three
---   ends_in_zero u         whether u ends in 00
---   is_forbidden x y z    whether three bytes are 00 00 00, 00 00 01 or 00 00 02
---   holds_forbidden u     whether such three stand in u; 00 00 03 may
---   is_streamable u       whether u can stand in a byte stream: `Streamable` of Grammar, as a test
---   stream_of us          each unit after a start code
---   stream_verdict p us   32 of the first that cannot, at the place of its 4 bytes in front, the first unit's at p
---   to_stream us          the byte stream, or 32
+--   start_code           00 00 00 01, a start code of four bytes; where one is read, its last three
+--   ends_in_zero u       whether u ends in 00
+--   is_forbidden x y z   whether three bytes are 00 00 00, 00 00 01 or 00 00 02
+--   holds_forbidden u    whether such three stand in u; 00 00 03 may
+--   is_streamable u      whether u can stand in a byte stream: `Streamable` of Grammar, as a test
+--   stream_of us         each unit after a start code
+--   stream_verdict p us  32 of the first that cannot, at the place of its 4 bytes in front, the first unit's at p
+--   to_stream us         the byte stream, or 32
 use Rattle.std.specs.Prelude.{ℕ, zero, suc, ◌+◌, Bool, true, false, not, ◌&&◌, ◌||◌, List, [], ◌∷◌, ◌++◌, length}
 use Rattle.words.specs.Tests.{◌≤?◌, ◌≡?◌}
 use Rattle.words.specs.RefusalNumbers.{unit_not_streamable}

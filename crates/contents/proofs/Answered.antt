@@ -1,10 +1,10 @@
 -- What the calls answer, step by step as the code takes them. Assumes nothing.
 --
---   counts-, track-, reference-, sample_refused    of a bundle that is refused
---   counts_filled                        the counts by a table that was filled
---   track_past, reference_past, sample_past        30
---   track_there                          a track that exists, by the bundle
---   track_found, reference_found, sample_found     what is told of a number that exists
+--   counts-, track-, reference-, sample_refused  of a bundle that is refused
+--   counts_filled                                the counts by a table that was filled
+--   track_past, reference_past, sample_past      30
+--   track_there                                  a track that exists, by the bundle
+--   track_found, reference_found, sample_found   what is told of a number that exists
 use Prim.Native.Nat.{ℕ, ◌≤◌, ◌<◌}
 use mathlib.Core.Path.{◌≡◌, ap, sym, ◌∙◌}
 use mathlib.Core.List.{List}

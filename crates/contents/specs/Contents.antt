@@ -1,14 +1,14 @@
 -- What a bundle b holds, by a reader: how many tracks, references and samples, and what its sections say of each (01, 'The bundle').
 -- 1 to 13 first, then 30 for a number 0 or past the last. A start is an offset in the bundle.
 --
---   Counts                      how many tracks, references and samples there are
---   TrackEntry                  a track: its kind, and where its record stands
---   SampleEntry                 a sample: its track, its decode time, and where its bytes stand
---   counts_of y                  the counts of a layout
---   counts_call reader b         the call for the counts
---   track_call reader b k        the call for track k
---   reference_call reader b i    the call for reference i
---   sample_call reader b n       the call for sample n
+--   Counts                     how many tracks, references and samples there are
+--   TrackEntry                 a track: its kind, and where its record stands
+--   SampleEntry                a sample: its track, its decode time, and where its bytes stand
+--   counts_of y                the counts of a layout
+--   counts_call reader b       the call for the counts
+--   track_call reader b k      the call for track k
+--   reference_call reader b i  the call for reference i
+--   sample_call reader b n     the call for sample n
 use Rattle.std.specs.Prelude.{ℕ, List, length}
 use Rattle.words.specs.Refusals.{Answer, ok}
 use Rattle.words.specs.Lists.{nth}

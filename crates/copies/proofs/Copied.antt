@@ -1,10 +1,10 @@
 -- What a copy has, and what is copied. Assumes nothing.
 --
---   copy_rules, rules_copy     a copy without 25 to 28 follows the rules, both ways
---   copy_refusal               a refusal is 25 to 28
---   copied_exact               what is copied: all units of the sample that lie in the copy, but aggregators
---   copied_unit_lem                a copied unit is a unit of the sample, no aggregator
---   copied_count               no more units than bytes
+--   copy_rules, rules_copy  a copy without 25 to 28 follows the rules, both ways
+--   copy_refusal            a refusal is 25 to 28
+--   copied_exact            what is copied: all units of the sample that lie in the copy, but aggregators
+--   copied_unit_lem         a copied unit is a unit of the sample, no aggregator
+--   copied_count            no more units than bytes
 use Prim.Native.Nat.{ℕ, ◌≤◌, ◌<◌}
 use mathlib.Core.Path.{◌≡◌, refl}
 use mathlib.Core.List.{Memᴰ}

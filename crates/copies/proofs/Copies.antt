@@ -1,14 +1,14 @@
 -- Where a copy starts and ends. Assumes nothing.
 --
---   starts_unit, unit_starts, starts_not    data_offset is a unit of the sample, or none
---   end_length, end_unit, end_aggregator    where a copy ends
---   ends_top, ends_included     on which borders, by its start
---   Run                         the units that a copy starts and ends among
---   top_ends                    a top-level unit ends in the sample
---   end_zero                    what data_length 0 takes ends on a border
---   border_none                 a copy without 26 and 27 starts and ends where it may; of such a copy:
---   copy_cut, copy_most         it lies between two borders of units, and in the sample
---   copied_flat                 its units are those of one walk over it, aggregators dropped
+--   starts_unit, unit_starts, starts_not  data_offset is a unit of the sample, or none
+--   end_length, end_unit, end_aggregator  where a copy ends
+--   ends_top, ends_included               on which borders, by its start
+--   Run                                   the units that a copy starts and ends among
+--   top_ends                              a top-level unit ends in the sample
+--   end_zero                              what data_length 0 takes ends on a border
+--   border_none                           a copy without 26 and 27 starts and ends where it may; of such a copy:
+--   copy_cut, copy_most                   it lies between two borders of units, and in the sample
+--   copied_flat                           its units are those of one walk over it, aggregators dropped
 use Prim.Native.Nat.{ℕ, ◌+◌, ◌≤◌, ◌<◌}
 use mathlib.Core.Path.{◌≡◌, refl, ap, sym, ◌∙◌, subst}
 use mathlib.Core.List.{Memᴰ}

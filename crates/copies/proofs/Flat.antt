@@ -1,16 +1,16 @@
 -- All units of a well-formed sample as one walk. Assumes nothing.
 --
---   flat_aggregator, flat_other   the place after an aggregator, and after another unit
---   flat_after                    the walk goes on
---   flat_end, flat_step_lem           the places from p up to e: none, or p and those from the next on
---   flat_part                     a part of a walk, from one of its places on, is a walk
---   flat_units                    all units of a well-formed sample
---   flat_run                      units that are no aggregators, one after another
---   border_most                   a border of units does not lie past the end
---   flat_between                  the units between two borders, top-level and included
---   sample_borders                a well-formed sample lies between two borders
---   flat_good                     each unit between two borders is whole, and the walk does not leave them
---   Walking, walking_start, -whole, -step, -next    a walk between two borders that has come to p: what stands there is whole
+--   flat_aggregator, flat_other                   the place after an aggregator, and after another unit
+--   flat_after                                    the walk goes on
+--   flat_end, flat_step_lem                       the places from p up to e: none, or p and those from the next on
+--   flat_part                                     a part of a walk, from one of its places on, is a walk
+--   flat_units                                    all units of a well-formed sample
+--   flat_run                                      units that are no aggregators, one after another
+--   border_most                                   a border of units does not lie past the end
+--   flat_between                                  the units between two borders, top-level and included
+--   sample_borders                                a well-formed sample lies between two borders
+--   flat_good                                     each unit between two borders is whole, and the walk does not leave them
+--   Walking, walking_start, -whole, -step, -next  a walk between two borders that has come to p: what stands there is whole
 use Prim.Native.Nat.{ℕ, zero, suc, ◌-◌, ◌≤◌, ◌<◌}
 use mathlib.Core.Path.{◌≡◌, refl, ap, ◌∙◌}
 use mathlib.Core.List.{[], ◌∷◌, ◌++◌, append-nil, Memᴰ}

@@ -1,11 +1,11 @@
 -- The units that `extracted` finds: on any bytes, and in a copy without a refusal, where they are the copied ones. Assumes nothing.
 --
---   plain_end, plain_skip, plain_take, plain_cut    plain units from p up to e: none; those after p; p and those after it; none after a cut
---   unit_inside                    a unit that a walk meets lies in the sample
---   Finding, finding_start, -end, -aggregator, -extractor, -cut, -found, -take    a loop that looks for the ith of them
---   plain_inside                   one that is found lies in the sample
---   unit_past, unit_place          bytes past the end; the bytes of a copied unit, by where it stands
---   plain_copied, unit_copied      in a copy without a refusal
+--   plain_end, plain_skip, plain_take, plain_cut                                plain units from p up to e: none; those after p; p and those after it; none after a cut
+--   unit_inside                                                                 a unit that a walk meets lies in the sample
+--   Finding, finding_start, -end, -aggregator, -extractor, -cut, -found, -take  a loop that looks for the ith of them
+--   plain_inside                                                                one that is found lies in the sample
+--   unit_past, unit_place                                                       bytes past the end; the bytes of a copied unit, by where it stands
+--   plain_copied, unit_copied                                                   in a copy without a refusal
 use Prim.Native.Nat.{ℕ, ◌+◌, ◌-◌, ◌≤◌, ◌<◌}
 use mathlib.Core.Path.{◌≡◌, refl, ap, sym, ◌∙◌}
 use mathlib.Core.List.{[], ◌∷◌, map, Memᴰ}

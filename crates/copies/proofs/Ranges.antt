@@ -1,10 +1,10 @@
 -- Where a copy ends, on any bytes. Assumes nothing.
 --
---   capped_in, capped_past    a place that is not past the end; one that is not before it
---   capped_most, capped_add   never past the end; bytes on from a place that is capped already
---   in_length, in_unit, in_aggregator    where a copy ends, by data_length and by what stands at data_offset
---   in_most                   never past the end of the sample
---   end_in                    a copy without 25 to 27 ends where it is said to
+--   capped_in, capped_past             a place that is not past the end; one that is not before it
+--   capped_most, capped_add            never past the end; bytes on from a place that is capped already
+--   in_length, in_unit, in_aggregator  where a copy ends, by data_length and by what stands at data_offset
+--   in_most                            never past the end of the sample
+--   end_in                             a copy without 25 to 27 ends where it is said to
 use Prim.Native.Nat.{ℕ, ◌+◌, ◌≤◌}
 use mathlib.Core.Path.{◌≡◌, ap, sym, ◌∙◌}
 use mathlib.Core.Bool.{true, false}

@@ -1,8 +1,8 @@
 -- Units that are no aggregators do not overlap, so their sizes add to no more than the bytes that they stand in. For any L. Assumes nothing.
 --
---   units_apart      in a well-formed sample each unit that is no aggregator ends before the next one starts
---   sizes_fit        units that do not overlap, with their length fields, fit where they stand
---   copied_apart, copied_size_lem    so do those of a copy
+--   units_apart                    in a well-formed sample each unit that is no aggregator ends before the next one starts
+--   sizes_fit                      units that do not overlap, with their length fields, fit where they stand
+--   copied_apart, copied_size_lem  so do those of a copy
 use Prim.Native.Nat.{ℕ, ◌+◌, ◌-◌, ◌≤◌}
 use mathlib.Core.Path.{◌≡◌, refl}
 use mathlib.Core.List.Memᴰ

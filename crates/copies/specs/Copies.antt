@@ -1,18 +1,18 @@
 -- What an extractor copies of the sample z that it names, by its data_offset o and its data_length n (01, 'Resolving'; 02, [4]; B.2.1,
 -- B.3.3). It starts at a top-level unit, or at one that an aggregator includes, and ends on a border of the units beside that one.
 --
---   without_aggregators z ps     units as they are delivered
+--   without_aggregators z ps    units as they are delivered
 --   includes z p q              whether the aggregator at p includes the unit at q
---   included_border z p q        whether q is a border of the units that it includes
---   copy_starts z o              whether a copy may start at o
---   copy_end, copy_ends           where it ends; whether it may end there
+--   included_border z p q       whether q is a border of the units that it includes
+--   copy_starts z o             whether a copy may start at o
+--   copy_end, copy_ends         where it ends; whether it may end there
 --   copied                      the units in it
---   form_fault z                 25
---   start_fault z o, end_fault    26; 27
---   border_fault                 the one, then the other
---   chain_fault z qs             28
---   copy_fault                   25 to 28
---   copy_units                   what a copy delivers: its units, or nothing where it is refused
+--   form_fault z                25
+--   start_fault z o, end_fault  26; 27
+--   border_fault                the one, then the other
+--   chain_fault z qs            28
+--   copy_fault                  25 to 28
+--   copy_units                  what a copy delivers: its units, or nothing where it is refused
 use Rattle.std.specs.Prelude.{ℕ, ◌+◌, List, [], Bool, not, ◌||◌, ◌&&◌}
 use Rattle.words.specs.Tests.{◌≤?◌, ◌<?◌, ◌≡?◌, pick, ◌when◌else◌}
 use Rattle.words.specs.Refusals.{◌if◌, ◌or_else◌}

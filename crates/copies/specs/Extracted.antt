@@ -1,11 +1,11 @@
 -- A unit that an extractor stands for, as a part of the sample z that it names (01, 'How to write each place'), on any bytes. Nothing is
 -- judged here: of an extractor without a refusal these are the units of its copy (proofs/Plain).
 --
---   unit_bytes z q           the bytes of the unit at q, without its length field
---   is_plain z q             whether the unit at q is no aggregator and no extractor, and lies in the sample
---   plain_units z a e        the units from a up to e that are
---   copied_unit z o n k      the kth of them, from 1, in a copy; empty where there is none
---   extracted x p z k       the kth unit that the extractor at p of the sample x stands for; empty where there is none
+--   unit_bytes z q       the bytes of the unit at q, without its length field
+--   is_plain z q         whether the unit at q is no aggregator and no extractor, and lies in the sample
+--   plain_units z a e    the units from a up to e that are
+--   copied_unit z o n k  the kth of them, from 1, in a copy; empty where there is none
+--   extracted x p z k    the kth unit that the extractor at p of the sample x stands for; empty where there is none
 use Rattle.std.specs.Prelude.{ℕ, ◌+◌, List, [], map, Bool, not, ◌&&◌}
 use Rattle.words.specs.Tests.{◌≤?◌}
 use Rattle.words.specs.Lists.{keep, nth}

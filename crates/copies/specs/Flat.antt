@@ -1,11 +1,11 @@
 -- All units of a well-formed sample as one walk, front to back (01, 'Units in a sample'): after an aggregator's header and additional_bytes
 -- comes the first unit that it includes, after any other unit the next one; the last included unit ends where its aggregator ends.
 --
---   flat_step x p           the place after p in that walk
---   flat_places x a e       the places of units from a up to e, included ones too
---   units_between x a e     the same without aggregators
---   UnitBorder x q         q is the start of a unit, top-level or included, or the end of the sample
---   BetweenBorders x a e   the sample is well formed, and a and e are such borders of it
+--   flat_step x p         the place after p in that walk
+--   flat_places x a e     the places of units from a up to e, included ones too
+--   units_between x a e   the same without aggregators
+--   UnitBorder x q        q is the start of a unit, top-level or included, or the end of the sample
+--   BetweenBorders x a e  the sample is well formed, and a and e are such borders of it
 use Rattle.std.specs.Prelude.{ℕ, zero, suc, ◌-◌, ◌≤◌, ◌≡◌, List, [], ◌∷◌, ◌⊎◌}
 use Rattle.words.specs.Tests.{◌≤?◌, pick, ◌when◌else◌}
 use Rattle.words.specs.Refusals.{ok}

@@ -1,7 +1,7 @@
 -- Where a copy ends, for code that goes over it unit by unit, on any bytes.
 --
---   capped e p           p, or e where p lies past it
---   copy_end_in z o n      where the copy ends, or the end of the sample where it would end past it
+--   capped e p         p, or e where p lies past it
+--   copy_end_in z o n  where the copy ends, or the end of the sample where it would end past it
 use Rattle.std.specs.Prelude.{ℕ}
 use Rattle.words.specs.Tests.{◌<?◌, ◌when◌else◌}
 use Rattle.units.specs.Units.{Sample, end}

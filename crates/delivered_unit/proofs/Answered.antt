@@ -1,13 +1,13 @@
 -- What the calls for one delivered unit answer, step by step as the code takes them. Assumes nothing.
 --
---   find_refused, find_past, find_good     one delivered unit, with where it comes from
---   span_answer, span_answer_lem                without that, it is the unit that is asked for
---   unit_inside                            a unit that a good sample delivers lies in its sample
---   found_good, found_mem                  a unit that was found: the sample is good, and delivers it
---   found_inside, found_there              it lies in its sample, and that is one of the recording
---   part_same                              it is the part of the bundle that is promised
---   unit_filled, part_filled, place_filled    the calls by a table that was filled
---   starts_inside                          samples start within the bundle
+--   find_refused, find_past, find_good      one delivered unit, with where it comes from
+--   span_answer, span_answer_lem            without that, it is the unit that is asked for
+--   unit_inside                             a unit that a good sample delivers lies in its sample
+--   found_good, found_mem                   a unit that was found: the sample is good, and delivers it
+--   found_inside, found_there               it lies in its sample, and that is one of the recording
+--   part_same                               it is the part of the bundle that is promised
+--   unit_filled, part_filled, place_filled  the calls by a table that was filled
+--   starts_inside                           samples start within the bundle
 use Prim.Native.Nat.{ℕ, ◌≤◌, ◌<◌}
 use mathlib.Core.Path.{◌≡◌, refl, ap, sym, ◌∙◌}
 use mathlib.Core.List.Memᴰ

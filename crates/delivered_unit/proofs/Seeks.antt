@@ -1,7 +1,7 @@
 -- A unit found by its number. Assumes nothing.
 --
---   Seeks, seeks_start     the ith unit is the one at left after those passed
---   seeks_take, seeks_found, seeks_none    one unit more; the unit at hand; there is none
+--   Seeks, seeks_start                   the ith unit is the one at left after those passed
+--   seeks_take, seeks_found, seeks_none  one unit more; the unit at hand; there is none
 use Prim.Native.Nat.{ℕ, suc, ◌+◌, ◌-◌, ◌<◌}
 use mathlib.Core.Path.{◌≡◌, refl}
 use mathlib.Core.List.{List, [], ◌∷◌, ◌++◌}

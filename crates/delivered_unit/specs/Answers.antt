@@ -3,8 +3,8 @@
 --   unit_answer_of          one delivered unit
 --   place_answer_of         where in the bundle it stands
 --   resolve_delivery r n k the kth unit that sample n delivers, with where it comes from
---   delivery_answer_of      the code's answer for that
---   found_bytes r a        the bytes of a unit that was found; empty if refused
+--   delivery_answer_of  the code's answer for that
+--   found_bytes r a     the bytes of a unit that was found; empty if refused
 use Rattle.std.specs.Prelude.{List, [], ℕ}
 use Rattle.words.specs.Refusals.{Answer, refused, ok}
 use Rattle.words.specs.Lists.{nth}

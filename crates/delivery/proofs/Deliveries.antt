@@ -1,13 +1,13 @@
 -- What a sample delivers, each unit with where it comes from. Assumes nothing.
 --
---   deliveries_spans                          without that, it is what the sample delivers
---   deliveries_unit, -aggregator, -extractor  what is delivered for a unit
---   all_size, all_none, -one, -append          the bytes of all
---   own_size, copied_size                       own and copied bytes as a loop adds them up
---   own_none, -add, -append, copied_none, -add, -append    none, a unit more, and some more
---   copied_own, copied_all, copies_length     units that are copied: none of their bytes is own; how many they are
---   parts_one                                 all bytes are own or copied
---   deliveries_own, deliveries_copied         own and copied bytes of what a sample delivers
+--   deliveries_spans                                     without that, it is what the sample delivers
+--   deliveries_unit, -aggregator, -extractor             what is delivered for a unit
+--   all_size, all_none, -one, -append                    the bytes of all
+--   own_size, copied_size                                own and copied bytes as a loop adds them up
+--   own_none, -add, -append, copied_none, -add, -append  none, a unit more, and some more
+--   copied_own, copied_all, copies_length                units that are copied: none of their bytes is own; how many they are
+--   parts_one                                            all bytes are own or copied
+--   deliveries_own, deliveries_copied                    own and copied bytes of what a sample delivers
 use Prim.Native.Nat.{ℕ, suc, ◌+◌}
 use mathlib.Core.Path.{◌≡◌, refl, ap, sym, ◌∙◌}
 use mathlib.Core.List.{List, [], ◌∷◌, ◌++◌, map}

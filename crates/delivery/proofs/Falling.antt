@@ -1,11 +1,11 @@
 -- Each step makes less of what is left: so steps end, and what they deliver is bounded. Assumes nothing.
 --
---   longest ss                     the most bytes that one of the samples has
---   bound r x c                    how much is left at most
---   longest_most, longest_least, content_longest    the longest sample
---   Falls                          what is left after a step is less, by a unit's bytes and more
---   falls                          every step falls
---   bound_start                    what is left at the start, at most
+--   longest ss                                    the most bytes that one of the samples has
+--   bound r x c                                   how much is left at most
+--   longest_most, longest_least, content_longest  the longest sample
+--   Falls                                         what is left after a step is less, by a unit's bytes and more
+--   falls                                         every step falls
+--   bound_start                                   what is left at the start, at most
 use Prim.Native.Nat.{ℕ, suc, ◌+◌, ◌-◌, ◌*◌, ◌≤◌, ◌<◌}
 use mathlib.Core.Path.{◌≡◌, refl}
 use mathlib.Core.List.Memᴰ

@@ -1,6 +1,6 @@
 -- A walk over all units of sample n, which is x and well formed: what is delivered for them, and their refusals. Assumes nothing.
 --
---   ahead, remaining, judged_from                the units from p on, what is delivered for them, and their first refusal
+--   ahead, remaining, judged_from               the units from p on, what is delivered for them, and their first refusal
 --   ahead_skip, ahead_take                      the units from p on: p, and those after it
 --   remaining_end, -skip, -take, -start         what is delivered for them; at the start, all that the sample delivers
 --   from_end, -skip, -take, -start              their first refusal; at the start, the refusals of the sample

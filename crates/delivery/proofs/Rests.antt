@@ -1,12 +1,12 @@
 -- What is left to be delivered from a cursor: the units of its steps, one after the other, up to the end. Any recording, any cursor.
 -- Assumes nothing.
 --
---   rest r n x c                       what is left
---   rest_after s go                     the same by a step s, and by what is left after it
---   rest_step                          what is left is what the step says, and what is left after it
---   rest_done, rest_moved, rest_unit   the same, by the step's answer
---   moved_less, unit_less              less is left after a step
---   rest_few                           the units left and their bytes are no more than the bound: so counts and sizes fit
+--   rest r n x c                      what is left
+--   rest_after s go                   the same by a step s, and by what is left after it
+--   rest_step                         what is left is what the step says, and what is left after it
+--   rest_done, rest_moved, rest_unit  the same, by the step's answer
+--   moved_less, unit_less             less is left after a step
+--   rest_few                          the units left and their bytes are no more than the bound: so counts and sizes fit
 use Prim.Native.Nat.{ℕ, zero, suc, ◌+◌, ◌≤◌, ◌<◌}
 use mathlib.Core.Path.{◌≡◌, refl, ◌∙◌}
 use mathlib.Core.List.{List, [], ◌∷◌}

@@ -1,13 +1,13 @@
 -- What sample n of a recording r delivers (01, 'Resolving'), each unit with where it comes from.
 --
---   Delivery                 a delivered unit, and where it comes from: the sample itself; or a copy, by its extractor's place and a number
---   span_for, unit_for         the code's units in these words
---   spans ds                 the units alone
---   copies_from p k us        the units us of the copy of the extractor at p, numbered from k on
---   deliveries_at r n p       what is delivered for the unit at p
---   deliveries r n           what is delivered for the sample
---   no_delivery               there is no unit 0
---   own_part, copied_part      the bytes of a unit that stands in the sample itself, and of one that is copied; 0 for the other
+--   Delivery               a delivered unit, and where it comes from: the sample itself; or a copy, by its extractor's place and a number
+--   span_for, unit_for     the code's units in these words
+--   spans ds               the units alone
+--   copies_from p k us     the units us of the copy of the extractor at p, numbered from k on
+--   deliveries_at r n p    what is delivered for the unit at p
+--   deliveries r n         what is delivered for the sample
+--   no_delivery            there is no unit 0
+--   own_part, copied_part  the bytes of a unit that stands in the sample itself, and of one that is copied; 0 for the other
 use Rattle.std.specs.Prelude.{ℕ, ◌+◌, List, [], ◌∷◌, map}
 use Rattle.words.specs.Tests.{pick}
 use Rattle.words.specs.Lists.{each}

@@ -2,16 +2,16 @@
 -- here: where no unit lies in the sample, where an extractor names none, and at an extractor in a copy, nothing is left. In a good sample,
 -- from the start on, that is at its end.
 --
---   start                  the cursor before the first unit
---   track_for y n           what the track of sample n says of it, as the code has it
---   copy_of r m p f         the copy of sample m by an extractor at p with the fields f
---   number_after count q    the number of a unit in its copy, after count others
+--   start                     the cursor before the first unit
+--   track_for y n             what the track of sample n says of it, as the code has it
+--   copy_of r m p f           the copy of sample m by an extractor at p with the fields f
+--   number_after count q      the number of a unit in its copy, after count others
 --   with_copy_at, with_place  the cursor with another place in the copy, or in the own sample
---   copy_step s c           a step in the copy, of a sample with the bytes s
---   replaced_by r p q f m   a step at an extractor at p with the fields f that names m; the sample goes on at q
---   extractor_step_by        the same, if it is one
---   own_step r n x c        a step in the own sample
---   step_of r n x c         the step: in the copy until that is at its end, then in the own sample
+--   copy_step s c             a step in the copy, of a sample with the bytes s
+--   replaced_by r p q f m     a step at an extractor at p with the fields f that names m; the sample goes on at q
+--   extractor_step_by         the same, if it is one
+--   own_step r n x c          a step in the own sample
+--   step_of r n x c           the step: in the copy until that is at its end, then in the own sample
 use Rattle.std.specs.Prelude.{ℕ, ◌+◌, List}
 use Rattle.words.specs.Tests.{◌<?◌, pick}
 use Rattle.numbers.specs.declared.ByteOffset.{ByteOffset}

@@ -1,19 +1,19 @@
 -- What is promised of a table t beside a bundle b of the first layout. `meaning b ≡ ok r` says that b is accepted and means the recording r;
 -- `table_after first_layout b t` is the table that `fill_table` leaves, `filling first_layout b (length t)` its answer. Assumes nothing.
 --
---   tabled             an accepted bundle's recording is one that a table holds
---   table_recording    a table that was filled from an accepted bundle gives its recording
---   table_lays_out     and says its layout
---   table_ranges       and each track's samples
---   table_starts       and where each sample starts in the bundle
---   table_kept_counts    its kept counts are 0
---   table_refused      after a refusal the table is as it was
---   table_room         `table_most` numbers are enough for every accepted bundle
---   table_refuses, says_done    what the answer of filling says: with `table_most` numbers a refusal is the bundle's own
---   never_short        which is never 29
---   table_short, table_accepted, table_means    a table that was filled: the bundle is not too long, is accepted, and the table gives its recording
---   any_range          in any table, a track's range is the track's samples in the layout that the table says
---   any_kept_count           in any table, a count that is kept changes nothing that the table says or gives
+--   tabled                                    an accepted bundle's recording is one that a table holds
+--   table_recording                           a table that was filled from an accepted bundle gives its recording
+--   table_lays_out                            and says its layout
+--   table_ranges                              and each track's samples
+--   table_starts                              and where each sample starts in the bundle
+--   table_kept_counts                         its kept counts are 0
+--   table_refused                             after a refusal the table is as it was
+--   table_room                                `table_most` numbers are enough for every accepted bundle
+--   table_refuses, says_done                  what the answer of filling says: with `table_most` numbers a refusal is the bundle's own
+--   never_short                               which is never 29
+--   table_short, table_accepted, table_means  a table that was filled: the bundle is not too long, is accepted, and the table gives its recording
+--   any_range                                 in any table, a track's range is the track's samples in the layout that the table says
+--   any_kept_count                            in any table, a count that is kept changes nothing that the table says or gives
 use Prim.Native.Nat.{ℕ, suc, ◌+◌, ◌-◌, ◌≤◌, ◌<◌}
 use mathlib.Core.Path.{◌≡◌, refl, ap, sym, ◌∙◌}
 use mathlib.Core.Bool.{false}

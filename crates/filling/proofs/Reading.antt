@@ -1,8 +1,8 @@
 -- A table that was filled from a bundle, by any reader of bundles. Assumes nothing.
 --
---   table_recording, table_lays_out, table_ranges, table_starts, table_kept_counts    what the table says, for a recording that a table holds
---   held_room, held_short, held_same    a recording for whose table there is room, or none; room for any
---   untouched, refused_answer, done_answer    what the answer says
+--   table_recording, table_lays_out, table_ranges, table_starts, table_kept_counts  what the table says, for a recording that a table holds
+--   held_room, held_short, held_same                                                a recording for whose table there is room, or none; room for any
+--   untouched, refused_answer, done_answer                                          what the answer says
 use Prim.Native.Nat.{ℕ, zero, suc, ◌+◌, ◌-◌, ◌*◌, ◌≤◌, ◌<◌}
 use mathlib.Core.Path.{◌≡◌, refl, ap, sym, ◌∙◌}
 use mathlib.Core.List.{List}

@@ -1,11 +1,11 @@
 -- The numbers of the table of a recording, and that they give the recording. Assumes nothing.
 --
---   Tabled                     what is asked of a recording, of a bundle and of where the samples start in it, for a table to hold it
---   rows_cell, rows_before, rows_after    a number of a row that was written, and of another
---   counts_cell, track_cell, reference_cell, sample_cell_lem    the numbers of a filled table
---   filled_layout              it says the recording's layout
---   filled_contents            and with the bundle gives its samples' bytes
---   filled_recording           and so the recording
+--   Tabled                                                    what is asked of a recording, of a bundle and of where the samples start in it, for a table to hold it
+--   rows_cell, rows_before, rows_after                        a number of a row that was written, and of another
+--   counts_cell, track_cell, reference_cell, sample_cell_lem  the numbers of a filled table
+--   filled_layout                                             it says the recording's layout
+--   filled_contents                                           and with the bundle gives its samples' bytes
+--   filled_recording                                          and so the recording
 use Prim.Native.Nat.{ℕ, zero, suc, ◌+◌, ◌-◌, ◌*◌, ◌≤◌, ◌<◌}
 use mathlib.Core.Path.{◌≡◌, refl, ap, ap₂, sym, ◌∙◌}
 use mathlib.Core.List.{List, [], ◌∷◌, ◌++◌, map, Memᴰ}

@@ -1,11 +1,11 @@
 -- The rows of a table that is filled from a bundle, one after the other. Assumes nothing.
 --
---   rows_none, rows_next, rows_put, rows_kept   no row yet; one row more; the length stays
---   counts                                      the counts of the recording
---   track_row_lem, reference_row_lem, sample_row_lem        the numbers of a row, as the bundle has them
---   before_on, before_off, before_most, before_grow    how many samples stand before a track's, found by going on
---   track_sound, reference_sound, entry_sound   an entry of an accepted bundle, by its number
---   start_of, start_first, start_next, start_inside    where a sample's bytes start
+--   rows_none, rows_next, rows_put, rows_kept         no row yet; one row more; the length stays
+--   counts                                            the counts of the recording
+--   track_row_lem, reference_row_lem, sample_row_lem  the numbers of a row, as the bundle has them
+--   before_on, before_off, before_most, before_grow   how many samples stand before a track's, found by going on
+--   track_sound, reference_sound, entry_sound         an entry of an accepted bundle, by its number
+--   start_of, start_first, start_next, start_inside   where a sample's bytes start
 use Prim.Native.Nat.{ℕ, zero, suc, ◌+◌, ◌-◌, ◌*◌, ◌%◌, ◌≤◌, ◌<◌}
 use mathlib.Core.Path.{◌≡◌, refl, ap, sym, ◌∙◌}
 use mathlib.Core.List.{List, [], ◌∷◌, ◌++◌, map}

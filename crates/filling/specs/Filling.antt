@@ -1,16 +1,16 @@
 -- The table of a recording: which numbers are written over a lent table t. All others stay as they were. The recording is what a reader
 -- makes of a bundle, with where in the bundle each sample's bytes start.
 --
---   write_rows t row cells n    the rows of 1 to n over t, the first of them at a row
---   count_cells y               the counts
---   track_cells y k             of track k: its kind, its length size, how many samples the tracks before it have
---   reference_cells y i         of reference i: from-track, to-track
---   sample_cells r starts n     of sample n: its decode time, where its bytes start, how many they are
---   table_of r starts t         the whole table
---   needed r                   how many numbers the table of a recording needs
---   held room a                the answer a, but 29 at 0 where its recording's table needs more than the room
---   filling reader b room      the answer: a refusal, or done
---   table_after reader b t      what is left in t: t itself after a refusal
+--   write_rows t row cells n  the rows of 1 to n over t, the first of them at a row
+--   count_cells y             the counts
+--   track_cells y k           of track k: its kind, its length size, how many samples the tracks before it have
+--   reference_cells y i       of reference i: from-track, to-track
+--   sample_cells r starts n   of sample n: its decode time, where its bytes start, how many they are
+--   table_of r starts t       the whole table
+--   needed r                  how many numbers the table of a recording needs
+--   held room a               the answer a, but 29 at 0 where its recording's table needs more than the room
+--   filling reader b room     the answer: a refusal, or done
+--   table_after reader b t    what is left in t: t itself after a refusal
 use Rattle.std.specs.Prelude.{ℕ, ◌*◌, List, [], ◌∷◌, length}
 use Rattle.words.specs.Tests.{◌<?◌}
 use Rattle.words.specs.RefusalNumbers.{output_too_long}

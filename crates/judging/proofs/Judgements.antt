@@ -1,10 +1,10 @@
 -- What a judgement of a sample says. Assumes nothing.
 --
 --   form_long, form_none, form_in_lem  the form: of a bundle that is too long; 30 for the number; a number without it
---   form_refused, refused_judged   a form that is refused: so is any call on a good sample, and the judgement
---   form_good, good_judged         a form that is not: the bundle is not too long, the number is good, and the sample is judged
---   judged_refused                 30 or 14 to 28: so is any call on a good sample
---   judged_number, judged_good     a sample that is good, and how much it delivers
+--   form_refused, refused_judged       a form that is refused: so is any call on a good sample, and the judgement
+--   form_good, good_judged             a form that is not: the bundle is not too long, the number is good, and the sample is judged
+--   judged_refused                     30 or 14 to 28: so is any call on a good sample
+--   judged_number, judged_good         a sample that is good, and how much it delivers
 --   judged_size_lem, judged_most       the length of its output, and that it fits a word
 use Prim.Native.Nat.{ℕ, ◌+◌, ◌*◌, ◌≤◌, ◌<◌}
 use mathlib.Core.Path.{◌≡◌, refl, ap, sym, ◌∙◌}

@@ -1,13 +1,13 @@
 -- What the code answers on a bundle and any table, over the recording that they give.
 --
---   amount_for r n        how much sample n delivers
---   judgement r n        14 to 28 of sample n, or how much it delivers
---   on_sample_in b t n a   by a bundle and any table beside it: a bundle too long, 30 for the number, else a
---   unfit b t            a bundle too long, or a table too short for any bundle
---   on_range_in b t first last a    these, 30 for a range of samples, else a
---   judgement_in b t n    the judgement of sample n so
---   form_in b t n         its form so: 14 to 22
---   answer_of             the code's answer in these words
+--   amount_for r n                how much sample n delivers
+--   judgement r n                 14 to 28 of sample n, or how much it delivers
+--   on_sample_in b t n a          by a bundle and any table beside it: a bundle too long, 30 for the number, else a
+--   unfit b t                     a bundle too long, or a table too short for any bundle
+--   on_range_in b t first last a  these, 30 for a range of samples, else a
+--   judgement_in b t n            the judgement of sample n so
+--   form_in b t n                 its form so: 14 to 22
+--   answer_of                     the code's answer in these words
 use Rattle.std.specs.Prelude.{ℕ, List, Bool, ◌||◌, length}
 use Rattle.words.specs.Tests.{◌<?◌}
 use Rattle.words.specs.RefusalNumbers.{bundle_too_long}

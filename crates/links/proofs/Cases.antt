@@ -1,18 +1,18 @@
 -- The code of this crate, case by case, in the layout that any table says: for its proofs alone. It follows the definitions wherever
 -- the base is, also in a table whose times do not rise. Assumes nothing.
 --
---   range_most                                the samples of a track end within the limit
---   range_at, range_past                      the sample of a number within a track, and of one that none has
---   Searching                                 the search after some rounds
---   searching_begun, searching_after, searching_before, searching_done    begun; one round more, by whether the middle passes; done
---   base_searched                             the search for the base, in the table's times
---   base_in_range                             the base is at most how many samples the range of the track has
---   base_track                                where there is a base there is a track
---   steps_ahead, steps_before, steps_back     signed steps from the base
---   link_zero, link_past                      23
---   linked_by                                 the linked track, by the own one
---   named_no_base, named_at                   the sample named, by the base
---   name_link, name_nothing, name_sample      the answer, by its parts
+--   range_most                                                          the samples of a track end within the limit
+--   range_at, range_past                                                the sample of a number within a track, and of one that none has
+--   Searching                                                           the search after some rounds
+--   searching_begun, searching_after, searching_before, searching_done  begun; one round more, by whether the middle passes; done
+--   base_searched                                                       the search for the base, in the table's times
+--   base_in_range                                                       the base is at most how many samples the range of the track has
+--   base_track                                                          where there is a base there is a track
+--   steps_ahead, steps_before, steps_back                               signed steps from the base
+--   link_zero, link_past                                                23
+--   linked_by                                                           the linked track, by the own one
+--   named_no_base, named_at                                             the sample named, by the base
+--   name_link, name_nothing, name_sample                                the answer, by its parts
 use Prim.Native.Nat.{ℕ, ◌+◌, ◌-◌, ◌≤◌, ◌<◌}
 use mathlib.Core.Path.{◌≡◌, refl, ap, ◌∙◌}
 use mathlib.Core.Bool.{Bool, true, false}

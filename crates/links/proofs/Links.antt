@@ -1,19 +1,19 @@
 -- Which sample is named, in any layout, whether its times rise or not. Assumes nothing.
 --
---   link_none, link_good      no 23 exactly if track_ref_index is from 1 to the last
---   Link, linked_reference    then the linked track is that of a reference of the own track
---   in_track, track_in_lem        the samples of a track: those that there are, of that track
---   track_rise                they rise
---   track_fewer               fewer than there are where one is of another track
---   search_without_track, searched    the search for the base, without a track and in one
---   search_rounds             its rounds are at most the binary digits of how many samples the track has
---   base_found, base_most     the base is what it finds, and one of the track's samples, or 0
---   named_baseless, named_stepped    the sample named: without a base none, else sample_offset steps from it
---   linked_none               with 23 there is no linked track, and no sample is named
---   named_by_search           the sample named, by what the search finds
---   named_there               a sample that is named is there, in the linked track
---   name_none, name_good      no 23, no 24, both ways
---   name_refusal              a refusal is 23 or 24
+--   link_none, link_good            no 23 exactly if track_ref_index is from 1 to the last
+--   Link, linked_reference          then the linked track is that of a reference of the own track
+--   in_track, track_in_lem          the samples of a track: those that there are, of that track
+--   track_rise                      they rise
+--   track_fewer                     fewer than there are where one is of another track
+--   search_without_track, searched  the search for the base, without a track and in one
+--   search_rounds                   its rounds are at most the binary digits of how many samples the track has
+--   base_found, base_most           the base is what it finds, and one of the track's samples, or 0
+--   named_baseless, named_stepped   the sample named: without a base none, else sample_offset steps from it
+--   linked_none                     with 23 there is no linked track, and no sample is named
+--   named_by_search                 the sample named, by what the search finds
+--   named_there                     a sample that is named is there, in the linked track
+--   name_none, name_good            no 23, no 24, both ways
+--   name_refusal                    a refusal is 23 or 24
 use Prim.Native.Nat.{ℕ, ◌≤◌, ◌<◌}
 use mathlib.Core.Path.{◌≡◌, refl, ap}
 use mathlib.Core.List.{Memᴰ}

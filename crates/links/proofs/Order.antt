@@ -1,9 +1,9 @@
 -- Where track numbers never fall, the samples of a track are neighbours, and signed steps from the base are steps in sample numbers.
 -- Assumes nothing.
 --
---   ordered_rise, bundle_rise    the samples of an accepted bundle are so
---   before_test, up_to_test       which samples stand in tracks before k, and up to k
---   samples_range                the samples of track k are those after `before`, up to `up_to`
+--   ordered_rise, bundle_rise  the samples of an accepted bundle are so
+--   before_test, up_to_test    which samples stand in tracks before k, and up to k
+--   samples_range              the samples of track k are those after `before`, up to `up_to`
 -- In any layout:
 --   base_rising                  where the track's times rise, the base is the last sample of the track at or before, by its number there
 -- and where it is that:
@@ -11,12 +11,12 @@
 --   base_last                    the base is at or before, and no later sample of the track is
 --   base_times, later_without    the same in times
 -- Where besides times rise, as in every accepted bundle:
---   base_is                      the base is the last sample of the track at or before, by its number there
---   base_number                  the base by its number in the recording
---   named_by_scan, fault_by_scan    the sample named, and 23 and 24, by the last sample at or before
---   named_up, named_past         sample_offset 0 to 127: that many samples after the base, or none
---   named_down, named_short      sample_offset 128 to 255, which is less by 256: that many samples before the base, or none
---   named_steps                  the four together
+--   base_is                       the base is the last sample of the track at or before, by its number there
+--   base_number                   the base by its number in the recording
+--   named_by_scan, fault_by_scan  the sample named, and 23 and 24, by the last sample at or before
+--   named_up, named_past          sample_offset 0 to 127: that many samples after the base, or none
+--   named_down, named_short       sample_offset 128 to 255, which is less by 256: that many samples before the base, or none
+--   named_steps                   the four together
 use Prim.Native.Nat.{ℕ, ◌+◌, ◌-◌, ◌≤◌, ◌<◌}
 use mathlib.Core.Path.{◌≡◌, sym, ◌∙◌}
 use mathlib.Core.List.{List, [], map, Memᴰ}

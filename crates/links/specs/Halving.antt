@@ -1,8 +1,8 @@
 -- The search by halving (02, [5]), among numbers of which each passes a test or does not.
 --
---   middle low high             of the numbers after low, up to high: the middle one, of two the earlier
---   ended low, one_round_more r   the result when none is left; a result with one round more
---   halving passes low high     the search when the numbers after low, up to high, are left: what it finds, and its rounds
+--   middle low high              of the numbers after low, up to high: the middle one, of two the earlier
+--   ended low, one_round_more r  the result when none is left; a result with one round more
+--   halving passes low high      the search when the numbers after low, up to high, are left: what it finds, and its rounds
 --   halving_in n ..              the same, in at most n rounds
 --   binary_digits n              how many binary digits n has; 0 has none
 use Rattle.std.specs.Prelude.{ℕ, zero, suc, ◌+◌, ◌-◌, ◌/◌, ◌^◌, Bool}

@@ -1,15 +1,15 @@
 -- Which sample an extractor names (01, 'Resolving', first point; B.3.3). It goes by the layout y alone: no sample's bytes matter.
 -- n is the number of the extractor's own sample. 0 is no track and no sample.
 --
---   Signed, signed offset          sample_offset: a number of samples ahead or back
---   stepped b s                    that many samples from the bth of a track; 0 is none
---   link_fault n index              23
---   linked_track n index            the linked track; 0 is none
---   at_or_before m n                 sample m stands at or before sample n, by decode time
---   base_search n track             the search for the base among the samples of the linked track
---   base n track                   the base, by its number within the linked track; 0 is none
---   sample_named n index offset     the sample named; 0 is none
---   name_fault n index offset       23, 24
+--   Signed, signed offset        sample_offset: a number of samples ahead or back
+--   stepped b s                  that many samples from the bth of a track; 0 is none
+--   link_fault n index           23
+--   linked_track n index         the linked track; 0 is none
+--   at_or_before m n             sample m stands at or before sample n, by decode time
+--   base_search n track          the search for the base among the samples of the linked track
+--   base n track                 the base, by its number within the linked track; 0 is none
+--   sample_named n index offset  the sample named; 0 is none
+--   name_fault n index offset    23, 24
 use Rattle.std.specs.Prelude.{ℕ, ◌+◌, ◌-◌, Bool, length}
 use Rattle.words.specs.Tests.{◌<?◌, ◌≤?◌, ◌≡?◌, out_of, pick, ◌when◌else◌}
 use Rattle.words.specs.Refusals.{◌if◌, ◌or_else◌}

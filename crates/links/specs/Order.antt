@@ -1,14 +1,14 @@
 -- What is needed of a layout so that the samples of a track are neighbours, and the base is where the laws say. Every accepted bundle's
 -- has it (6).
 --
---   TracksRise y     track numbers never fall
---   TrackRises y k   within track k times strictly rise
---   TimesRise y      track numbers never fall, tracks are numbered from 1, and within each track times strictly rise
---   before y k       the last sample of the tracks before track k; 0 is none
---   up_to y k         the last sample of the tracks up to track k
---   base_sample       the base, by its number in the recording; 0 is none
---   Base n k         there is a base in track k: it is at or before, and no later sample of the track is
---   Steps            the sample named, by signed steps from the base
+--   TracksRise y    track numbers never fall
+--   TrackRises y k  within track k times strictly rise
+--   TimesRise y     track numbers never fall, tracks are numbered from 1, and within each track times strictly rise
+--   before y k      the last sample of the tracks before track k; 0 is none
+--   up_to y k       the last sample of the tracks up to track k
+--   base_sample     the base, by its number in the recording; 0 is none
+--   Base n k        there is a base in track k: it is at or before, and no later sample of the track is
+--   Steps           the sample named, by signed steps from the base
 use Rattle.std.specs.Prelude.{ℕ, ◌+◌, ◌-◌, ◌≤◌, ◌<◌, ◌≡◌, true, false}
 use mathlib.Core.List.{Memᴰ}
 use Rattle.words.specs.Tests.{◌<?◌, ◌≤?◌}

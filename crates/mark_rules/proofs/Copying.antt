@@ -1,10 +1,10 @@
 -- A copy of a well-formed sample by the states at its start and at its end. Assumes nothing.
 --
 --   amount_refused, amount_units    a refused copy, and one that is not
---   starts_state       26 by the state at data_offset
---   end_states         27 by both states
---   copy_states        26 to 28, or the copy counted
---   states_refused, states_counted    the same, by the refusal
+--   starts_state                    26 by the state at data_offset
+--   end_states                      27 by both states
+--   copy_states                     26 to 28, or the copy counted
+--   states_refused, states_counted  the same, by the refusal
 use Prim.Native.Nat.{ℕ, ◌-◌, ◌≤◌, ◌<◌}
 use mathlib.Core.Path.{◌≡◌, ap, sym, ◌∙◌}
 use mathlib.Core.List.{map, Memᴰ}

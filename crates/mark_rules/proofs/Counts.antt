@@ -1,12 +1,12 @@
 -- What a walk has met from one state to another. Assumes nothing.
 --
---   Met, met_none, -entered, -passed    the state e is where the walk from a stands when it has met the units qs
---   reach_met              a walk over a stretch up to e stands at e, and has met what lies between
---   extractors_none, -some    no extractor among units exactly if none is counted
---   met_between            two states say what the walk has met between
---   state_met              the states at two borders
---   state_counts           the state at a border counts the units before it
---   state_next             the state after a unit that is no aggregator
+--   Met, met_none, -entered, -passed  the state e is where the walk from a stands when it has met the units qs
+--   reach_met                         a walk over a stretch up to e stands at e, and has met what lies between
+--   extractors_none, -some            no extractor among units exactly if none is counted
+--   met_between                       two states say what the walk has met between
+--   state_met                         the states at two borders
+--   state_counts                      the state at a border counts the units before it
+--   state_next                        the state after a unit that is no aggregator
 use Prim.Native.Nat.{ℕ, zero, suc, ◌+◌, ◌-◌, ◌≤◌, ◌<◌}
 use mathlib.Core.Path.{◌≡◌, refl, ap, sym, ◌∙◌, subst}
 use mathlib.Core.List.{List, [], ◌∷◌, map}

@@ -1,15 +1,15 @@
 -- Where a walk over a well-formed sample stands: at a top-level border, or at a unit that an aggregator includes. Assumes nothing.
 --
---   border_top, border_next       a top-level border before the end is a top-level unit; where that ends is one
---   unit_border                   a top-level border is a border of units
---   no_border                     no top-level border lies in a unit
---   standing_unit                 before the end a unit stands there
---   standing_border               where a walk stands is a border of units
---   settled_front, -entered, -passed, -step    the state of a walk, and the next one
---   reach-settled, state_settled  the state at d
---   from_front                    a stretch from the start of the sample
---   border_state                  at a border of units the state stands
---   state_border                  and only there
+--   border_top, border_next                  a top-level border before the end is a top-level unit; where that ends is one
+--   unit_border                              a top-level border is a border of units
+--   no_border                                no top-level border lies in a unit
+--   standing_unit                            before the end a unit stands there
+--   standing_border                          where a walk stands is a border of units
+--   settled_front, -entered, -passed, -step  the state of a walk, and the next one
+--   reach-settled, state_settled             the state at d
+--   from_front                               a stretch from the start of the sample
+--   border_state                             at a border of units the state stands
+--   state_border                             and only there
 use Prim.Native.Nat.{ℕ, zero, suc, ◌-◌, ◌≤◌, ◌<◌}
 use mathlib.Core.Path.{◌≡◌, refl}
 use mathlib.Core.List.{Memᴰ}

@@ -2,9 +2,9 @@
 --
 --   copy_amount z o n       25 to 28, or how many units are copied and how many bytes they have
 --   starts_by z o a         whether a copy may start at o, by the state a at o
---   stands_at_end o d a e    whether the walk stands at d as a copy from o may end, by the states a at o and e at d
+--   stands_at_end o d a e   whether the walk stands at d as a copy from o may end, by the states a at o and e at d
 --   ends_by z o n a e       whether it may end where it ends, by the states a at its start and e at its end
---   between a e            28, or what the walk has met from a to e
+--   between a e             28, or what the walk has met from a to e
 --   copy_between z o n a e  26 to 28, or the copy counted, by these states
 use Rattle.std.specs.Prelude.{ℕ, ◌-◌, map, Bool, ◌&&◌, ◌||◌, length}
 use Rattle.words.specs.Tests.{◌≤?◌, ◌<?◌, ◌≡?◌, pick}

@@ -1,10 +1,10 @@
 -- The state of the walk over all units of a sample, included ones too (copies/specs/Flat), when it first comes to a place or past it.
 --
---   front            the state at the start
---   entered, passed  the state past the head of an aggregator; past another unit
+--   front             the state at the start
+--   entered, passed   the state past the head of an aggregator; past another unit
 --   state_step        the state one unit on
 --   reach_from d n s  the state after at most n steps from s, fewer if it stands at d or past it before
---   reach d s        the state that the walk from s is in when it first stands at d or past it
+--   reach d s         the state that the walk from s is in when it first stands at d or past it
 --   state_at d        the same from the front
 use Rattle.std.specs.Prelude.{ℕ, zero, suc, ◌+◌, ◌-◌}
 use Rattle.words.specs.Tests.{◌≤?◌, pick, ◌when◌else◌}

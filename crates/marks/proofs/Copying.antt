@@ -1,12 +1,12 @@
 -- A copy by the rows, as the code finds it; and that by the marks of a well-formed sample it is the copy. Assumes nothing.
 --
---   state_again, zero_again            from a state that stands at data_offset
---   offset_past, offset_wrong          26: past the end; the walk does not stand there
---   unit_long, unit_good               data_length 0 of a unit that is no aggregator
---   cover_long, cover_good             and of an aggregator
---   length_past, length_wrong, length_good    another data_length
---   marked_copy, unmarked_copy         by the marks; from the front
---   marks_copy                         by the rows that its marks were put in
+--   state_again, zero_again                 from a state that stands at data_offset
+--   offset_past, offset_wrong               26: past the end; the walk does not stand there
+--   unit_long, unit_good                    data_length 0 of a unit that is no aggregator
+--   cover_long, cover_good                  and of an aggregator
+--   length_past, length_wrong, length_good  another data_length
+--   marked_copy, unmarked_copy              by the marks; from the front
+--   marks_copy                              by the rows that its marks were put in
 use Prim.Native.Nat.{ℕ, ◌+◌, ◌-◌, ◌*◌, ◌/◌, ◌≤◌, ◌<◌}
 use mathlib.Core.Path.{◌≡◌, refl, ap, sym, ◌∙◌}
 use mathlib.Core.List.{List}

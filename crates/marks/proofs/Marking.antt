@@ -1,12 +1,12 @@
 -- A sample that is being marked, and the state at any place by the marks. Assumes nothing.
 --
---   upto_more, upto_length, upto_past    one mark more; the rows stay as many; past the end of the rows nothing is written
---   Marking, marking_start, -reach, -step, -end     a loop that has marked i blocks
---   by_front, by_past, by_row   the state at a place: from the front, or from the mark before it
---   state_small                 the numbers of a state of a sample that is not too long fit a row
---   marks_marked, marks_kept    what is marked is there; the rows before stay
---   few_steps                   the steps from the mark before a place
---   unmarked_state, marked_state    past the end of the rows, and by the marks, it is the state
+--   upto_more, upto_length, upto_past            one mark more; the rows stay as many; past the end of the rows nothing is written
+--   Marking, marking_start, -reach, -step, -end  a loop that has marked i blocks
+--   by_front, by_past, by_row                    the state at a place: from the front, or from the mark before it
+--   state_small                                  the numbers of a state of a sample that is not too long fit a row
+--   marks_marked, marks_kept                     what is marked is there; the rows before stay
+--   few_steps                                    the steps from the mark before a place
+--   unmarked_state, marked_state                 past the end of the rows, and by the marks, it is the state
 use Prim.Native.Nat.{ℕ, zero, suc, ◌+◌, ◌-◌, ◌*◌, ◌/◌, ◌%◌, ◌≤◌, ◌<◌}
 use mathlib.Core.Path.{◌≡◌, refl, ap, sym, ◌∙◌}
 use mathlib.Core.List.{List}

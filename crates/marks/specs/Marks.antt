@@ -1,16 +1,16 @@
 -- Marks: the state of the walk over all units of a sample (mark_rules/specs/States) at the end of each block of its bytes, in rows of five
 -- numbers. Everything is said of any rows. A row of zeros, and one past the end of the rows, is the state before the first unit.
 --
---   block, row_size         the bytes of a block; the numbers of a row
---   number_limit            numbers of a row are kept below it
---   kept_number, row_of s    a number as it is kept, in 32 bits; a state as a row
---   state_in rows i         the state that row i says
---   marks_upto x base rows n    the rows with the first n marks of x, from row base on
---   marks x base rows      with all of them
---   state_by x rows base d  the state at d, gone to from the last mark at or before d
---   end_state x rows base o n    the state at the end of a copy
+--   block, row_size            the bytes of a block; the numbers of a row
+--   number_limit               numbers of a row are kept below it
+--   kept_number, row_of s      a number as it is kept, in 32 bits; a state as a row
+--   state_in rows i            the state that row i says
+--   marks_upto x base rows n   the rows with the first n marks of x, from row base on
+--   marks x base rows          with all of them
+--   state_by x rows base d     the state at d, gone to from the last mark at or before d
+--   end_state x rows base o n  the state at the end of a copy
 --   copy_by x rows base o n    what an extractor with data_offset o and data_length n copies of x, by the states at its start and its end
---   Marked x base rows     the rows from base on say the states of x at the ends of its blocks
+--   Marked x base rows         the rows from base on say the states of x at the ends of its blocks
 use Rattle.std.specs.Prelude.{ℕ, zero, suc, ◌+◌, ◌-◌, ◌*◌, ◌/◌, ◌%◌, ◌≤◌, ◌≡◌, List, [], ◌∷◌, ◌&&◌, not, get_or}
 use Rattle.words.specs.Tests.{◌≡?◌, pick}
 use Rattle.words.specs.Buffers.{put}

@@ -1,8 +1,8 @@
 -- What the calls answer, step by step as the code takes them. Assumes nothing.
 --
---   with_refused, with_sample    what an extractor names, by its fields
---   in_form, in_none, in_extractor    a sample of a recording: 14 to 22, 30 for the place, else by the extractor's fields
---   named_filled                 the call by a table that was filled
+--   with_refused, with_sample       what an extractor names, by its fields
+--   in_form, in_none, in_extractor  a sample of a recording: 14 to 22, 30 for the place, else by the extractor's fields
+--   named_filled                    the call by a table that was filled
 use Prim.Native.Nat.{ℕ, ◌<◌}
 use mathlib.Core.Path.{◌≡◌, ap, sym, ◌∙◌}
 use mathlib.Core.List.{List}

@@ -1,11 +1,11 @@
 -- A walk over all units of a well-formed sample x that looks for an extractor at the place a. Assumes nothing.
 --
---   from                                the extractors from p on
---   from_end, from_step, from_later     whether a is one of them: not at the end; those after p, where a is not p; not before p
---   from_here                           a itself, if it is an extractor
---   none_past                           none stands past the end
---   other_unit, extractor_none, found_here    what is found at a: nothing, or the fields
---   Seeking, seeking_start, -passed, -here, -skip, -next    a loop that goes to a
+--   from                                                  the extractors from p on
+--   from_end, from_step, from_later                       whether a is one of them: not at the end; those after p, where a is not p; not before p
+--   from_here                                             a itself, if it is an extractor
+--   none_past                                             none stands past the end
+--   other_unit, extractor_none, found_here                what is found at a: nothing, or the fields
+--   Seeking, seeking_start, -passed, -here, -skip, -next  a loop that goes to a
 use Prim.Native.Nat.{ℕ, zero, suc, ◌-◌, ◌≤◌, ◌<◌}
 use mathlib.Core.Path.{◌≡◌, refl, ap, ◌∙◌}
 use mathlib.Core.List.{List}

@@ -1,8 +1,8 @@
 -- What the code answers, and the steps to it.
 --
---   named_answer_of      the sample that an extractor names
---   extractor_in x p    the fields of the extractor at p of a sample x; Nothing where none stands there
---   name_with y n p f   what an extractor with the fields f at p of sample n names: 23, 24, or the sample
+--   named_answer_of    the sample that an extractor names
+--   extractor_in x p   the fields of the extractor at p of a sample x; Nothing where none stands there
+--   name_with y n p f  what an extractor with the fields f at p of sample n names: 23, 24, or the sample
 use Rattle.std.specs.Prelude.{ℕ}
 use Rattle.words.specs.Tests.{pick}
 use Rattle.words.specs.Refusals.{Answer, refused, ok, ◌and_then◌, ◌at_place◌}

@@ -1,15 +1,15 @@
 -- Loops over the samples of a recording r: the extractors that name sample s counted, and their entries written. Assumes nothing.
 --
---   entries_of, sofar                      the entries of a sample; of the first n samples
---   sofar_none, sofar_more, sofar_all     of none, of one sample more, of all
---   namers_few, some_formed               no sample has more than bytes; one that has some is well formed
---   Counting, counting_start, -more, -end    a loop that counts, and keeps each count
---   Putting, putting_start, -none, -some, -end    a loop that writes
---   list_few                              the list is not too long for its numbers
---   names_number, names_room, names_listed    what the call on a recording answers
---   counts_bad, counts_good               what is kept in the table, by the number
---   names_beside, names_unfit             the call by a bundle and a table: these fit, or do not
---   call_filled                           the call by a table that was filled
+--   entries_of, sofar                           the entries of a sample; of the first n samples
+--   sofar_none, sofar_more, sofar_all           of none, of one sample more, of all
+--   namers_few, some_formed                     no sample has more than bytes; one that has some is well formed
+--   Counting, counting_start, -more, -end       a loop that counts, and keeps each count
+--   Putting, putting_start, -none, -some, -end  a loop that writes
+--   list_few                                    the list is not too long for its numbers
+--   names_number, names_room, names_listed      what the call on a recording answers
+--   counts_bad, counts_good                     what is kept in the table, by the number
+--   names_beside, names_unfit                   the call by a bundle and a table: these fit, or do not
+--   call_filled                                 the call by a table that was filled
 use Prim.Native.Nat.{ℕ, zero, suc, ◌+◌, ◌-◌, ◌*◌, ◌≤◌, ◌<◌}
 use mathlib.Core.Path.{◌≡◌, refl, ap, ap₂, sym, ◌∙◌}
 use mathlib.Core.List.{List, [], ◌∷◌, ◌++◌, map, append-nil}

@@ -1,11 +1,11 @@
 -- A walk over all units of a well-formed sample x that looks for the extractors that name sample s. Assumes nothing.
 --
---   names_refused, names_sample_lem          an extractor by what it names
---   names_other                          no other unit names a sample
---   from_end, from_skip, from_yes, from_no    what is left from p on
---   namers_formed, namers_not            in a well-formed sample they are those of the naming list; in another there are none
---   list_none, list_append               entries one after the other
---   Looking, looking_start, -skip, -pass, -take, -few, -count, -written    a loop that looks for them, counts them and writes their entries
+--   names_refused, names_sample_lem                                      an extractor by what it names
+--   names_other                                                          no other unit names a sample
+--   from_end, from_skip, from_yes, from_no                               what is left from p on
+--   namers_formed, namers_not                                            in a well-formed sample they are those of the naming list; in another there are none
+--   list_none, list_append                                               entries one after the other
+--   Looking, looking_start, -skip, -pass, -take, -few, -count, -written  a loop that looks for them, counts them and writes their entries
 use Prim.Native.Nat.{ℕ, suc, ◌+◌, ◌-◌, ◌*◌, ◌≤◌, ◌<◌}
 use mathlib.Core.Path.{◌≡◌, refl, ap, sym, ◌∙◌}
 use mathlib.Core.List.{List, [], ◌∷◌, ◌++◌, map, append_assoc, append-nil, Memᴰ}

@@ -3,13 +3,13 @@
 --   names_with y s n f    whether an extractor with the fields f in sample n names sample s
 --   names_at y s n x p    whether the unit at p of sample n, which is x, is an extractor that names sample s
 --   namers_from y s n x p the units from p on that do
---   list_most             more bytes no list has
---   with_entry o at n p   an entry over a buffer
---   counts_upto b t s n   the table with the counts of the first n samples kept: how many extractors of each name s
---   counts_for b t s      with those of all; a sample number that is refused (30) leaves it as it was
+--   list_most            more bytes no list has
+--   with_entry o at n p  an entry over a buffer
+--   counts_upto b t s n  the table with the counts of the first n samples kept: how many extractors of each name s
+--   counts_for b t s     with those of all; a sample number that is refused (30) leaves it as it was
 --   unfit b t            a bundle too long, or a table too short for any bundle
---   names_in b t s room   the list by a bundle and any table beside it: 1 where they are unfit, then 30, 29, or the list
---   table_in b t s        what that leaves of the table
+--   names_in b t s room  the list by a bundle and any table beside it: 1 where they are unfit, then 30, 29, or the list
+--   table_in b t s       what that leaves of the table
 use Rattle.std.specs.Prelude.{ℕ, zero, suc, ◌+◌, ◌*◌, List, Bool, false, ◌&&◌, ◌||◌, length}
 use Rattle.words.specs.Tests.{◌≡?◌, ◌<?◌, pick}
 use Rattle.words.specs.RefusalNumbers.{bundle_too_long}

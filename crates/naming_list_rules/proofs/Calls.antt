@@ -1,12 +1,12 @@
 -- What the naming call answers, case by case, and what two calls with the same answer leave. By any reader of bundles. Assumes nothing.
 --
---   names_number, names_there      the call on a recording
---   names_kept                     the bytes of the sample asked for do not matter
---   names_means, names_bundle      the call on an accepted bundle, and on one that is refused
---   lists, lists_because, refuses, refuses_because     the naming call answers, or is refused, exactly if ..
---   refuses_with                   30 or 29, at 0, or the bundle's own refusal
---   same_answer                    calls with the same answer
---   wrote_list                     what the naming call wrote, read from the buffer
+--   names_number, names_there                       the call on a recording
+--   names_kept                                      the bytes of the sample asked for do not matter
+--   names_means, names_bundle                       the call on an accepted bundle, and on one that is refused
+--   lists, lists_because, refuses, refuses_because  the naming call answers, or is refused, exactly if ..
+--   refuses_with                                    30 or 29, at 0, or the bundle's own refusal
+--   same_answer                                     calls with the same answer
+--   wrote_list                                      what the naming call wrote, read from the buffer
 use Prim.Native.Nat.{ℕ, ◌+◌, ◌≤◌, ◌<◌}
 use mathlib.Core.Path.{◌≡◌, refl, ap, sym, ◌∙◌, subst}
 use mathlib.Core.List.{List}

@@ -1,12 +1,12 @@
 -- The naming list of a sample s of any recording r. Assumes nothing, but where a line says that references join different tracks, as 5 ensures.
 --
---   listed, listed_from     the list holds exactly the extractors that name s, both ways
---   list_only               every element of it is such an extractor
---   list_rises              by sample and then place, so each once
---   list_once               how often an extractor that names s stands in it
---   list_size_lem               6 bytes an extractor
---   names_elsewhere         no extractor names its own sample
---   list_kept               the list does not depend on the bytes of s
+--   listed, listed_from  the list holds exactly the extractors that name s, both ways
+--   list_only            every element of it is such an extractor
+--   list_rises           by sample and then place, so each once
+--   list_once            how often an extractor that names s stands in it
+--   list_size_lem        6 bytes an extractor
+--   names_elsewhere      no extractor names its own sample
+--   list_kept            the list does not depend on the bytes of s
 use Prim.Native.Nat.{ℕ, ◌*◌, ◌<◌}
 use mathlib.Core.Path.{◌≡◌, refl, ap, sym, ◌∙◌, subst}
 use mathlib.Core.Logic.{inl, inr, ⊎_elim}

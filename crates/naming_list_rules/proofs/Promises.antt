@@ -23,8 +23,8 @@
 --   list_in_bundle         the list of any sample is never longer than the bundle
 --
 -- the naming call, by any reader
---   names_listed_exactly, names_refused_exactly    it answers, or is refused, exactly if ..
---   names_refused_with     with a number of the reader's at a place in the bundle or at its end, or 29 or 30 at 0
+--   names_listed_exactly, names_refused_exactly  it answers, or is refused, exactly if ..
+--   names_refused_with                           with a number of the reader's at a place in the bundle or at its end, or 29 or 30 at 0
 use Prim.Native.Nat.{ℕ, ◌+◌, ◌*◌, ◌≤◌, ◌<◌}
 use mathlib.Core.Path.{◌≡◌, refl, ap, sym, ◌∙◌, subst}
 use mathlib.Core.List.{List}

@@ -1,10 +1,10 @@
 -- A recording in which the bytes of sample s are replaced, seen from another sample n. The idea: of samples' bytes a recording is read only through
 -- `sample_of` and `content_of`, and every sample but s is the same. Assumes nothing.
 --
---   sample_other, content_other    the sample, its bytes
---   named_other, name_fault_other  which sample an extractor of it names, 23 and 24
---   copy_fault_other, extract_fault_other, copied_other    25 to 28, 23 to 28 and the copy of an extractor that does not name s
---   written_other                  units of another sample, as they are written
+--   sample_other, content_other                          the sample, its bytes
+--   named_other, name_fault_other                        which sample an extractor of it names, 23 and 24
+--   copy_fault_other, extract_fault_other, copied_other  25 to 28, 23 to 28 and the copy of an extractor that does not name s
+--   written_other                                        units of another sample, as they are written
 use Prim.Native.Nat.{ℕ, zero, suc}
 use mathlib.Core.Path.{◌≡◌, refl, ap}
 use mathlib.Core.List.{List, []}

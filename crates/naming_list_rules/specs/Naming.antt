@@ -1,12 +1,12 @@
 -- The naming list of a sample (01, 'Audit and naming list').
 --
---   names_sample r s n p          whether the extractor at p of sample n names sample s
---   namers_in r s n               the extractors of sample n that name s
---   Namer                        an extractor: its own sample, and its place there
---   naming_list r s               all that name s, by sample and then place
---   list_bytes es                 the list as it is written
---   names r s                    the call on a recording: 30, or the list
---   names_call reader b s room    the call on a bundle, with room for the list: 1 to 13, 30, 29, or the list
+--   names_sample r s n p        whether the extractor at p of sample n names sample s
+--   namers_in r s n             the extractors of sample n that name s
+--   Namer                       an extractor: its own sample, and its place there
+--   naming_list r s             all that name s, by sample and then place
+--   list_bytes es               the list as it is written
+--   names r s                   the call on a recording: 30, or the list
+--   names_call reader b s room  the call on a bundle, with room for the list: 1 to 13, 30, 29, or the list
 use Rattle.std.specs.Prelude.{ℕ, ◌+◌, List, [], ◌++◌, map, Bool, ◌&&◌}
 use Rattle.words.specs.Tests.{◌≡?◌, pick}
 use Rattle.words.specs.Refusals.{Answer, ok}

@@ -1,12 +1,12 @@
 -- The rules of the naming list in plain facts, in which the promises of proofs/Promises are stated.
 --
---   Names r s n p                 the extractor at p of sample n names sample s
---   Before                        the order of the list: by sample, then place
---   times_listed r s n p           how often the extractor at p of sample n stands in the list of s
---   Unlisted r s n                no extractor of sample n is in the list of s
---   Kept r after n                sample n is in one recording as in another
---   NamesAnswers, NamesRefuses    when the naming call answers, and when it is refused
---   SameAnswer                    two calls that returned the same number, place and count, and wrote the same bytes up to that count
+--   Names r s n p               the extractor at p of sample n names sample s
+--   Before                      the order of the list: by sample, then place
+--   times_listed r s n p        how often the extractor at p of sample n stands in the list of s
+--   Unlisted r s n              no extractor of sample n is in the list of s
+--   Kept r after n              sample n is in one recording as in another
+--   NamesAnswers, NamesRefuses  when the naming call answers, and when it is refused
+--   SameAnswer                  two calls that returned the same number, place and count, and wrote the same bytes up to that count
 use Rattle.std.specs.Prelude.{ℕ, ◌*◌, ◌≤◌, ◌<◌, ◌≡◌, List, Bool, ◌&&◌, ◌⊎◌, length, take}
 use Rattle.words.specs.Tests.{◌≡?◌}
 use Rattle.words.specs.RefusalNumbers.{output_too_long, no_such_number}

@@ -1,8 +1,8 @@
 -- Laws of the length size, and of a number that is written from its last byte on. Assumes nothing.
 --
---   L_some, L_most       L is 1 to 4
---   big_4                a number of 4 bytes
---   Back, back_start, back_next, back_end    the bytes written so far
+--   L_some, L_most                         L is 1 to 4
+--   big_4                                  a number of 4 bytes
+--   Back, back_start, back_next, back_end  the bytes written so far
 use Prim.Native.Nat.{ℕ, zero, suc, ◌+◌, ◌-◌, ◌*◌, ◌/◌, ◌%◌, ◌≤◌, ◌<◌}
 use mathlib.Core.Path.{◌≡◌, sym, ◌∙◌}
 use mathlib.Core.List.{List, [], ◌∷◌, ◌++◌, append_assoc, append-nil}

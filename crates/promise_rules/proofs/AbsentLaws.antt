@@ -1,11 +1,11 @@
 -- The proofs of what Request01 says: what may end a record, and a trailer that is absent. Assumes nothing.
 --
---   ends_exactly              a record that is good up to its picture sets, by what follows them
---   absent_exactly            read as absent
---   cut_trailer               some bytes of a trailer
---   absent_written, absent_misfit, none_misfit    written
---   absent_number             as numbers
---   track_good                as the record of a track
+--   ends_exactly                                a record that is good up to its picture sets, by what follows them
+--   absent_exactly                              read as absent
+--   cut_trailer                                 some bytes of a trailer
+--   absent_written, absent_misfit, none_misfit  written
+--   absent_number                               as numbers
+--   track_good                                  as the record of a track
 use Prim.Native.Nat.{ℕ, ◌+◌, ◌-◌, ◌≤◌, ◌<◌}
 use mathlib.Core.Path.{◌≡◌, refl, ap, sym, ◌∙◌, subst}
 use mathlib.Core.List.{List, [], ◌∷◌, ◌++◌, append-nil}

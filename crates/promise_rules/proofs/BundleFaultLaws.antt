@@ -1,10 +1,10 @@
 -- The proofs of what Demands says of a bundle that is refused. Assumes nothing.
 --
---   read_some, read_is          the record of a track
---   count_judged, track_judged, reference_judged, entry_judged, bytes_judged    a count, an entry of each section, section four: the
---                               refusal number is that of the fault
---   tracks_section, references_section, samples_section    the sections one to three
---   bundle_by, by_bundle        the bundle is refused exactly as BundleRefused says
+--   read_some, read_is                                                        the record of a track
+--   count_judged, track_judged, reference_judged, entry_judged, bytes_judged  a count, an entry of each section, section four: the
+--                                                                             refusal number is that of the fault
+--   tracks_section, references_section, samples_section                       the sections one to three
+--   bundle_by, by_bundle                                                      the bundle is refused exactly as BundleRefused says
 use Prim.Native.Nat.{ℕ, ◌+◌, ◌-◌, ◌≤◌, ◌<◌}
 use mathlib.Core.Path.{◌≡◌, refl, sym, ◌∙◌, subst}
 use mathlib.Core.Bool.{Bool, ◌&&◌, not}

@@ -1,7 +1,7 @@
 -- The proofs of what Demands and Request04 say of a copy. Assumes nothing.
 --
 --   starts_of, of_starts          where a copy may start, both ways
---   copy_ends_lem, ends_copy          where it ends, both ways
+--   copy_ends_lem, ends_copy      where it ends, both ways
 --   among_of, of_among            that it starts and ends on borders of the same units, both ways
 --   copied_inside, inside_copied  the units in it, both ways
 --   copy_of, of_copy              a copy without a fault, both ways

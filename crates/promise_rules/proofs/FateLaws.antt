@@ -1,10 +1,10 @@
 -- The proofs of what Request11 says of the units of a damaged sample. Assumes nothing.
 --
---   stops                     where the first top-level fault is
---   inside_fault, sound_at    the inside fault of a unit, and none
---   cover_before, before_cover    what an aggregator covers, by the cut sample
---   becomes                   what becomes of a unit
---   dropped_faulty, zeroed_only    a unit that is dropped, and one whose additional_bytes become 0
+--   stops                        where the first top-level fault is
+--   inside_fault, sound_at       the inside fault of a unit, and none
+--   cover_before, before_cover   what an aggregator covers, by the cut sample
+--   becomes                      what becomes of a unit
+--   dropped_faulty, zeroed_only  a unit that is dropped, and one whose additional_bytes become 0
 use Prim.Native.Nat.{ℕ, ◌+◌, ◌*◌, ◌≤◌, ◌<◌}
 use mathlib.Core.Path.{◌≡◌, refl, ap, sym, ◌∙◌, subst}
 use mathlib.Core.Bool.{Bool, true, false, ◌&&◌, not}

@@ -1,13 +1,13 @@
 -- Laws of the first fault of a list of places. Assumes nothing.
 --
---   Judges f R G            the number f is 0 exactly if G holds, and else a number that R has and no other
---   at_some, or_else_some    a refusal number at a place, as a verdict; at the head of a chain
---   in_list                 the first place at fault is one of the list
---   first_in, in_first      the first refusal of a list is that of the first place at fault, both ways
---   first_fault_lem, fault_first    the same for numbers at places
---   by_and, and_here            a chain of two verdicts that refuses
---   Section                     a count, then entries
---   by_section, section_count, section_entry    a section is refused at its count or at its first entry at fault, both ways
+--   Judges f R G                              the number f is 0 exactly if G holds, and else a number that R has and no other
+--   at_some, or_else_some                     a refusal number at a place, as a verdict; at the head of a chain
+--   in_list                                   the first place at fault is one of the list
+--   first_in, in_first                        the first refusal of a list is that of the first place at fault, both ways
+--   first_fault_lem, fault_first              the same for numbers at places
+--   by_and, and_here                          a chain of two verdicts that refuses
+--   Section                                   a count, then entries
+--   by_section, section_count, section_entry  a section is refused at its count or at its first entry at fault, both ways
 use Prim.Native.Nat.{ℕ, zero, suc, ◌<◌}
 use mathlib.Core.Path.{◌≡◌, refl, sym, ◌∙◌, subst}
 use mathlib.Core.List.Memᴰ

@@ -3,12 +3,12 @@
 --   adds, adds_only              what a sample adds, and its line: there is such a pair, and only one
 --   range_of, range_of_only      the same of samples n to last
 --   range_refused, range_exactly the call is refused, or answers, exactly if ..
---   thirteen_each                13 bytes a sample
---   one_by_one                   by the calls that resolve and audit
---   sample_in, refused_adds, empty_adds    where what a sample adds stands
---   one_sample                   samples n to n
---   range_number                 a refusal's number is one of the table
---   in_bytes                     ranges in bytes, by computation
+--   thirteen_each                        13 bytes a sample
+--   one_by_one                           by the calls that resolve and audit
+--   sample_in, refused_adds, empty_adds  where what a sample adds stands
+--   one_sample                           samples n to n
+--   range_number                         a refusal's number is one of the table
+--   in_bytes                             ranges in bytes, by computation
 use Prim.Native.Nat.{ℕ, zero, suc, ◌+◌, ◌-◌, ◌*◌, ◌≤◌, ◌<◌}
 use mathlib.Core.Path.{◌≡◌, refl, ap, ap₂, sym, ◌∙◌}
 use mathlib.Core.List.{List, [], ◌∷◌, ◌++◌}

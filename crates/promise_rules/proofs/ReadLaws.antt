@@ -1,10 +1,10 @@
 -- The proof of what Demands says of reading a record: with which number it is refused. Assumes nothing.
 --
---   judge_then, judge_as         one after the other; in other words
---   lt_test, le_test, eq_test, ne_test, in_test      a test
---   byte_judged, set_judged, sets_judged, head_judged, end_judged, bytes_judged    the parts of a record
---   good_to, to_good             good up to the end of the picture sets
---   read_refused                 the call
+--   judge_then, judge_as                                                         one after the other; in other words
+--   lt_test, le_test, eq_test, ne_test, in_test                                  a test
+--   byte_judged, set_judged, sets_judged, head_judged, end_judged, bytes_judged  the parts of a record
+--   good_to, to_good                                                             good up to the end of the picture sets
+--   read_refused                                                                 the call
 use Prim.Native.Nat.{ℕ, zero, suc, ◌+◌, ◌%◌, ◌≤◌, ◌<◌}
 use mathlib.Core.Path.{◌≡◌, refl, sym, ◌∙◌, subst}
 use mathlib.Core.Bool.{Bool, true, false, not}

@@ -1,13 +1,13 @@
 -- The proofs of what Demands says of records: read and written, in plain facts (a file of specs/ may not cite its own crate's proofs/). Assumes nothing.
 --
---   sets_fit_lem, fit_of_sets     sets in plain facts, and by the definition
---   ends, ended               what ends a record, in plain facts; both ways
---   valid_avc, valid_svc, fitted    fields and sets that fit a record, in plain facts; both ways
---   accepted_exactly          a record is accepted with these fields and sets exactly if it is what they spell
---   written_exactly           they are written exactly if they are valid and there is room: with the bytes that they spell
---   write_refused_exactly     when writing is refused
---   accepted_known, known_accepted, read_none, refused_known, known_refused    the answer of reading, by the first refusal of the bytes
---   read_number               with which numbers
+--   sets_fit_lem, fit_of_sets                                                sets in plain facts, and by the definition
+--   ends, ended                                                              what ends a record, in plain facts; both ways
+--   valid_avc, valid_svc, fitted                                             fields and sets that fit a record, in plain facts; both ways
+--   accepted_exactly                                                         a record is accepted with these fields and sets exactly if it is what they spell
+--   written_exactly                                                          they are written exactly if they are valid and there is room: with the bytes that they spell
+--   write_refused_exactly                                                    when writing is refused
+--   accepted_known, known_accepted, read_none, refused_known, known_refused  the answer of reading, by the first refusal of the bytes
+--   read_number                                                              with which numbers
 use Prim.Native.Nat.{ℕ, zero, suc, ◌+◌, ◌-◌, ◌*◌, ◌≤◌, ◌<◌}
 use mathlib.Core.Path.{◌≡◌, refl, sym, ◌∙◌, subst}
 use mathlib.Core.Bool.{true, false, not}

@@ -1,11 +1,11 @@
 -- The proofs of what Demands says of resolving. Assumes nothing.
 --
---   base_one                          there is one base
---   in_samples                        a sample of a track is among its samples
---   base_of_lem, of_base                  the base in plain facts, both ways
---   names_by_lem, by_names                the sample named
---   extraction, extraction_is         what an extractor stands for
---   good_sample, sample_good, good_exactly    no fault of 14 to 28
+--   base_one                                there is one base
+--   in_samples                              a sample of a track is among its samples
+--   base_of_lem, of_base                    the base in plain facts, both ways
+--   names_by_lem, by_names                  the sample named
+--   extraction, extraction_is               what an extractor stands for
+--   good_sample, sample_good, good_exactly  no fault of 14 to 28
 use Prim.Native.Nat.{ℕ, ◌+◌, ◌-◌, ◌≤◌, ◌<◌}
 use mathlib.Core.Path.{◌≡◌, refl, sym, ◌∙◌, subst}
 use mathlib.Core.List.{List}

@@ -1,15 +1,15 @@
 -- The proofs of what Request11 says of the new sample, the list and the calls. Assumes nothing.
 --
---   new_sample, formed                  the new sample, which is well formed
---   unchanged, unchanged_exactly, empty_exactly    a well-formed one is unchanged, and only it, and only it has an empty list
---   in_order                            the places of the list rise
---   answers_leave, both_leave           the lent buffers
---   salvage_exactly, salvage_refused    the call on a bundle
---   sample_exactly, sample_refused      the call on a sample outside one
---   again                               what comes out of it, checked and salvaged
---   list_back, five_bytes               the list is read back, and gives the new sample; a change in bytes
---   outputs_returned                    what the C functions give back
---   in_bytes                            samples in bytes
+--   new_sample, formed                           the new sample, which is well formed
+--   unchanged, unchanged_exactly, empty_exactly  a well-formed one is unchanged, and only it, and only it has an empty list
+--   in_order                                     the places of the list rise
+--   answers_leave, both_leave                    the lent buffers
+--   salvage_exactly, salvage_refused             the call on a bundle
+--   sample_exactly, sample_refused               the call on a sample outside one
+--   again                                        what comes out of it, checked and salvaged
+--   list_back, five_bytes                        the list is read back, and gives the new sample; a change in bytes
+--   outputs_returned                             what the C functions give back
+--   in_bytes                                     samples in bytes
 use Prim.Native.Nat.{ℕ, ◌+◌, ◌*◌, ◌≤◌, ◌<◌}
 use mathlib.Core.Path.{◌≡◌, refl, ap, ap₂, sym, ◌∙◌, subst}
 use mathlib.Core.Bool.{true, false}

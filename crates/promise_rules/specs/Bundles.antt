@@ -1,14 +1,14 @@
 -- A bundle b in plain facts, with the numbers of document 01, 'The bundle'. A byte past the end reads as 0.
 --
---   two, three, four        where the sections two to four start; the first starts at 0
---   track_places, reference_places    where the entries of sections one and two start
---   entry b n               where the entry of sample n starts
---   CountAt b p n least most    a count of n bytes at p is there, from least to most
---   TrackAt, ReferenceAt, EntryAt    an entry of each section follows the rules
---   TrackSize b k l         the record of track k states the length size l
---   TrackCount, ReferenceCount, SampleCount    the counts of the sections one to three
---   TracksOf, ReferencesOf, SamplesOf, BytesOf    the rules of a section hold
---   BundleOf b              all rules of the bundle hold
+--   two, three, four                            where the sections two to four start; the first starts at 0
+--   track_places, reference_places              where the entries of sections one and two start
+--   entry b n                                   where the entry of sample n starts
+--   CountAt b p n least most                    a count of n bytes at p is there, from least to most
+--   TrackAt, ReferenceAt, EntryAt               an entry of each section follows the rules
+--   TrackSize b k l                             the record of track k states the length size l
+--   TrackCount, ReferenceCount, SampleCount     the counts of the sections one to three
+--   TracksOf, ReferencesOf, SamplesOf, BytesOf  the rules of a section hold
+--   BundleOf b                                  all rules of the bundle hold
 use Rattle.std.specs.Prelude.{ℕ, ◌+◌, ◌-◌, ◌*◌, ◌≤◌, ◌<◌, ◌≡◌, List, map, ◌⊎◌, length, drop}
 use Rattle.words.specs.Lists.{◌∈◌, each, nth, upto, sum}
 use Rattle.words.specs.Walks.{entries, skip}

@@ -1,11 +1,11 @@
 -- What the calls tell of what a bundle b holds, and with which number, and where, they are refused.
 --
---   NumberRefused b count n m p   a track, a reference or a sample by its number n, of so many: the bundle, the number
---   UnitsRefused b n room m p     all delivered units: as resolving, but 29 is for two numbers a unit
---   NamedRefused b n p m q        the sample that the extractor at p of sample n names: the bundle, the sample's number, its form, no
---                                 extractor there, 23 or 24
---   stand_numbers b u              where a delivered unit stands: its start and its size
---   joined b ns                   units after their lengths in 4 bytes, by their starts and sizes
+--   NumberRefused b count n m p  a track, a reference or a sample by its number n, of so many: the bundle, the number
+--   UnitsRefused b n room m p    all delivered units: as resolving, but 29 is for two numbers a unit
+--   NamedRefused b n p m q       the sample that the extractor at p of sample n names: the bundle, the sample's number, its form, no
+--                                extractor there, 23 or 24
+--   stand_numbers b u            where a delivered unit stands: its start and its size
+--   joined b ns                  units after their lengths in 4 bytes, by their starts and sizes
 use Rattle.std.specs.Prelude.{ℕ, ◌+◌, ◌*◌, ◌≤◌, ◌<◌, ◌≡◌, List, [], ◌∷◌, ◌++◌, ◌⊎◌, length}
 use Rattle.words.specs.Refusals.{ok}
 use Rattle.words.specs.Lists.{◌∈◌}

@@ -4,11 +4,11 @@
 -- 1 where it is absent and 2 for one; its chroma_format, luma depth and chroma depth less 8; count, start and length of the extensions.
 -- Starts are offsets in the record.
 --
---   SetsStand r a c x              where a record that was read says that its sets stand
---   numbers_for f a c x             the numbers of a record of fields f
---   FieldsIn ns kind f             the numbers ns say the fields f of a record of a kind. Starts and lengths are not looked at
---   NumbersRead, NumbersWritten    read as numbers; written from numbers
---   NumbersReadRefused, NumbersWriteRefused    with which number these are refused, all at 0
+--   SetsStand r a c x                        where a record that was read says that its sets stand
+--   numbers_for f a c x                      the numbers of a record of fields f
+--   FieldsIn ns kind f                       the numbers ns say the fields f of a record of a kind. Starts and lengths are not looked at
+--   NumbersRead, NumbersWritten              read as numbers; written from numbers
+--   NumbersReadRefused, NumbersWriteRefused  with which number these are refused, all at 0
 use Rattle.std.specs.Prelude.{ℕ, ◌+◌, ◌≤◌, ◌<◌, ◌≡◌, List, [], ◌∷◌, ◌⊎◌, length, get_or}
 use Rattle.record_rules.specs.declared.Flag.{Flag}
 use Rattle.record_rules.specs.declared.Flag.TheVariants as flag
@@ -60,7 +60,8 @@ module _ (ns : List ℕ) where
     absent : get_or ns 11 0 ≡ 1 → TrailerIn Absent
     present :
         get_or ns 11 0 ≡ 2 →
-        TrailerIn (Present (record { format = get_or ns 12 0; luma = get_or ns 13 0; chroma = get_or ns 14 0; extensions = get_or ns 15 0 }))
+        TrailerIn
+        (Present (record { format = get_or ns 12 0; luma = get_or ns 13 0; chroma = get_or ns 14 0; extensions = get_or ns 15 0 }))
 
   pub data FieldsIn (kind : ℕ) : Fields → Type 0 where
     fields :

@@ -1,12 +1,14 @@
 -- A range of samples in one call (02, [6]), in plain facts. `Joins` and `Gives`, the output joined from what the calls for its samples
 -- give, stand in crates/range_rules/specs/Rules.
 --
---   Adds r n own line          what sample n adds to the output, and its line: one of three
---   RangeOf r last n out ls    what samples n, n + 1, .. last add, joined, and their lines, joined
---   SampleIn b r first last room n out ls    where what sample n adds stands in the output out and the lines ls of samples first to last
---   RangeRefused b first last room lines_room m p    with which number, and where, the call is refused
---   bench_with avc svc              the bytes of B0 (01, 'The bench bundle and its neighbours') with these samples in its two tracks
---   slice, extractor           those of B0
+--   Adds r n own line                              what sample n adds to the output, and its line: one of three
+--   RangeOf r last n out ls                        what samples n, n + 1, .. last add, joined, and their lines, joined
+--   SampleIn b r first last room n out ls          where what sample n adds stands in the output out and the lines ls
+--                                                  of samples first to last
+--   RangeRefused b first last room lines_room m p  with which number, and where, the call is refused
+--   bench_with avc svc                             the bytes of B0 (01, 'The bench bundle and its neighbours') with these samples
+--                                                  in its two tracks
+--   slice, extractor                               those of B0
 use Rattle.std.specs.Prelude.{ℕ, ◌+◌, ◌-◌, ◌*◌, ◌≤◌, ◌<◌, ◌≡◌, List, [], ◌∷◌, ◌++◌, ◌⊎◌, length, take, drop}
 use Rattle.words.specs.Refusals.{ok}
 use Rattle.words.specs.Lists.{each}

@@ -1,16 +1,17 @@
 -- With which number reading a configuration record is refused: document 01, 'Configuration records' and 'Numbers for no', and [1] of
 -- document 02. The bytes s are judged front to back. A case is the first rule that they break, and says what holds before it.
 --
---   ByteAt P s p, ByteRefused P s p n     the byte at p is there, with the fixed bits that P says; else 8 or 10
---   SetRefused types s p n                what stands at p is no such set: 8 or 12
---   SetsRefused types s count p n         the first of so many sets from p on that is none
---   SizeBits, CountBits, sequences_in, sequence_types, TrailerBelongs    what the kinds differ in
---   FormatBits, DepthBits                 the fixed bits of a trailer
---   Head k s, HeadRefused k s n           the six bytes before the sequence sets
---   SequencesEnd k s p, PicturesEnd k s q     good up to the end of these sets
---   EndsAt k s q e, EndRefused k s q n    what ends a record after picture sets that end at q
---   BytesRefused k s n                    the bytes are no record of kind k: 8 to 13
---   ReadRefused kind s n p                the call
+--   ByteAt P s p, ByteRefused P s p n      the byte at p is there, with the fixed bits that P says; else 8 or 10
+--   SetRefused types s p n                 what stands at p is no such set: 8 or 12
+--   SetsRefused types s count p n          the first of so many sets from p on that is none
+--   SizeBits, CountBits, sequences_in,
+--   sequence_types, TrailerBelongs         what the kinds differ in
+--   FormatBits, DepthBits                  the fixed bits of a trailer
+--   Head k s, HeadRefused k s n            the six bytes before the sequence sets
+--   SequencesEnd k s p, PicturesEnd k s q  good up to the end of these sets
+--   EndsAt k s q e, EndRefused k s q n     what ends a record after picture sets that end at q
+--   BytesRefused k s n                     the bytes are no record of kind k: 8 to 13
+--   ReadRefused kind s n p                 the call
 use Rattle.std.specs.Prelude.{ℕ, ◌+◌, ◌%◌, ◌≤◌, ◌<◌, ◌≡◌, List, [], ◌∷◌, length}
 use Rattle.words.specs.Lists.{◌∈◌}
 use Rattle.words.specs.Bytes.{byte_at, big}

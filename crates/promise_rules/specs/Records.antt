@@ -1,12 +1,12 @@
 -- A configuration record in plain facts, with the numbers of document 01's table 'Configuration records', and [1] of document 02.
 --
---   SetAt types s p            a set stands at p: a unit of one of the types after its 2-byte length
---   SetsTo types s n p q       from p on n such sets, one after the other, that end at q
---   Sets types s n p           from p on s is n such sets, and nothing else
---   Shared f pictures          what both kinds of record have
---   Trailed t                  the numbers of a trailer fit their bits
---   RecordEnds profile trailer extensions rest    rest is how an AVC record of a profile ends after its picture sets
---   RecordOf f sequences pictures extensions kind s    the fields f and their sets are valid, and s is the record that they spell
+--   SetAt types s p                                  a set stands at p: a unit of one of the types after its 2-byte length
+--   SetsTo types s n p q                             from p on n such sets, one after the other, that end at q
+--   Sets types s n p                                 from p on s is n such sets, and nothing else
+--   Shared f pictures                                what both kinds of record have
+--   Trailed t                                        the numbers of a trailer fit their bits
+--   RecordEnds profile trailer extensions rest       rest is how an AVC record of a profile ends after its picture sets
+--   RecordOf f sequences pictures extensions kind s  the fields f and their sets are valid, and s is the record that they spell
 use Rattle.std.specs.Prelude.{ℕ, zero, suc, ◌+◌, ◌-◌, ◌*◌, ◌%◌, ◌≤◌, ◌<◌, ◌≡◌, List, [], ◌∷◌, ◌++◌, ◌⊎◌, length}
 use Rattle.words.specs.Lists.{◌∈◌}
 use Rattle.words.specs.Bytes.{byte_at, big}

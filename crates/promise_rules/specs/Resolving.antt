@@ -1,20 +1,20 @@
 -- Resolving in plain facts (01, 'Resolving'). n is the extractor's own sample, y the layout of the recording; samples and
 -- tracks are numbered from 1. p is the place of an extractor in its sample, q that of a unit of the sample named.
 --
---   Sampled y m k            m is a sample of track k
---   BaseOf y n k c           c is the last sample of track k at or before the time of sample n
---   TimesRiseIn y k          within track k times strictly rise
---   On offset c m            m is sample_offset samples on from c, by number; the byte is signed
---   NamedBy y n index offset m    the extractor's track_ref_index and sample_offset name sample m
---   CopyStarts z o           a copy of z may start at data_offset o
---   CopyEnds z o n e         a copy of z from data_offset o, with data_length n, ends at e
---   CopyAmong z o e          it starts at o and ends at e, both borders of the same units: top-level ones, or those of one
---                            aggregator
---   CopyOf z o n qs          none of 25 to 28, and the copy is the units qs
---   Extraction r n p m qs    none of 23 to 28: the extractor names sample m, and stands for its units qs
---   GoodSample r n           none of 14 to 28
---   NamesIt r s n p          the extractor at p of sample n, which is well formed, names sample s
---   LinkedTo r n p k c       its linked track is k, and its base there is sample c
+--   Sampled y m k               m is a sample of track k
+--   BaseOf y n k c              c is the last sample of track k at or before the time of sample n
+--   TimesRiseIn y k             within track k times strictly rise
+--   On offset c m               m is sample_offset samples on from c, by number; the byte is signed
+--   NamedBy y n index offset m  the extractor's track_ref_index and sample_offset name sample m
+--   CopyStarts z o              a copy of z may start at data_offset o
+--   CopyEnds z o n e            a copy of z from data_offset o, with data_length n, ends at e
+--   CopyAmong z o e             it starts at o and ends at e, both borders of the same units: top-level ones, or those of one
+--                               aggregator
+--   CopyOf z o n qs             none of 25 to 28, and the copy is the units qs
+--   Extraction r n p m qs       none of 23 to 28: the extractor names sample m, and stands for its units qs
+--   GoodSample r n              none of 14 to 28
+--   NamesIt r s n p             the extractor at p of sample n, which is well formed, names sample s
+--   LinkedTo r n p k c          its linked track is k, and its base there is sample c
 use Rattle.std.specs.Prelude.{ℕ, ◌+◌, ◌≤◌, ◌<◌, ◌≡◌, not, ◌&&◌, List, [], ◌∷◌, ◌++◌, map, ◌⊎◌, length}
 use Rattle.words.specs.Tests.{◌≤?◌, ◌<?◌, ◌≡?◌}
 use Rattle.words.specs.Lists.{◌∈◌, keep, nth}
@@ -97,13 +97,13 @@ module _ (r : Recording) (n : ℕ) where
     pub extracts :
         (p : ℕ) → p ∈ units (sample_of r n) → type (sample_of r n) p ≡ 31 → (m : ℕ) × (qs : List ℕ) × Extraction p m qs
 
---   delivered_unit r m q          the unit at q of sample m, as it is delivered: its sample, its start after the length field, its size
---   Delivers r n ps us    the units at places ps of sample n deliver us, in order: an aggregator's header is dropped, an
---                         extractor replaced by the units that it copies, any other unit delivered as it stands
---   unit_bytes r u         the bytes of a delivered unit
---   after_length r u       a delivered unit as it is written
---   Resolved r n us       sample n is good and delivers us
---   StandsAt b r n u start size    where a delivered unit stands in the bundle
+--   delivered_unit r m q         the unit at q of sample m, as it is delivered: its sample, its start after the length field, its size
+--   Delivers r n ps us           the units at places ps of sample n deliver us, in order: an aggregator's header is dropped, an
+--                                extractor replaced by the units that it copies, any other unit delivered as it stands
+--   unit_bytes r u               the bytes of a delivered unit
+--   after_length r u             a delivered unit as it is written
+--   Resolved r n us              sample n is good and delivers us
+--   StandsAt b r n u start size  where a delivered unit stands in the bundle
 abbrev pub delivered_unit : Recording → ℕ → ℕ → Span
 delivered_unit r m q = record { sample = m; start = q + L (sample_of r m); size = size (sample_of r m) q }
 

@@ -1,12 +1,12 @@
 -- A damaged sample salvaged (02, [11]), in plain facts. p and q are places of units in the old sample x.
 --
---   StopsAt x f            f is the place of the first top-level fault, 14 to 18; or the end, where there is none
---   InsideFault x p m q    the top-level unit at p has the inside fault m at q: 14 to 20, or 22
---   SoundAt x p            it has none
---   Covered x p q          the top-level unit at q is covered by the aggregator at p
---   CoverBefore x f p      what the aggregator at p covers follows the rules, in a sample that ends at f
---   Becomes x f p c        what becomes of the top-level unit at p, where the first top-level fault is at f: c says it
---   SalvageRefused, SampleSalvageRefused    with which number, and where, the calls are refused
+--   StopsAt x f                           f is the place of the first top-level fault, 14 to 18; or the end, where there is none
+--   InsideFault x p m q                   the top-level unit at p has the inside fault m at q: 14 to 20, or 22
+--   SoundAt x p                           it has none
+--   Covered x p q                         the top-level unit at q is covered by the aggregator at p
+--   CoverBefore x f p                     what the aggregator at p covers follows the rules, in a sample that ends at f
+--   Becomes x f p c                       what becomes of the top-level unit at p, where the first top-level fault is at f: c says it
+--   SalvageRefused, SampleSalvageRefused  with which number, and where, the calls are refused
 use Rattle.std.specs.Prelude.{ℕ, ◌+◌, ◌*◌, ◌≤◌, ◌<◌, ◌≡◌, List, [], ◌∷◌, ◌⊎◌, length}
 use Rattle.words.specs.Refusals.{ok}
 use Rattle.words.specs.Lists.{◌∈◌}

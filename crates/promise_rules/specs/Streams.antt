@@ -1,12 +1,12 @@
 -- Samples as byte streams (02, [2]), and byte streams as samples (02, [3]), in plain facts. What a byte stream is stands in
 -- crates/byte_streams/specs/Grammar, why bytes are none that can be read in Faults there.
 --
---   InStream u                   the unit u stands in some byte stream
---   StreamRefused b n room m p   sample n as a byte stream: the bundle, the sample's number, the sample, the first unit that stands in no
---                                byte stream, at the place of its length in the output of resolving, the room
---   ReadAs n s us                s is a byte stream of the units us; n is 1, 2 or 4, and n bytes hold the length of each
---   with_lengths n us             each unit after its length in n bytes; stated anew, so that no theorem cites here what the code follows
---   FromStreamRefused n s room m p   s as a sample of length size n: the length size, the first fault of s by place, the room
+--   InStream u                      the unit u stands in some byte stream
+--   StreamRefused b n room m p      sample n as a byte stream: the bundle, the sample's number, the sample, the first unit that stands in
+--                                   no byte stream, at the place of its length in the output of resolving, the room
+--   ReadAs n s us                   s is a byte stream of the units us; n is 1, 2 or 4, and n bytes hold the length of each
+--   with_lengths n us               each unit after its length in n bytes; stated anew, so that no theorem cites here what the code follows
+--   FromStreamRefused n s room m p  s as a sample of length size n: the length size, the first fault of s by place, the room
 use Rattle.std.specs.Prelude.{ℕ, ◌^◌, ◌<◌, ◌≡◌, List, [], ◌∷◌, ◌++◌, ◌⊎◌, length}
 use Rattle.words.specs.Refusals.{ok}
 use Rattle.words.specs.Lists.{◌∈◌, each}

@@ -1,11 +1,11 @@
 -- What the words for units mean, in bytes and numbers (01, 'Units in a sample', 'The bundle'). A byte past the end reads as 0.
 --
---   Walk x a e ps    a walk from unit to unit, from a up to e, whole or not, meets units at ps
---   FieldsAt x p     the fields of the unit at p of sample x
---   Laid x a e ps    the units ps lie without gap or overlap from a to e
---   UnitsOf x        the units of a well-formed sample: all of it, in order
---   SampleMeans b r n    what sample n of the bundle b is: its track, its time, its bytes
---   PlacedAt b r n k u   where the kth unit that sample n delivers stands
+--   Walk x a e ps       a walk from unit to unit, from a up to e, whole or not, meets units at ps
+--   FieldsAt x p        the fields of the unit at p of sample x
+--   Laid x a e ps       the units ps lie without gap or overlap from a to e
+--   UnitsOf x           the units of a well-formed sample: all of it, in order
+--   SampleMeans b r n   what sample n of the bundle b is: its track, its time, its bytes
+--   PlacedAt b r n k u  where the kth unit that sample n delivers stands
 use Rattle.std.specs.Prelude.{ℕ, ◌+◌, ◌-◌, ◌*◌, ◌%◌, ◌≤◌, ◌<◌, ◌≡◌, List, [], ◌∷◌, map, ◌⊎◌, ◌↔◌, length, get_or}
 use Rattle.words.specs.Refusals.{ok}
 use Rattle.words.specs.Lists.{◌∈◌, nth, upto, sum}

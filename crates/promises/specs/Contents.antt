@@ -2,12 +2,13 @@
 -- which sample an extractor names, and that a naming list is never longer than the bundle. Theorems in plain facts about the
 -- definitions that the contracts of the code cite; with the numbers of document 01. The words are those of Demands and of
 --
---   two, three, track_places, reference_places, entry    where sections and entries start (promise_rules/specs/Bundles)
---   TrackAt b p                the track entry at p follows the rules: its record lies in the bundle and is valid (the same)
---   sample_start b n            where the bytes of sample n start (promise_rules/specs/Units)
---   NumberRefused, UnitsRefused, NamedRefused    with which number, and where (promise_rules/specs/Contents)
---   stand_numbers b u, joined b ns    where a unit stands, in numbers; units joined by such numbers (the same)
---   ValuesGiven                what a C function gives for an answer that tells numbers (promise_rules/specs/Returns)
+--   two, three, track_places,
+--   reference_places, entry                    where sections and entries start (promise_rules/specs/Bundles)
+--   TrackAt b p                                the track entry at p follows the rules: its record lies in the bundle and is valid (the same)
+--   sample_start b n                           where the bytes of sample n start (promise_rules/specs/Units)
+--   NumberRefused, UnitsRefused, NamedRefused  with which number, and where (promise_rules/specs/Contents)
+--   stand_numbers b u, joined b ns             where a unit stands, in numbers; units joined by such numbers (the same)
+--   ValuesGiven                                what a C function gives for an answer that tells numbers (promise_rules/specs/Returns)
 --
 -- Assumes nothing.
 use Rattle.std.specs.Prelude.{ℕ, ◌+◌, ◌*◌, ◌≤◌, ◌<◌, ◌≡◌, List, [], ◌∷◌, ◌↔◌, length}

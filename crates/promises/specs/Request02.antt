@@ -2,13 +2,13 @@
 -- stand in crates/promise_rules/proofs/StreamLaws. Of the lent buffer `refusal_leaves` and `answer_leaves` of Demands say what is
 -- left, of the C function `c_output`. Assumes nothing.
 --
---   ByteStream us s      s is a byte stream of the units us: zeros, then each unit, after 00 00 01 and followed by zeros
---   Streamable u         u is not empty, does not end in 00, and holds none of 00 00 00, 00 00 01, 00 00 02. Both say nothing of
---                        how a byte stream is written (byte_streams/specs/Grammar)
---   Resolved r n us      sample n is good and delivers the units us (promise_rules/specs/Resolving)
---   unit_bytes r u        the bytes of a delivered unit (the same)
---   InStream u           the unit u stands in some byte stream (promise_rules/specs/Streams)
---   StreamRefused        with which number, and where (the same)
+--   ByteStream us s  s is a byte stream of the units us: zeros, then each unit, after 00 00 01 and followed by zeros
+--   Streamable u     u is not empty, does not end in 00, and holds none of 00 00 00, 00 00 01, 00 00 02. Both say nothing of
+--                    how a byte stream is written (byte_streams/specs/Grammar)
+--   Resolved r n us  sample n is good and delivers the units us (promise_rules/specs/Resolving)
+--   unit_bytes r u   the bytes of a delivered unit (the same)
+--   InStream u       the unit u stands in some byte stream (promise_rules/specs/Streams)
+--   StreamRefused    with which number, and where (the same)
 use Rattle.std.specs.Prelude.{ℕ, ◌+◌, ◌≤◌, ◌<◌, ◌≡◌, List, ◌∷◌, ◌++◌, map, ◌↔◌, length}
 use Rattle.words.specs.Lists.{◌∈◌, each}
 use Rattle.words.specs.Bytes.{Bytes, big, part, splice}

@@ -2,13 +2,13 @@
 -- stand in crates/promise_rules/proofs/FromStreamLaws. Of the lent buffer `refusal_leaves` and `answer_leaves` of Demands say
 -- what is left, of the C function `c_output`. Assumes nothing.
 --
---   from_stream n s room    the call: the byte stream s as a sample of length size n, with room for it
---   ByteStream us s        s is a byte stream of the units us, as in Request02 (byte_streams/specs/Grammar)
---   ReadAs n s us          that; n is 1, 2 or 4, and every unit is shorter than 256 ^ n bytes (promise_rules/specs/Streams)
---   with_lengths n us       each unit after its length in n bytes (the same)
---   StreamFault L s m p    what 33 or 34 names stands at p: five cases, each with its place (byte_streams/specs/Faults)
---   FirstFault L s m p     it is the first by place (the same)
---   FromStreamRefused      with which number, and where (promise_rules/specs/Streams)
+--   from_stream n s room  the call: the byte stream s as a sample of length size n, with room for it
+--   ByteStream us s       s is a byte stream of the units us, as in Request02 (byte_streams/specs/Grammar)
+--   ReadAs n s us         that; n is 1, 2 or 4, and every unit is shorter than 256 ^ n bytes (promise_rules/specs/Streams)
+--   with_lengths n us     each unit after its length in n bytes (the same)
+--   StreamFault L s m p   what 33 or 34 names stands at p: five cases, each with its place (byte_streams/specs/Faults)
+--   FirstFault L s m p    it is the first by place (the same)
+--   FromStreamRefused     with which number, and where (promise_rules/specs/Streams)
 use Rattle.std.specs.Prelude.{ℕ, ◌+◌, ◌/◌, ◌^◌, ◌≤◌, ◌<◌, ◌≡◌, List, [], ◌∷◌, map, ◌⊎◌, ◌↔◌, length, replicate}
 use Rattle.words.specs.Lists.{◌∈◌, each}
 use Rattle.words.specs.Bytes.{Bytes}

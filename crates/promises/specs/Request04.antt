@@ -1,13 +1,13 @@
 -- Request [4] of document 02, 'Extracting from inside an aggregator', nearly in its words, as theorems in plain facts. The proofs
 -- stand in crates/promise_rules/proofs: IncludedLaws, CopyLaws. Assumes nothing.
 --
---   copy_fault z o n, copied z o n   25 to 28, 0 for none, and the units of a copy of the sample z from data_offset o with
+--   copy_fault z o n, copied z o n  25 to 28, 0 for none, and the units of a copy of the sample z from data_offset o with
 --                                   data_length n: the one definition that the code follows (crates/copies/specs/Copies)
---   CopyOf z o n qs           none of 25 to 28, and the copy is the units qs (promise_rules/specs/Resolving)
---   CopyStarts z o            o is a top-level unit, or one that an aggregator includes (the same)
---   ExtractorFault r n p k    the extractor at p of sample n is refused with k (the same, Refused)
---   TopCopy, IncludedCopy     a copy from the one, and from the other (the same, Copies)
---   IncludedEnds, BorderIn    where a copy from an included unit ends, and where it may (the same, Copies and Samples)
+--   CopyOf z o n qs                 none of 25 to 28, and the copy is the units qs (promise_rules/specs/Resolving)
+--   CopyStarts z o                  o is a top-level unit, or one that an aggregator includes (the same)
+--   ExtractorFault r n p k          the extractor at p of sample n is refused with k (the same, Refused)
+--   TopCopy, IncludedCopy           a copy from the one, and from the other (the same, Copies)
+--   IncludedEnds, BorderIn          where a copy from an included unit ends, and where it may (the same, Copies and Samples)
 --
 -- Which sample an extractor names does not change: Demands stays by text, all of it. `good_exactly`, `resolved_exactly` and
 -- `resolve_refused` there say by `Extraction` and `ExtractorFault`, that is by `CopyOf` and its parts, what a sample delivers and

@@ -1,14 +1,14 @@
 -- Request [5] of document 02, 'Finding the base sample by halving', nearly in its words, as theorems in plain facts. The proofs
 -- stand in crates/links/proofs (Halving, Links, Order) and in crates/promise_rules/proofs/SearchLaws. Assumes nothing.
 --
---   halving passes low high    the search when the numbers after low, up to high, are left: what it finds, and its rounds; a
---                              number passes if the sample that has it is at or before
---   binary_digits n             how many binary digits n has (both crates/links/specs/Halving)
---   base_search y n k           the search for the base of sample n in track k (the same, Links); the public function that
---                              searches, `find_base` of crates/links, answers with it, for any table
---   Sampled y m k              m is a sample of track k (promise_rules/specs/Resolving)
---   BaseOf y n k c             c is the last sample of track k at or before sample n (the same)
---   TimesRiseIn y k            within track k times strictly rise (the same)
+--   halving passes low high  the search when the numbers after low, up to high, are left: what it finds, and its rounds; a
+--                            number passes if the sample that has it is at or before
+--   binary_digits n          how many binary digits n has (both crates/links/specs/Halving)
+--   base_search y n k        the search for the base of sample n in track k (the same, Links); the public function that
+--                            searches, `find_base` of crates/links, answers with it, for any table
+--   Sampled y m k            m is a sample of track k (promise_rules/specs/Resolving)
+--   BaseOf y n k c           c is the last sample of track k at or before sample n (the same)
+--   TimesRiseIn y k          within track k times strictly rise (the same)
 --
 -- No other answer on a bundle changes. A refused bundle has no base. In an accepted one the sample named, 23 and 24 are what a
 -- scan of the linked track gives, as they were (`named_by_scan`, `fault_by_scan`), and no other definition of an answer uses the

@@ -1,21 +1,21 @@
 -- Request [6] of document 02, 'A range of samples in one call', nearly in its words, as theorems in plain facts. The proofs stand
 -- in crates/range_rules/proofs and in crates/promise_rules/proofs/RangeLaws. Assumes nothing.
 --
---   range_call                 the call on samples first to last of a bundle, with room for the output and for the lines
---                             (range_rules/specs/Ranges)
---   resolve_call, audit_call    the calls that resolve one sample, and audit all, as in Demands
---   Joins P last n out        out is joined from what each of n, n + 1, .. last adds; P says what one adds
---                             (range_rules/specs/Rules)
---   Gives first_layout b room n x    resolve_call on sample n, with that room, gives x; or it is refused, not with 29, and x is
---                             nothing (the same)
---   Adds r n own line         what sample n adds to the output, and its line, by the rules (promise_rules/specs/Ranging)
---   RangeOf r last n out ls   what samples n, n + 1, .. last add, joined, and their lines, joined (the same)
---   SampleIn                  where what one sample adds stands in the output, and its line in the lines (the same)
---   RangeRefused              with which number, and where, the call is refused (the same)
---   Unlisted r s n            no extractor of sample n is in the naming list of sample s, as in Demands
---   SameAnswers               two calls returned the same and wrote the same bytes up to the counts (range_rules/specs/Rules)
---   WroteAll, OutputsGiven    what a call did to several lent buffers (words/specs/Buffers, promise_rules/specs/Returns)
---   bench_with, slice, extractor    B0 with other samples, and its own (promise_rules/specs/Ranging)
+--   range_call                     the call on samples first to last of a bundle, with room for the output and for the lines
+--                                  (range_rules/specs/Ranges)
+--   resolve_call, audit_call       the calls that resolve one sample, and audit all, as in Demands
+--   Joins P last n out             out is joined from what each of n, n + 1, .. last adds; P says what one adds
+--                                  (range_rules/specs/Rules)
+--   Gives first_layout b room n x  resolve_call on sample n, with that room, gives x; or it is refused, not with 29, and x is
+--                                  nothing (the same)
+--   Adds r n own line              what sample n adds to the output, and its line, by the rules (promise_rules/specs/Ranging)
+--   RangeOf r last n out ls        what samples n, n + 1, .. last add, joined, and their lines, joined (the same)
+--   SampleIn                       where what one sample adds stands in the output, and its line in the lines (the same)
+--   RangeRefused                   with which number, and where, the call is refused (the same)
+--   Unlisted r s n                 no extractor of sample n is in the naming list of sample s, as in Demands
+--   SameAnswers                    two calls returned the same and wrote the same bytes up to the counts (range_rules/specs/Rules)
+--   WroteAll, OutputsGiven         what a call did to several lent buffers (words/specs/Buffers, promise_rules/specs/Returns)
+--   bench_with, slice, extractor   B0 with other samples, and its own (promise_rules/specs/Ranging)
 use Rattle.std.specs.Prelude.{ℕ, ◌+◌, ◌-◌, ◌*◌, ◌≤◌, ◌<◌, ◌≡◌, refl, false, List, [], ◌∷◌, ◌++◌, ◌↔◌, length, drop}
 use Rattle.words.specs.Bytes.{Bytes, bytes, part, splice}
 use Rattle.words.specs.Refusals.{Answer, refused, ok, passed}

@@ -2,18 +2,18 @@
 -- crates/promise_rules/proofs, FateLaws and SalvageLaws, and in crates/salvage_rules/proofs. Assumes nothing.
 --
 --   salvage_call, salvage_alone     the call on a sample of a bundle, and on one outside (salvage_rules/specs/Calls)
---   salvaged x, changes x         the new sample of the sample x, and the list of changes (salvage_rules/specs/Salvage)
+--   salvaged x, changes x           the new sample of the sample x, and the list of changes (salvage_rules/specs/Salvage)
 --   first_fault x, whole_units x    where the first top-level fault is, or the end; the top-level units before it (the same)
---   fate (cut x) p                what becomes of the unit at p: Kept, Dropped or Zeroed; cut x is x up to that fault (the same)
+--   fate (cut x) p                  what becomes of the unit at p: Kept, Dropped or Zeroed; cut x is x up to that fault (the same)
 --   unit_bytes, zeroed_bytes x p    the unit at p with its length field; the same with additional_bytes 0 (the same)
 --   left_by x f p, listed_by x f p  what is left of it, and what is listed, by what becomes of it (the same)
---   change_list_bytes, changes_in    a list as bytes; the list that bytes say (the same)
---   listed w p cs, applied x cs   whether the list cs has a change w at p; what cs makes of the old sample x (the same)
+--   change_list_bytes, changes_in   a list as bytes; the list that bytes say (the same)
+--   listed w p cs, applied x cs     whether the list cs has a change w at p; what cs makes of the old sample x (the same)
 --   StopsAt, InsideFault, Becomes the rules in plain facts (promise_rules/specs/Salvaging)
---   SalvageRefused, SampleSalvageRefused    with which number, and where, the calls are refused (the same)
---   Formed x, Given kind l s x    x is well formed; x is what a call outside a bundle is given, as in Demands (.. /Samples)
---   Tiles x a b ps                the units ps lie without gap or overlap from a to b (units/specs/Rules)
---   WroteAll, OutputsGiven        what a call did to several lent buffers (words/specs/Buffers, promise_rules/specs/Returns)
+--   SalvageRefused, SampleSalvageRefused  with which number, and where, the calls are refused (the same)
+--   Formed x, Given kind l s x            x is well formed; x is what a call outside a bundle is given, as in Demands (.. /Samples)
+--   Tiles x a b ps                        the units ps lie without gap or overlap from a to b (units/specs/Rules)
+--   WroteAll, OutputsGiven                what a call did to several lent buffers (words/specs/Buffers, promise_rules/specs/Returns)
 use Rattle.std.specs.Prelude.{ℕ, ◌+◌, ◌-◌, ◌*◌, ◌≤◌, ◌<◌, ◌≡◌, false, List, [], ◌∷◌, ◌++◌, ◌⊎◌, ◌↔◌, length, drop, get_or}
 use Rattle.std.proofs.Math.Path.{refl}
 use Rattle.words.specs.Tests.{◌<?◌, pick}

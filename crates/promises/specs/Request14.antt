@@ -2,19 +2,19 @@
 -- extractor. Lines and tally stay as they are.' The proofs stand in crates/mark_rules, crates/marks and crates/verdicts. Assumes
 -- nothing.
 --
---   WalkState              what a walk over all units of a sample knows: its place; the end of the last aggregator that it met;
---                          how many units it has met besides aggregators, their bytes, how many of them are extractors
+--   WalkState               what a walk over all units of a sample knows: its place; the end of the last aggregator that it met;
+--                           how many units it has met besides aggregators, their bytes, how many of them are extractors
 --   state_at x d            the state when it first stands at d or past it (crates/mark_rules/specs/States)
 --   reach_from x d n s      the state after at most n steps from s, fewer if it stands at d or past it before
---   UnitBorder x d         d is the start of a unit, top-level or included, or the end of the sample (copies/specs/Flat)
+--   UnitBorder x d          d is the start of a unit, top-level or included, or the end of the sample (copies/specs/Flat)
 --   copy_between z o n a e  26 to 28 of an extractor with data_offset o and data_length n that names z, or how many units and
---                          bytes it copies, by the states a at its start and e at its end (mark_rules/specs/Amounts)
+--                           bytes it copies, by the states a at its start and e at its end (mark_rules/specs/Amounts)
 --   copy_by z rows base o n the same by rows of numbers (marks/specs/Marks); the public function `copy_of` of crates/marks answers
 --                          with it, for any rows
---   block, row_size         1,280 bytes; the five numbers of a row
---   marks z base rows      the rows with the states of z at the ends of its blocks; `mark` leaves these
---   copy_fault, copied      25 to 28; the units in a copy: the rules (copies/specs/Copies)
---   with_judgements b t     a table with the judgement of every sample kept beside it; `judge_all` of crates/verdicts leaves it
+--   block, row_size      1,280 bytes; the five numbers of a row
+--   marks z base rows    the rows with the states of z at the ends of its blocks; `mark` leaves these
+--   copy_fault, copied   25 to 28; the units in a copy: the rules (copies/specs/Copies)
+--   with_judgements b t  a table with the judgement of every sample kept beside it; `judge_all` of crates/verdicts leaves it
 --
 -- That lines and tally stay is said by what stays by text: the audit's definition and contract, Demands (`line_each`,
 -- `tally_counts`, and what refuses a sample), Contents and Request01 to Request05. How long a call takes is measured, and no

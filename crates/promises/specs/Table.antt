@@ -162,9 +162,9 @@ unfolding table gives passes refuses fails record_verdict bundle slice extractor
     byte_fault values_fault head_fault sequences_end pictures_end record_fault read_as read_record
     size type unit_fault places_from top_units border top_between cover_fault included_fault with_included units extractors
     inside_verdict cover_verdict content_verdict check
-    count_fault references_from samples_in size_at track_fault tracks_verdict tracks references_at no_such_track reference_fault references_verdict
-    references samples_at order_fault entry_fault samples_verdict sample_entries lengths byte_count_at byte_count_fault bytes_verdict bundle_verdict
-    layout_of recording_of meaning
+    count_fault references_from samples_in size_at track_fault tracks_verdict tracks references_at no_such_track reference_fault
+    references_verdict references samples_at order_fault entry_fault samples_verdict sample_entries lengths byte_count_at byte_count_fault
+    bytes_verdict bundle_verdict layout_of recording_of meaning
     halving_in link_fault linked_track base_search base sample_named name_fault
     copy_end copy_ends copied border_fault copy_fault
     sample_of named name_fault_at copy_fault_at extract_fault copied_at delivered_at delivered judged written output number_fault resolve

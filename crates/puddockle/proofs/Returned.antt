@@ -1,11 +1,11 @@
 -- What a call gives back, from the answer of the function below. Assumes nothing.
 --
---   returned      number and place
---   output        and count and buffer
---   outputs       the same of several buffers
---   part          and a part of the bundle
---   tally         the three numbers of a tally
---   counts, track, reference, sample, named    what a bundle holds
+--   returned                                 number and place
+--   output                                   and count and buffer
+--   outputs                                  the same of several buffers
+--   part                                     and a part of the bundle
+--   tally                                    the three numbers of a tally
+--   counts, track, reference, sample, named  what a bundle holds
 use Prim.Native.Nat.{ℕ}
 use mathlib.Core.Path.{◌≡◌, refl, ap, ◌∙◌}
 use mathlib.Core.List.{List, map}

@@ -1,13 +1,14 @@
 -- What a call gives back to C: the number of the refusal as its result, the rest through pointers, 0 where there is nothing to say.
 --
---   Returned n p a                    the result n and the place p are those of the answer a
---   ReturnedOutput n p c o o' a       and the count c is how many bytes or numbers it is; the lent slice o is left as o'
---   all_counts, ReturnedOutputs n p cs os os' a    the same of several lent slices, with their counts
---   told f a                          the number f of what an answer tells
---   ReturnedPart n p start size a     and these are the start and size of a part of the bundle
---   ReturnedTally x y z a             x, y and z are the three numbers of a tally
---   ReturnedCounts, ReturnedTrack, ReturnedReference, ReturnedSample    and these are what a bundle holds
---   ReturnedNamed n p sample a        and this is the sample that an extractor names
+--   Returned n p a                               the result n and the place p are those of the answer a
+--   ReturnedOutput n p c o o' a                  and the count c is how many bytes or numbers it is; the lent slice o is left as o'
+--   all_counts, ReturnedOutputs n p cs os os' a  the same of several lent slices, with their counts
+--   told f a                                     the number f of what an answer tells
+--   ReturnedPart n p start size a                and these are the start and size of a part of the bundle
+--   ReturnedTally x y z a                        x, y and z are the three numbers of a tally
+--   ReturnedCounts, ReturnedTrack,
+--   ReturnedReference, ReturnedSample            and these are what a bundle holds
+--   ReturnedNamed n p sample a                   and this is the sample that an extractor names
 use Rattle.std.specs.Prelude.{ℕ, ◌≡◌, List, map, length}
 use Rattle.words.specs.Refusals.{Answer, refused, ok, number_of, place_of, count_of}
 use Rattle.words.specs.Buffers.{counted, leaves, leaves_all}

@@ -1,17 +1,17 @@
 -- What the call on a bundle answers, by any reader. Assumes nothing.
 --
---   range_number, range_answer     the call on a recording: 30, or the joined output and the lines
---   within_out, -short, -fits      with two rooms: 30; 29; both outputs
---   outputs                        the two outputs of an answer
---   range_bundle                   the bundle's own refusal
---   range_means                    else by the recording, with 29
---   range_out                      30
---   range_short, range_fits        29, or both outputs
---   by_room                        one of the three
---   range_refuses, range_gives     refused; answered
---   answered                       one of the two holds
---   refused_because, given_because, given_here    from the answer, what holds
---   refused_with                   which numbers, and where
+--   range_number, range_answer                  the call on a recording: 30, or the joined output and the lines
+--   within_out, -short, -fits                   with two rooms: 30; 29; both outputs
+--   outputs                                     the two outputs of an answer
+--   range_bundle                                the bundle's own refusal
+--   range_means                                 else by the recording, with 29
+--   range_out                                   30
+--   range_short, range_fits                     29, or both outputs
+--   by_room                                     one of the three
+--   range_refuses, range_gives                  refused; answered
+--   answered                                    one of the two holds
+--   refused_because, given_because, given_here  from the answer, what holds
+--   refused_with                                which numbers, and where
 use Prim.Native.Nat.{ℕ, ◌+◌, ◌-◌, ◌*◌, ◌≤◌, ◌<◌}
 use mathlib.Core.Path.{◌≡◌, refl, ap, sym, ◌∙◌, subst}
 use mathlib.Core.List.{List, [], ◌∷◌}

@@ -1,11 +1,11 @@
 -- The lines of samples first to last: how long they are, and that they are lines of the audit. Assumes nothing.
 --
---   lines_length, range_length   13 bytes each
---   lines_append, lines_cong     of joined lists of samples; in two recordings
---   lines_upto, lines_all        of samples 1 to the last, those of the audit
---   lines_split, lines_before, lines_after    in two, after a sample mid
---   lines_part                   of samples first to last, a part of those of the audit
---   line_within                  the line of sample n stands at 13 · (n - first)
+--   lines_length, range_length              13 bytes each
+--   lines_append, lines_cong                of joined lists of samples; in two recordings
+--   lines_upto, lines_all                   of samples 1 to the last, those of the audit
+--   lines_split, lines_before, lines_after  in two, after a sample mid
+--   lines_part                              of samples first to last, a part of those of the audit
+--   line_within                             the line of sample n stands at 13 · (n - first)
 use Prim.Native.Nat.{ℕ, ◌+◌, ◌-◌, ◌*◌, ◌≤◌, ◌<◌}
 use mathlib.Core.Path.{◌≡◌, refl, ap, ap₂, sym, ◌∙◌}
 use mathlib.Core.List.{List, [], ◌∷◌, ◌++◌}

@@ -2,17 +2,17 @@
 -- recording r. `Sound reader` is proved of the first layout in crates/resolution_rules/proofs/Readers. Assumes nothing but what each theorem states.
 --
 -- the call, by any reader
---   answered_exactly, refused_exactly    it answers, or is refused, exactly if ..
---   refused_with            with a number of a sound reader's at a place in the bundle or at its end, or 29 or 30 at 0
+--   answered_exactly, refused_exactly  it answers, or is refused, exactly if ..
+--   refused_with                       with a number of a sound reader's at a place in the bundle or at its end, or 29 or 30 at 0
 --
 -- samples first to last of an accepted bundle
---   one_by_one              answered exactly with what resolving gives for each, joined, and the lines of the audit from first to last, if both fit
---   audit_line              line n of an audit
---   line_stands             the line of each sample is that of the audit, in its place
---   sample_stands           what a sample adds stands after what those before it add, and before what those after it add
---   one_sample              samples n to n
---   whole                   samples 1 to the last have the lines of the audit
---   split_whole, split_parts    a range in two: both answer, and joined they are the range's answer
+--   one_by_one                answered exactly with what resolving gives for each, joined, and the lines of the audit from first to last, if both fit
+--   audit_line                line n of an audit
+--   line_stands               the line of each sample is that of the audit, in its place
+--   sample_stands             what a sample adds stands after what those before it add, and before what those after it add
+--   one_sample                samples n to n
+--   whole                     samples 1 to the last have the lines of the audit
+--   split_whole, split_parts  a range in two: both answer, and joined they are the range's answer
 --
 -- any bytes of the same length in place of those of a sample s
 --   others_range            a range that has neither s nor a sample in its list is answered as before

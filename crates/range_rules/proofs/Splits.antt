@@ -1,11 +1,11 @@
 -- A range in two, and one sample of it. Assumes nothing.
 --
---   joined_split                   the joined output in two, after a sample mid
---   joined_first, lines_first      the output and the lines of the first, then of those after it
---   joined_sample                  what stands before, of, and after sample n
---   joined_one, lines_one          samples n to n
---   whole_of                       two ranges, one right after the other, answered: so is the range of both, if there is room
---   parts_of_lem                       a range answered: so are its two parts
+--   joined_split               the joined output in two, after a sample mid
+--   joined_first, lines_first  the output and the lines of the first, then of those after it
+--   joined_sample              what stands before, of, and after sample n
+--   joined_one, lines_one      samples n to n
+--   whole_of                   two ranges, one right after the other, answered: so is the range of both, if there is room
+--   parts_of_lem               a range answered: so are its two parts
 use Prim.Native.Nat.{ℕ, ◌+◌, ◌-◌, ◌≤◌, ◌<◌}
 use mathlib.Core.Path.{◌≡◌, ap, ap₂, sym, ◌∙◌}
 use mathlib.Core.List.{List, [], ◌∷◌, ◌++◌, append-nil}

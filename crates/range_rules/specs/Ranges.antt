@@ -1,7 +1,7 @@
 -- Samples first to last of a bundle in one call (02, [6]): resolved into one buffer, with a line of the audit for each.
 --
---   lines_of r ns           the audit's lines of the samples ns, in order
---   range r first last     the call on a recording: 30, or what resolving gives for each, joined, and their lines
+--   lines_of r ns       the audit's lines of the samples ns, in order
+--   range r first last  the call on a recording: 30, or what resolving gives for each, joined, and their lines
 --   range_call reader b first last room lines_room
 --                          the call on a bundle, with room for the output and for the lines: 1 to 13, 30, 29, or both
 use Rattle.std.specs.Prelude.{ℕ, List, [], ◌∷◌}

@@ -1,11 +1,11 @@
 -- Numbers read and written, by what was found on the way. Assumes nothing.
 --
---   trailer_length, numbers_length        a trailer is 7 numbers, a record 18
---   trailer_cells                         numbers 11 to 17, one by one
---   copied                                a turn of the copy
---   read_refused, read_short, read_fits   a record that is refused, one without room, one with room
---   read_done                             the call that reads with room
---   fault_enough, fault_refuses, fault_none    numbers that give fields, and numbers that do not
+--   trailer_length, numbers_length           a trailer is 7 numbers, a record 18
+--   trailer_cells                            numbers 11 to 17, one by one
+--   copied                                   a turn of the copy
+--   read_refused, read_short, read_fits      a record that is refused, one without room, one with room
+--   read_done                                the call that reads with room
+--   fault_enough, fault_refuses, fault_none  numbers that give fields, and numbers that do not
 use Prim.Native.Nat.{ℕ, zero, suc, ◌+◌, ◌≤◌, ◌<◌}
 use mathlib.Core.Path.{◌≡◌, refl, ap, sym, ◌∙◌}
 use mathlib.Core.List.{List, [], ◌∷◌}

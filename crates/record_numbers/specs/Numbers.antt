@@ -1,13 +1,13 @@
 -- A record as 18 numbers, in the order of `Indices`.
 --
---   numbers_of r              the numbers of a record
---   read_numbers kind s room  a record read as numbers: the refusals of reading, then 29, or the numbers
---   ns at i                  number i
---   has_complete k            whether a record of kind k has a complete_representation
---   flag_most k               the most that complete_representation may be in a record of kind k
---   numbers_fault k ns        31: too few numbers, or one that is no complete_representation or no trailer
---   fields_from k ns          the fields that numbers give; starts and lengths are not looked at
---   write_numbers kind ns sequences pictures extensions room    a record written from numbers: 4, then 31, then 29, or its bytes
+--   numbers_of r                                              the numbers of a record
+--   read_numbers kind s room                                  a record read as numbers: the refusals of reading, then 29, or the numbers
+--   ns at i                                                   number i
+--   has_complete k                                            whether a record of kind k has a complete_representation
+--   flag_most k                                               the most that complete_representation may be in a record of kind k
+--   numbers_fault k ns                                        31: too few numbers, or one that is no complete_representation or no trailer
+--   fields_from k ns                                          the fields that numbers give; starts and lengths are not looked at
+--   write_numbers kind ns sequences pictures extensions room  a record written from numbers: 4, then 31, then 29, or its bytes
 use Rattle.std.specs.Prelude.{ℕ, Bool, List, [], ◌∷◌, length, get_or}
 use Rattle.words.specs.Tests.{◌<?◌, ◌≡?◌, pick}
 use Rattle.words.specs.RefusalNumbers.{fields_fit_no_record}
@@ -67,7 +67,12 @@ numbers_fault k ns =
     fields_fit_no_record if trailer_present <? ns at trailer
 
 abbrev pub high_from : List ℕ → High
-high_from ns = record { format = ns at chroma_format; luma = ns at luma_depth; chroma = ns at chroma_depth; extensions = ns at extension_count }
+high_from ns = record {
+  format = ns at chroma_format;
+  luma = ns at luma_depth;
+  chroma = ns at chroma_depth;
+  extensions = ns at extension_count;
+}
 
 abbrev pub trailer_from : List ℕ → Trailer
 trailer_from ns =

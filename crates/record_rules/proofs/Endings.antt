@@ -1,7 +1,7 @@
 -- The ways to end a record: callers use these, not the text of `ending_of`. Assumes nothing.
 --
---   by_ending                                  no trailer belongs there; one does and no byte follows; one does and a byte follows
---   ending_none, ending_absent, ending_present    the way that the record ends then
+--   by_ending                                   no trailer belongs there; one does and no byte follows; one does and a byte follows
+--   ending_none, ending_absent, ending_present  the way that the record ends then
 use Prim.Native.Nat.{ℕ, ◌≤◌, ◌<◌}
 use mathlib.Core.Path.{◌≡◌}
 use mathlib.Core.Bool.{true, false}

@@ -1,10 +1,10 @@
 -- What fits a record: set by set, as the writer finds it; and every record that is read. Assumes nothing.
 --
---   fits_by_parts_lem     `fits` is `fits_by_parts`
---   sets_exact        sets that fit are exactly so many, without a refusal
---   Fitting, fitting  what fits, taken apart
---   bytes_bytes       what fits makes bytes
---   read_fits         the fields and the parts of an accepted record fit
+--   fits_by_parts_lem  `fits` is `fits_by_parts`
+--   sets_exact         sets that fit are exactly so many, without a refusal
+--   Fitting, fitting   what fits, taken apart
+--   bytes_bytes        what fits makes bytes
+--   read_fits          the fields and the parts of an accepted record fit
 use Prim.Native.Nat.{ℕ, ◌+◌, ◌-◌, ◌≤◌, ◌<◌}
 use mathlib.Core.Path.{◌≡◌, refl, ap, sym, ◌∙◌}
 use mathlib.Core.Bool.{true}

@@ -1,11 +1,11 @@
 -- Fields and sets are read back from the bytes that they make, byte after byte. Assumes nothing.
 --
---   Start, start            the first bytes that fields and sets make
---   no_bytes                no sets have no bytes
---   Ended, ended            what ends a record is read from the bytes that it makes
---   bytes_fault             the refusal of the bytes of fields and sets: only a length size of 3, or a set
---   bytes_record          what these bytes mean: the fields, and where the sets stand
---   bytes_parts           the sets stand there
+--   Start, start  the first bytes that fields and sets make
+--   no_bytes      no sets have no bytes
+--   Ended, ended  what ends a record is read from the bytes that it makes
+--   bytes_fault   the refusal of the bytes of fields and sets: only a length size of 3, or a set
+--   bytes_record  what these bytes mean: the fields, and where the sets stand
+--   bytes_parts   the sets stand there
 use Prim.Native.Nat.{ℕ, ◌+◌, ◌-◌, ◌%◌, ◌≤◌, ◌<◌}
 use mathlib.Core.Path.{◌≡◌, refl, ap, sym, ◌∙◌}
 use mathlib.Core.Bool.{true}

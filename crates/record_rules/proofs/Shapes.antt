@@ -1,13 +1,13 @@
 -- A byte as flags, fixed bits and a value; and what holds of each kind's row. Assumes nothing.
 --
---   byte_rest, plain_byte         a byte with its fixed bits is made by its value, below its flags
---   byte_below                    the byte of a value lies below the flags
---   fixed_back, value_back        a byte gives back the fixed bits and the value that made it
---   plain_rest, plain_below       the same of a byte without flags
---   value_below, value_byte       a value is below its bits, and below 256
---   sound_chroma, sound_depth, Row, row    every shape is sound: a new kind is one more clause
---   Flagged, flagged, flags_made, flags_fit_lem    the flags of the length size's byte: a new kind is one more clause in each
---   flag_back                     a flag that fits is read back from its bit
+--   byte_rest, plain_byte                        a byte with its fixed bits is made by its value, below its flags
+--   byte_below                                   the byte of a value lies below the flags
+--   fixed_back, value_back                       a byte gives back the fixed bits and the value that made it
+--   plain_rest, plain_below                      the same of a byte without flags
+--   value_below, value_byte                      a value is below its bits, and below 256
+--   sound_chroma, sound_depth, Row, row          every shape is sound: a new kind is one more clause
+--   Flagged, flagged, flags_made, flags_fit_lem  the flags of the length size's byte: a new kind is one more clause in each
+--   flag_back                                    a flag that fits is read back from its bit
 use Prim.Native.Nat.{ℕ, ◌+◌, ◌*◌, ◌/◌, ◌%◌, ◌≤◌, ◌<◌}
 use mathlib.Core.Path.{◌≡◌, refl, ap, sym, ◌∙◌}
 use mathlib.Core.Bool.{Bool, true, false}

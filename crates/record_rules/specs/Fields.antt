@@ -1,12 +1,12 @@
 -- The bytes that given fields and sets make, and whether these fit a record (31 otherwise; 01, 'Configuration records').
 -- The lent sets: of sequence sets, of picture sets and of the trailer's, each set after its 2-byte length.
 --
---   flags_of f                                          the flags of a record, the first first
---   head_bytes k f                                      the six bytes before the sequence sets
---   record_bytes k f sequences pictures extensions      the record's bytes
---   placed f sequences pictures extensions             the fields, and where their sets stand in these bytes
---   numbers_fit k f                                     every number fits its bits
---   fits k f sequences pictures extensions             none of the reasons for 31 holds
+--   flags_of f                                      the flags of a record, the first first
+--   head_bytes k f                                  the six bytes before the sequence sets
+--   record_bytes k f sequences pictures extensions  the record's bytes
+--   placed f sequences pictures extensions          the fields, and where their sets stand in these bytes
+--   numbers_fit k f                                 every number fits its bits
+--   fits k f sequences pictures extensions          none of the reasons for 31 holds
 use Rattle.std.specs.Prelude.{ℕ, ◌+◌, ◌-◌, Bool, List, [], ◌∷◌, ◌++◌, length}
 use Rattle.words.specs.Tests.{◌<?◌, ◌≤?◌, ◌≡?◌, all}
 use Rattle.numbers.specs.declared.Kind.{Kind}

@@ -1,18 +1,18 @@
 -- The bytes of a decoder configuration record (5.2.4.1.1, A.5.2.2; 01, 'Configuration records'), shared by reading and writing.
 -- A byte is flags, fixed bits and a value, from the top. What the kinds differ in is one row of `record_layout` each.
 --
---   version, version_at .. count_at, head_size    the bytes before the sequence sets
+--   version, version_at .. count_at, head_size  the bytes before the sequence sets
 --   bad_size                                    the length size that no record may state
---   n ones v bits, n zeros v bits              a byte of n fixed bits and a value of v bits; what stands above them are flags
---   fixed_in h b, value_in h b                   the fixed bits and the value of the byte b by the shape h
---   byte_of h v, is_byte v                       the byte of a value, without flags; whether a number fits a byte
---   SoundShape h                                    what holds of every shape
+--   n ones v bits, n zeros v bits               a byte of n fixed bits and a value of v bits; what stands above them are flags
+--   fixed_in h b, value_in h b                  the fixed bits and the value of the byte b by the shape h
+--   byte_of h v, is_byte v                      the byte of a value, without flags; whether a number fits a byte
+--   SoundShape h                                what holds of every shape
 --   record_layout k                             the row of kind k
 --   picture_types                               the types of picture sets
---   bit f, flag_of has n, flag_fits has f        a flag as a bit, as it is read, and whether it fits
+--   bit f, flag_of has n, flag_fits has f       a flag as a bit, as it is read, and whether it fits
 --   complete_flag                               which flag complete_representation is: the first, 0
 --   flag_in n i b                               flag i, from 0, of a byte that begins with n flags
---   flags_byte i fs, flags_fit n i fs            flags from i on: what they count in a byte, and whether a byte of n flags has them
+--   flags_byte i fs, flags_fit n i fs           flags from i on: what they count in a byte, and whether a byte of n flags has them
 --   missing s p, byte_fault s h p               the refusal of a byte that must be there, and of one with fixed bits
 use Rattle.std.specs.Prelude.{ℕ, ◌+◌, ◌-◌, ◌*◌, ◌/◌, ◌%◌, ◌^◌, ◌<◌, ◌≤◌, Bool, true, false, ◌&&◌, not, List, [], ◌∷◌, length}
 use Rattle.words.specs.Tests.{◌<?◌, ◌≤?◌, ◌≡?◌, pick}

@@ -1,13 +1,14 @@
 -- The refusals 8 to 13 of the bytes s of a record of kind k, front to back, and what an accepted record means.
 -- Stricter than 5.2.4.1: other types in an array are 12, bytes after the record 13, and the fixed bits are judged.
 --
---   length_size                      the length size that the record states
---   head_fault                       the six bytes before the sequence sets
---   sequence_count, sequences_fault, sequences_end, picture_count, pictures_fault, pictures_end    the sets
---   trailer_of, extensions_at, record_end, follow_fault    what ends the record, after the picture sets
---   record_fault                     the first refusal
---   fields_of, record_of              what an accepted record means
---   read_as, read_record              the answer
+--   length_size                                          the length size that the record states
+--   head_fault                                           the six bytes before the sequence sets
+--   sequence_count, sequences_fault, sequences_end,
+--   picture_count, pictures_fault, pictures_end          the sets
+--   trailer_of, extensions_at, record_end, follow_fault  what ends the record, after the picture sets
+--   record_fault                                         the first refusal
+--   fields_of, record_of                                 what an accepted record means
+--   read_as, read_record                                 the answer
 --
 -- A byte is asked for (8) when the walk reaches it. Where sets end is said of any bytes; past a refusal it has no meaning and no use.
 use Rattle.std.specs.Prelude.{ℕ, ◌+◌, ◌-◌, not, List, length}

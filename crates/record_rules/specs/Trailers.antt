@@ -2,13 +2,13 @@
 -- belongs; where one does, the trailer, or nothing, and then it is absent. Each way is one clause of `ending`; which one a record ends
 -- with says `ending_of`; reading and writing follow from the two.
 --
---   trailer_belongs k profile        whether a trailer belongs to a record of a kind and a profile
+--   trailer_belongs k profile         whether a trailer belongs to a record of a kind and a profile
 --   chroma_shape, depth_shape         the bytes of a trailer's values
---   extension_types                  the types of a trailer's sets
---   high_bytes t, high_numbers_fit t   the four bytes of a trailer before its sets, and whether its numbers fit their bits
+--   extension_types                   the types of a trailer's sets
+--   high_bytes t, high_numbers_fit t  the four bytes of a trailer before its sets, and whether its numbers fit their bits
 --   values_fault s q, high_of s q     the same bytes read from s at q: their refusal, and their values
---   Ending, nothing, ending t       the facts of each way to end a record
---   ending_of k s q                  the way that the record s ends, after picture sets that end at q; absent only if no byte follows
+--   Ending, nothing, ending t         the facts of each way to end a record
+--   ending_of k s q                   the way that the record s ends, after picture sets that end at q; absent only if no byte follows
 use Rattle.std.specs.Prelude.{ℕ, ◌+◌, Bool, true, ◌||◌, ◌&&◌, not, List, [], ◌∷◌, length}
 use Rattle.words.specs.Tests.{◌<?◌, ◌≤?◌, ◌≡?◌, pick, all}
 use Rattle.words.specs.Refusals.{◌or_else◌}

@@ -1,19 +1,19 @@
 -- Laws of the writer. Assumes nothing.
 --
---   bytes_length                  how long a record is
---   front_written, record_written    the writes of a record, one after the other
---   write_misfit, write_fits      the answer where the fields fit, and where not
---   room_lacks, room_fits         whether there is room
+--   bytes_length                   how long a record is
+--   front_written, record_written  the writes of a record, one after the other
+--   write_misfit, write_fits       the answer where the fields fit, and where not
+--   room_lacks, room_fits          whether there is room
 use Prim.Native.Nat.{ℕ, ◌+◌, ◌≤◌, ◌<◌}
 use mathlib.Core.Path.{◌≡◌, refl, ap, sym, ◌∙◌}
-use mathlib.Core.Bool.{Bool, true, false}
+use mathlib.Core.Bool.{true, false}
 use mathlib.Core.List.{List, [], ◌∷◌, ◌++◌, append_assoc}
 use native.Mathlib.Omega.{arith}
 use borrow.Author.Tests.{ltb-true, ltb-false}
 use lib.ListN.{length, length-append}
 use Rattle.words.specs.Tests.{◌<?◌}
 use Rattle.words.specs.RefusalNumbers.{fields_fit_no_record}
-use Rattle.words.specs.Refusals.{Answer, refused, ok}
+use Rattle.words.specs.Refusals.{refused, ok}
 use Rattle.words.specs.Buffers.{write_at, put, overwrite}
 use Rattle.words.proofs.Tests.{by_bool}
 use Rattle.words.proofs.Buffers.{put_fits, put_next, write_write, write_first}
@@ -23,7 +23,6 @@ use Rattle.record_rules.specs.Fields.{head_bytes, record_bytes, fits}
 use Rattle.record_rules.specs.declared.Fields.{Fields}
 use Rattle.record_writer.specs.Write.{write_as}
 use Rattle.record_writer.specs.Steps.{room_for}
-use Rattle.record_writer.specs.declared.Room.{Room}
 use Rattle.record_writer.specs.declared.Room.TheVariants.{Lacks, Fits}
 
 pub bytes_length : (k : Kind) (f : Fields) (a b x : List ℕ) → length (record_bytes k f a b x) ≡ 7 + length (ending f.trailer).head + length a + length b + length x

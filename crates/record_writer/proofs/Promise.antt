@@ -1,13 +1,13 @@
 -- The promises of reading and writing records. Assumes nothing.
 --
---   writes_back       an accepted record, written again, gives the same bytes
---   reads_back        what was written reads back as what was given
---   misfits_exactly   31 arises exactly if no accepted record has those fields and sets
---   within_ok, written               what was written, by the answer within its room, and by the fields
---   read_refusals_lem, write_refusals_lem    every refusal is one of the named, at place 0
-use Prim.Native.Nat.{ℕ, ◌≤◌, ◌<◌}
+--   writes_back                            an accepted record, written again, gives the same bytes
+--   reads_back                             what was written reads back as what was given
+--   misfits_exactly                        31 arises exactly if no accepted record has those fields and sets
+--   within_ok, written                     what was written, by the answer within its room, and by the fields
+--   read_refusals_lem, write_refusals_lem  every refusal is one of the named, at place 0
+use Prim.Native.Nat.{ℕ, ◌≤◌}
 use mathlib.Core.Path.{◌≡◌, refl, ap, sym, ◌∙◌, subst}
-use mathlib.Core.Bool.{Bool, true, false, not}
+use mathlib.Core.Bool.{true, false}
 use mathlib.Core.List.Memᴰ
 use mathlib.Core.List.{List}
 use mathlib.Core.Logic.{◌⊎◌, inl, inr, ⊎_elim}
@@ -16,22 +16,21 @@ use borrow.Author.Tests.{ltb-false}
 use lib.ListN.{length}
 use Rattle.words.specs.Tests.{◌<?◌}
 use Rattle.words.specs.RefusalNumbers.{unknown_kind, record_refusals, fields_fit_no_record, output_too_long}
-use Rattle.words.specs.Refusals.{◌if◌, Answer, refused, ok}
+use Rattle.words.specs.Refusals.{Answer, refused, ok}
 use Rattle.words.specs.Bytes.{Bytes}
 use Rattle.words.specs.Buffers.{within}
 use Rattle.words.proofs.Tests.{by_bool, true_false}
 use Rattle.words.proofs.Refusals.{ok_same, ok_refused, none_or_some, refused_same}
-use Rattle.words.proofs.Buffers.{within_room, within_not}
-use Rattle.numbers.specs.Kinds.{kind_of, on_kind}
+use Rattle.words.proofs.Buffers.{within_room}
+use Rattle.numbers.specs.Kinds.{kind_of}
 use Rattle.numbers.specs.declared.Kind.{Kind}
 use Rattle.numbers.specs.declared.MaybeKind.TheVariants.{Known, Unknown}
 use Rattle.record_rules.specs.Fields.{record_bytes, placed, fits}
-use Rattle.record_rules.specs.Answers.{part_bytes, written_again}
 use Rattle.record_rules.specs.declared.Fields.{Fields}
 use Rattle.record_rules.proofs.Answers.{accepted_as, good_read, refused_as, kind_cases, read_known, read_unknown}
 use Rattle.record_rules.proofs.BytesBack.{bytes_back}
 use Rattle.record_rules.proofs.ReadsBack.{bytes_record, bytes_parts}
-use Rattle.record_rules.proofs.Fits.{Fitting, fitting, bytes_bytes, read_fits}
+use Rattle.record_rules.proofs.Fits.{fitting, bytes_bytes, read_fits}
 use Rattle.record_rules.proofs.Refusals.{record_refusal}
 use Rattle.record_writer.specs.Write.{write_as, write_record}
 use Rattle.record_writer.specs.Promise.{Holds, WritesBack, ReadsBack, MisfitsExactly, ReadRefusals, WriteRefusals}

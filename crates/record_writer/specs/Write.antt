@@ -1,7 +1,7 @@
 -- Writing a record: an unknown kind is 4, then fields that fit no record 31, then too little room 29, all at 0; else the record's bytes.
 use Rattle.std.specs.Prelude.{ℕ, not, List}
 use Rattle.words.specs.RefusalNumbers.{fields_fit_no_record}
-use Rattle.words.specs.Refusals.{◌if◌, Answer, refused, ok, ◌at_place◌, ◌and_then◌}
+use Rattle.words.specs.Refusals.{◌if◌, Answer, ok, ◌at_place◌, ◌and_then◌}
 use Rattle.words.specs.Buffers.{within}
 use Rattle.numbers.specs.Kinds.{kind_of, on_kind}
 use Rattle.numbers.specs.declared.Kind.{Kind}

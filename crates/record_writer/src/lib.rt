@@ -1,5 +1,6 @@
 // Writing decoder configuration records.
 #![tactic(auto)]
+
 mod fitting;
 mod putting;
 

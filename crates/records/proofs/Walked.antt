@@ -1,10 +1,10 @@
 -- Laws for the steps of the reader. Assumes nothing.
 --
---   head_on               the bytes after the version
---   walked                what a walk over sets has found
---   cut_walk              a walk that is refused before its sets
---   follow_none, follow_absent, follow_refused, follow_present    what follows the picture sets
---   refused_head, -sequences, -pictures, -follow, -after, whole_record, accepted    the reader's answer, from its steps
+--   head_on                                                                       the bytes after the version
+--   walked                                                                        what a walk over sets has found
+--   cut_walk                                                                      a walk that is refused before its sets
+--   follow_none, follow_absent, follow_refused, follow_present                    what follows the picture sets
+--   refused_head, -sequences, -pictures, -follow, -after, whole_record, accepted  the reader's answer, from its steps
 use Prim.Native.Nat.{ℕ, ◌+◌, ◌≤◌, ◌<◌}
 use mathlib.Core.Path.{◌≡◌, refl, ap, sym, ◌∙◌}
 use mathlib.Core.Bool.{true, false}

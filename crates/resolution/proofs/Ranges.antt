@@ -1,10 +1,10 @@
 -- Samples one after the other, as the code writes them. Assumes nothing.
 --
---   kept_refused, kept_good       what sample n gives, by the judgement kept beside it
---   Joining, joining_start, -length, -room, -more, -end    a loop over the samples
---   range_refused, range_short, range_joined    the answer by how the samples are judged
---   range_answer                                that of a range whose numbers are good
---   range_size, range_same, range_ready         its length; the table then says the same, and keeps what is needed to write
+--   kept_refused, kept_good                              what sample n gives, by the judgement kept beside it
+--   Joining, joining_start, -length, -room, -more, -end  a loop over the samples
+--   range_refused, range_short, range_joined             the answer by how the samples are judged
+--   range_answer                                         that of a range whose numbers are good
+--   range_size, range_same, range_ready                  its length; the table then says the same, and keeps what is needed to write
 use Prim.Native.Nat.{ℕ, ◌+◌, ◌-◌, ◌≤◌, ◌<◌}
 use mathlib.Core.Path.{◌≡◌, refl, ap, sym, ◌∙◌}
 use mathlib.Core.List.{List, [], ◌++◌}

@@ -1,8 +1,8 @@
 -- Delivered units, each after 4 bytes: its length, or a start code.
 --
---   front_of f size        the number in the 4 bytes before a unit of a size
---   framed_unit f r u      a delivered unit after its 4 bytes
---   framed f r us         delivered units so
+--   front_of f size    the number in the 4 bytes before a unit of a size
+--   framed_unit f r u  a delivered unit after its 4 bytes
+--   framed f r us      delivered units so
 use Rattle.std.specs.Prelude.{ℕ, List, ◌++◌}
 use Rattle.words.specs.Lists.{each}
 use Rattle.words.specs.Bytes.{bytes}

@@ -1,13 +1,13 @@
 -- The bytes that a sample delivers, own and copied, as sums over all its units. Assumes nothing.
 --
---   sum_keep, sum_add, sum_same      sums over some elements, of two sums, of equal numbers
---   size_total                       the length of the output by the bytes of its units
---   total_each                       the bytes of joined lists
---   own_at, copied_size_at              the own bytes and the copied bytes that the unit at p delivers
---   own_unit, own_aggregator, own_extractor, copied_other, copied_extractor     by what it is
---   own_sum, copied_sum              own and copied bytes as sums over all units
---   delivered_bytes                  own and copied bytes are all that is delivered
---   delivered_size, output_bytes     so the length of the output, of a good sample: 4 more for each unit
+--   sum_keep, sum_add, sum_same                                              sums over some elements, of two sums, of equal numbers
+--   size_total                                                               the length of the output by the bytes of its units
+--   total_each                                                               the bytes of joined lists
+--   own_at, copied_size_at                                                   the own bytes and the copied bytes that the unit at p delivers
+--   own_unit, own_aggregator, own_extractor, copied_other, copied_extractor  by what it is
+--   own_sum, copied_sum                                                      own and copied bytes as sums over all units
+--   delivered_bytes                                                          own and copied bytes are all that is delivered
+--   delivered_size, output_bytes                                             so the length of the output, of a good sample: 4 more for each unit
 use Prim.Native.Nat.{ℕ, ◌+◌, ◌*◌}
 use mathlib.Core.Path.{◌≡◌, refl, ◌∙◌}
 use mathlib.Core.List.{List, [], ◌∷◌, map}

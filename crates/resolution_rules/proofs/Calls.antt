@@ -1,19 +1,19 @@
 -- What the calls answer, case by case. Assumes nothing.
 --
---   number_good, number_bad, by_count, number_there    30
---   resolve_number, -sample, -good             resolving a sample of a recording
---   unit_number, -sample, -past, -good         one delivered unit
---   parts_number, -sample, -good               where all delivered units stand
---   named_number, -form, -none, -extractor     the sample that an extractor names
---   call_bundle, call_means                    resolving by a bundle and a reader: 1 to 13, else by its recording, with 29
---   unit_bundle, unit_means                    one delivered unit by a bundle; so parts- and named_bundle, -means
---   resolves, resolved_because, refuses, refused_because     resolving answers, or is refused, exactly if ..
---   refused_with                               which numbers, and where
---   unit_refuses, unit_because                 one unit is refused exactly if ..
---   call_resolves, call_resolved_because, call_refuses, call_refused_because, unit_call_refuses, unit_call_because    the same by a bundle
---   span_in_lem                                    a delivered unit is a part of the bundle
---   unit_part_lem                                  the unit call gives that part
---   joined                                     resolving joins what the unit call gives
+--   number_good, number_bad, by_count, number_there                                                                 30
+--   resolve_number, -sample, -good                                                                                  resolving a sample of a recording
+--   unit_number, -sample, -past, -good                                                                              one delivered unit
+--   parts_number, -sample, -good                                                                                    where all delivered units stand
+--   named_number, -form, -none, -extractor                                                                          the sample that an extractor names
+--   call_bundle, call_means                                                                                         resolving by a bundle and a reader: 1 to 13, else by its recording, with 29
+--   unit_bundle, unit_means                                                                                         one delivered unit by a bundle; so parts- and named_bundle, -means
+--   resolves, resolved_because, refuses, refused_because                                                            resolving answers, or is refused, exactly if ..
+--   refused_with                                                                                                    which numbers, and where
+--   unit_refuses, unit_because                                                                                      one unit is refused exactly if ..
+--   call_resolves, call_resolved_because, call_refuses, call_refused_because, unit_call_refuses, unit_call_because  the same by a bundle
+--   span_in_lem                                                                                                     a delivered unit is a part of the bundle
+--   unit_part_lem                                                                                                   the unit call gives that part
+--   joined                                                                                                          resolving joins what the unit call gives
 use Prim.Native.Nat.{ℕ, ◌≤◌, ◌<◌}
 use mathlib.Core.Path.{◌≡◌, refl, sym, ◌∙◌, subst}
 use mathlib.Core.Bool.{true, false}

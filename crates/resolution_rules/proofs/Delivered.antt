@@ -1,17 +1,17 @@
 -- What is delivered, unit by unit: the laws that loops over the units of a sample follow. Assumes nothing.
 --
---   aggregator_only, extractor_only     no unit is both
---   delivered_unit_lem, -aggregator, -extractor    what is delivered for a unit
---   delivered_with, delivered_tops       what is delivered for a top-level unit with what it includes, and for all of them
---   delivered_top, delivered_included   for a top-level unit that is no aggregator, and for one that is
---   extract_judge                        23 to 28 of the extractor at a place
---   unit_judge, unit_judge_lem, unit_passes  the same for any unit: nothing where it is no extractor
---   with_judge, with_top, with_included_lem  for a top-level unit with what it includes
---   extractors_units, extractors_tops   23 to 28 by a walk over all units, or over the top-level units
---   judged_form, judged_extractors      14 to 28 by parts
---   output_none, output_one, output_append, output_each    the output as it grows
---   Inside, span_length, written_length                    a span that lies in its sample
---   output_size, size_none, size_one, size_append, output_length    the length of the output as a sum
+--   aggregator_only, extractor_only                               no unit is both
+--   delivered_unit_lem, -aggregator, -extractor                   what is delivered for a unit
+--   delivered_with, delivered_tops                                what is delivered for a top-level unit with what it includes, and for all of them
+--   delivered_top, delivered_included                             for a top-level unit that is no aggregator, and for one that is
+--   extract_judge                                                 23 to 28 of the extractor at a place
+--   unit_judge, unit_judge_lem, unit_passes                       the same for any unit: nothing where it is no extractor
+--   with_judge, with_top, with_included_lem                       for a top-level unit with what it includes
+--   extractors_units, extractors_tops                             23 to 28 by a walk over all units, or over the top-level units
+--   judged_form, judged_extractors                                14 to 28 by parts
+--   output_none, output_one, output_append, output_each           the output as it grows
+--   Inside, span_length, written_length                           a span that lies in its sample
+--   output_size, size_none, size_one, size_append, output_length  the length of the output as a sum
 use Prim.Native.Nat.{ℕ, ◌+◌, ◌≤◌}
 use mathlib.Core.Path.{◌≡◌, refl, ap, ◌∙◌}
 use mathlib.Core.List.{List, [], ◌∷◌, ◌++◌, map, append-nil, Memᴰ}

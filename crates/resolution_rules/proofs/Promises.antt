@@ -1,31 +1,31 @@
 -- What resolving promises. `judged r n ≡ ok tt` says that sample n of the recording r is good, `reader.means b ≡ ok r` that the bundle b is
 -- accepted by the reader and means r. Of a recording nothing is needed but what a line says. For any L. Assumes nothing.
 --
---   good_exactly           a sample is good exactly if it is well formed and each of its extractors follows the rules
---   delivers_exactly       a good sample delivers its own units that are neither aggregators nor extractors, top-level and included, in order, with
---                          each extractor's copy in its place; and nothing else
---   in_place_once          what is delivered for a unit stands once, after that of the units before it, before that of the units after it
---   covered_once           a unit covered by additional_bytes is delivered once
---   included_once          so is one included in an aggregator
---   plain_units_lem            every delivered unit lies in its sample, starts right after the length field of a unit there, has that unit's size, and is
---                          neither an aggregator nor an extractor
---   no_aggregator_or_extractor    the same by the type in its first byte
---   counted_bytes          the output of a good sample is as long as its own bytes delivered, those copied, and 4 for each delivered unit
---   sample_refusals_lem        a sample is refused with a number of its set, at a place in the sample
---   first_refused          by its own check, else by its first extractor that is refused
---   resolved_exactly       resolving answers exactly if the number is there, the sample good and the output fits: with that output
---   refused_exactly        else it is refused: the number is not there, the sample not good, or the output too long
---   refused_with           with a number of its set at a place in the sample, or 29 or 30 at 0
---   unit_refused_exactly   one unit is refused exactly if a number is not there or the sample is not good
---   call_resolved_exactly, call_refused_exactly, unit_call_refused_exactly    the same by a bundle and a reader, with 1 to 13 first
---   refused_empty          a refused unit has no bytes
---   unit_gives             the call for a unit gives its part of the bundle, for every number from 1 to the last
---   resolving_joins        resolving a sample joins what the call for a unit gives, each after its length
---   extracted_gives        the function on two samples gives the units that a good extractor stands for
---   never_itself           in an accepted bundle no extractor names its own sample
---   named_from_base        the sample named, in an accepted bundle: signed steps from the base, in sample numbers, within the linked track
---   none_without_base      no base: every sample of the linked track is later, and no sample is named
---   base_is_last           the base: the last sample of the linked track at or before the own sample's time
+--   good_exactly                                                            a sample is good exactly if it is well formed and each of its extractors follows the rules
+--   delivers_exactly                                                        a good sample delivers its own units that are neither aggregators nor extractors, top-level and included, in order, with
+--                                                                           each extractor's copy in its place; and nothing else
+--   in_place_once                                                           what is delivered for a unit stands once, after that of the units before it, before that of the units after it
+--   covered_once                                                            a unit covered by additional_bytes is delivered once
+--   included_once                                                           so is one included in an aggregator
+--   plain_units_lem                                                         every delivered unit lies in its sample, starts right after the length field of a unit there, has that unit's size, and is
+--                                                                           neither an aggregator nor an extractor
+--   no_aggregator_or_extractor                                              the same by the type in its first byte
+--   counted_bytes                                                           the output of a good sample is as long as its own bytes delivered, those copied, and 4 for each delivered unit
+--   sample_refusals_lem                                                     a sample is refused with a number of its set, at a place in the sample
+--   first_refused                                                           by its own check, else by its first extractor that is refused
+--   resolved_exactly                                                        resolving answers exactly if the number is there, the sample good and the output fits: with that output
+--   refused_exactly                                                         else it is refused: the number is not there, the sample not good, or the output too long
+--   refused_with                                                            with a number of its set at a place in the sample, or 29 or 30 at 0
+--   unit_refused_exactly                                                    one unit is refused exactly if a number is not there or the sample is not good
+--   call_resolved_exactly, call_refused_exactly, unit_call_refused_exactly  the same by a bundle and a reader, with 1 to 13 first
+--   refused_empty                                                           a refused unit has no bytes
+--   unit_gives                                                              the call for a unit gives its part of the bundle, for every number from 1 to the last
+--   resolving_joins                                                         resolving a sample joins what the call for a unit gives, each after its length
+--   extracted_gives                                                         the function on two samples gives the units that a good extractor stands for
+--   never_itself                                                            in an accepted bundle no extractor names its own sample
+--   named_from_base                                                         the sample named, in an accepted bundle: signed steps from the base, in sample numbers, within the linked track
+--   none_without_base                                                       no base: every sample of the linked track is later, and no sample is named
+--   base_is_last                                                            the base: the last sample of the linked track at or before the own sample's time
 use Prim.Native.Nat.{ℕ, ◌+◌, ◌*◌, ◌%◌, ◌≤◌, ◌<◌}
 use mathlib.Core.Path.{◌≡◌, ap, sym, ◌∙◌}
 use mathlib.Core.List.{List, [], ◌++◌, Memᴰ}

@@ -1,12 +1,12 @@
 -- Laws of samples first to last, one after the other. Assumes nothing.
 --
---   between_none, -more, -split, -all    the numbers: none; one more; in two; from 1 on
---   between_one, between_first           n to n; n, then those after it
---   between_mem, between_from            membership, both ways
---   between_length                       how many
---   range_good, range_bad, by_range, range_there    30
---   given_refused, given_good            what a sample adds: nothing if it is refused, else what it delivers
---   joined_none, -more, -append, -cong   what samples add, joined
+--   between_none, -more, -split, -all             the numbers: none; one more; in two; from 1 on
+--   between_one, between_first                    n to n; n, then those after it
+--   between_mem, between_from                     membership, both ways
+--   between_length                                how many
+--   range_good, range_bad, by_range, range_there  30
+--   given_refused, given_good                     what a sample adds: nothing if it is refused, else what it delivers
+--   joined_none, -more, -append, -cong            what samples add, joined
 use Prim.Native.Nat.{ℕ, zero, suc, ◌+◌, ◌-◌, ◌≤◌, ◌<◌}
 use mathlib.Core.Path.{◌≡◌, refl, ap, ap₂, sym, ◌∙◌}
 use mathlib.Core.List.{List, [], ◌∷◌, ◌++◌, append_assoc, append-nil, Memᴰ}

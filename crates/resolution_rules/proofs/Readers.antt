@@ -1,8 +1,8 @@
 -- What is proved of the reader of the first layout. Assumes nothing.
 --
---   first_layout_sound     it is sound
---   verdict_refuses, refused_verdict    a bundle is refused exactly as its check says
---   content_most          the samples of an accepted bundle have at most so many bytes as the bundle
+--   first_layout_sound                it is sound
+--   verdict_refuses, refused_verdict  a bundle is refused exactly as its check says
+--   content_most                      the samples of an accepted bundle have at most so many bytes as the bundle
 use Prim.Native.Nat.{ℕ, zero, suc, ◌+◌, ◌-◌, ◌≤◌, ◌<◌}
 use mathlib.Core.Path.{◌≡◌, sym, ◌∙◌}
 use mathlib.Core.List.{List, [], ◌++◌}

@@ -1,10 +1,10 @@
 -- How much a good sample delivers, at most: so that counts and totals fit a word. Assumes nothing.
 --
---   sum_most                     a sum of numbers that are at most k
---   size_each                    the output of joined lists
---   copied_most, copied_count    what an extractor delivers: in the output four times the bytes of the sample named at most, and no more units than bytes
---   at_most, at_count            the same for any unit, in a recording whose samples have at most c bytes
---   delivered_most, delivered_count    for the whole sample
+--   sum_most                         a sum of numbers that are at most k
+--   size_each                        the output of joined lists
+--   copied_most, copied_count        what an extractor delivers: in the output four times the bytes of the sample named at most, and no more units than bytes
+--   at_most, at_count                the same for any unit, in a recording whose samples have at most c bytes
+--   delivered_most, delivered_count  for the whole sample
 use Prim.Native.Nat.{ℕ, ◌+◌, ◌*◌, ◌≤◌}
 use mathlib.Core.Path.{◌≡◌, refl, ap, ◌∙◌}
 use mathlib.Core.List.{List, [], ◌∷◌, map, Memᴰ}

@@ -2,31 +2,31 @@
 -- unit 30 again, for its number, after 28; for one extractor 30 again, for its place, after 22; for a byte stream 32 between 28 and 29. A
 -- reader says what a bundle b means; each order of refusals stands here once, for all calls.
 --
---   span_bytes r u                  the bytes of a delivered unit
---   bytes_of r us                   the bytes of each of them
---   written r u, output r us       a delivered unit after a 4-byte length; delivered units so
---   number_fault count n            30
---   on_number count n a             30 for the number n of count, else a
---   on_sample r n a                 30 for the sample number n, else a
---   on_good r n a                   30, then 14 to 28 of sample n, else a
---   on_unit r n k a                 the same, then 30 for the number k of a delivered unit, else a
---   on_meaning, on_bundle            1 to 13 of a bundle by a reader, else what is said of its recording
---   resolve r n                    sample n resolved
---   stream r n                     what sample n delivers as a byte stream: 32 after 28 (02, [2])
---   resolve_unit r n k              the kth unit that sample n delivers
---   resolve_call reader b n room    the call on a bundle, with room for the output
---   stream_call reader b n room     the same, as a byte stream
---   unit_call reader b n k          the call for one unit
---   place_on starts u               where a unit stands, by where samples start
---   placed_by starts a              the same for an answer
---   place_call reader b n k         the call for where in the bundle that unit stands
---   part_numbers q, parts_by starts us    a part as two numbers; where units stand, two numbers each
---   parts_of r n starts             where all units of sample n stand
---   parts_call reader b n room      the call for where in the bundle all units stand, with room for these numbers
---   named_in r n p                  the sample that the extractor at p of sample n names
---   named_call reader b n p         the call for it
---   span_in reader b u              a delivered unit as a part of the bundle
---   unit_part reader b a            that part for the answer of unit_call; empty if refused
+--   span_bytes r u                      the bytes of a delivered unit
+--   bytes_of r us                       the bytes of each of them
+--   written r u, output r us            a delivered unit after a 4-byte length; delivered units so
+--   number_fault count n                30
+--   on_number count n a                 30 for the number n of count, else a
+--   on_sample r n a                     30 for the sample number n, else a
+--   on_good r n a                       30, then 14 to 28 of sample n, else a
+--   on_unit r n k a                     the same, then 30 for the number k of a delivered unit, else a
+--   on_meaning, on_bundle               1 to 13 of a bundle by a reader, else what is said of its recording
+--   resolve r n                         sample n resolved
+--   stream r n                          what sample n delivers as a byte stream: 32 after 28 (02, [2])
+--   resolve_unit r n k                  the kth unit that sample n delivers
+--   resolve_call reader b n room        the call on a bundle, with room for the output
+--   stream_call reader b n room         the same, as a byte stream
+--   unit_call reader b n k              the call for one unit
+--   place_on starts u                   where a unit stands, by where samples start
+--   placed_by starts a                  the same for an answer
+--   place_call reader b n k             the call for where in the bundle that unit stands
+--   part_numbers q, parts_by starts us  a part as two numbers; where units stand, two numbers each
+--   parts_of r n starts                 where all units of sample n stand
+--   parts_call reader b n room          the call for where in the bundle all units stand, with room for these numbers
+--   named_in r n p                      the sample that the extractor at p of sample n names
+--   named_call reader b n p             the call for it
+--   span_in reader b u                  a delivered unit as a part of the bundle
+--   unit_part reader b a                that part for the answer of unit_call; empty if refused
 use Rattle.std.specs.Prelude.{ℕ, ◌+◌, List, [], ◌∷◌, ◌++◌, map, not, length}
 use Rattle.words.specs.Tests.{out_of}
 use Rattle.words.specs.RefusalNumbers.{no_such_number}

@@ -1,11 +1,11 @@
 -- Samples first to last of a recording, resolved one after the other (02, [6]). No rule of a sample stands here: what each adds is what
 -- `resolve` gives for it.
 --
---   between first last             the numbers first, first + 1, .. last
---   range_fault count first last    30
---   on_range r first last a         30 for the numbers first and last, else a
---   given a                        the bytes of an answer, none of a refusal
---   joined r ns                    what resolving gives for each of the samples ns, joined
+--   between first last            the numbers first, first + 1, .. last
+--   range_fault count first last  30
+--   on_range r first last a       30 for the numbers first and last, else a
+--   given a                       the bytes of an answer, none of a refusal
+--   joined r ns                   what resolving gives for each of the samples ns, joined
 use Rattle.std.specs.Prelude.{ℕ, List, [], ◌||◌}
 use Rattle.words.specs.Tests.{◌<?◌, ◌≤?◌, ◌≡?◌}
 use Rattle.words.specs.RefusalNumbers.{no_such_number}

@@ -1,15 +1,15 @@
 -- What sample n of a recording r delivers (01, 'Resolving'). p is the place of an extractor, or of any unit, in sample n.
 --
---   sample_of r n           sample n with what its track says of it
---   named, linked          the sample that the extractor at p names: its number, 0 for none; the sample
---   name_fault_at            23, 24: judged by the extractor itself
---   copy_fault_at            25 to 28: judged by the sample named
---   extract_fault           23 to 28
---   Span                   a delivered unit
---   copied_at p             what the extractor at p stands for
---   delivered_at p          what is delivered for the unit at p
---   delivered              what is delivered for the sample
---   judged, good           14 to 28; a sample that has none of them is good
+--   sample_of r n   sample n with what its track says of it
+--   named, linked   the sample that the extractor at p names: its number, 0 for none; the sample
+--   name_fault_at   23, 24: judged by the extractor itself
+--   copy_fault_at   25 to 28: judged by the sample named
+--   extract_fault   23 to 28
+--   Span            a delivered unit
+--   copied_at p     what the extractor at p stands for
+--   delivered_at p  what is delivered for the unit at p
+--   delivered       what is delivered for the sample
+--   judged, good    14 to 28; a sample that has none of them is good
 use Rattle.std.specs.Prelude.{ℕ, ◌+◌, List, [], ◌∷◌, map, Bool}
 use Rattle.words.specs.Tests.{pick}
 use Rattle.words.specs.Refusals.{◌or_else◌, Verdict, ◌and_then◌, ◌at_place◌, first, passed}

@@ -1,16 +1,16 @@
 -- The rules of resolving in plain facts, in which the promises of proofs/Promises are stated.
 --
---   Extracts r n p       none of 23 to 28 holds of the extractor at p
---   Good r n             sample n is good
---   Delivers r n ps us   the units at places ps deliver us, in order
---   Plain r u            u is a unit of its sample, and neither an aggregator nor an extractor
---   Apart r n            no extractor of sample n names sample n itself
---   times_delivered       how often a unit of a sample is delivered
---   JudgedRefusal        a refusal of a sample: its number, and its place
---   FirstRefused         the first extractor that is refused, in a well-formed sample
---   Resolves, ResolveRefuses    when resolving a sample answers, and when it is refused
---   UnitRefuses          when one delivered unit is refused
---   CallResolves, CallRefuses, UnitCallRefuses    the same by a bundle and a reader
+--   Extracts r n p                              none of 23 to 28 holds of the extractor at p
+--   Good r n                                    sample n is good
+--   Delivers r n ps us                          the units at places ps deliver us, in order
+--   Plain r u                                   u is a unit of its sample, and neither an aggregator nor an extractor
+--   Apart r n                                   no extractor of sample n names sample n itself
+--   times_delivered                             how often a unit of a sample is delivered
+--   JudgedRefusal                               a refusal of a sample: its number, and its place
+--   FirstRefused                                the first extractor that is refused, in a well-formed sample
+--   Resolves, ResolveRefuses                    when resolving a sample answers, and when it is refused
+--   UnitRefuses                                 when one delivered unit is refused
+--   CallResolves, CallRefuses, UnitCallRefuses  the same by a bundle and a reader
 use Rattle.std.specs.Prelude.{ℕ, ◌+◌, ◌≤◌, ◌<◌, ◌≡◌, List, [], ◌∷◌, ◌++◌, true, false, ◌&&◌, ◌⊎◌, length}
 use Rattle.words.specs.Tests.{◌≡?◌}
 use Rattle.words.specs.Refusals.{refused, ok}

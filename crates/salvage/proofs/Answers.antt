@@ -1,12 +1,12 @@
 -- The answers of the calls, by what the code counted and wrote. Assumes nothing.
 --
---   cut_top, fault_inside        the part that is lent has no top-level fault; it lies in the sample
---   new_is, list_counted         what the two passes are about, as the new sample and the list
---   list_written                 the list with the drop of the tail
---   of_long, of_short, of_done   a sample of a track
---   alone_kind, alone_size, alone_known    a sample outside a bundle
---   numbered_bad, numbered_short, names_refused, names_done, numbered_done    a sample of a recording
---   call_bundle, call_filled     the call on a bundle
+--   cut_top, fault_inside                                                   the part that is lent has no top-level fault; it lies in the sample
+--   new_is, list_counted                                                    what the two passes are about, as the new sample and the list
+--   list_written                                                            the list with the drop of the tail
+--   of_long, of_short, of_done                                              a sample of a track
+--   alone_kind, alone_size, alone_known                                     a sample outside a bundle
+--   numbered_bad, numbered_short, names_refused, names_done, numbered_done  a sample of a recording
+--   call_bundle, call_filled                                                the call on a bundle
 use Prim.Native.Nat.{ℕ, zero, suc, ◌+◌, ◌*◌, ◌-◌, ◌≤◌, ◌<◌}
 use mathlib.Core.Path.{◌≡◌, refl, ap, ap₂, sym, ◌∙◌, subst}
 use mathlib.Core.List.{List, [], ◌∷◌, ◌++◌, append-nil}

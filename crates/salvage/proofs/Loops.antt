@@ -1,11 +1,11 @@
 -- The two loops over the top-level units of a sample x, which are whole. Assumes nothing.
 --
---   left_size_lem, list_size_lem          how many bytes are left of a unit, and listed of it
---   new_start, -end, -step        what is left of the units from a place on
---   list_start, -end, -step       what is listed of them
---   Walking, walking_start, -whole, -has, -next    a loop that has come to a place
---   Measuring, measuring_start, -next, -end    the loop that judges
---   Writing, writing_start, -room, -list-room, -next, -end    the loop that writes
+--   left_size_lem, list_size_lem                            how many bytes are left of a unit, and listed of it
+--   new_start, -end, -step                                  what is left of the units from a place on
+--   list_start, -end, -step                                 what is listed of them
+--   Walking, walking_start, -whole, -has, -next             a loop that has come to a place
+--   Measuring, measuring_start, -next, -end                 the loop that judges
+--   Writing, writing_start, -room, -list-room, -next, -end  the loop that writes
 use Prim.Native.Nat.{ℕ, zero, suc, ◌+◌, ◌-◌, ◌*◌, ◌≤◌, ◌<◌}
 use mathlib.Core.Path.{◌≡◌, refl, ap, sym, ◌∙◌, subst}
 use mathlib.Core.List.{List, [], ◌∷◌, ◌++◌}

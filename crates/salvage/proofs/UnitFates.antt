@@ -1,11 +1,11 @@
 -- What becomes of a unit, by what the code finds. Assumes nothing.
 --
---   inside_bad                          whether an aggregator's included units have a fault
---   dropped_aggregator, dropped_other  when a unit is dropped, by its type
---   other_dropped, other_kept          the fate of a unit that is no aggregator
---   inside_dropped, loses_zeroed, stays_kept    the fate of an aggregator
---   loses_fault, loses_past            an aggregator with a 21; whose additional_bytes go past the end
---   Losing, losing_start, -next, -found, -fault, -end    the walk over what an aggregator covers
+--   inside_bad                                         whether an aggregator's included units have a fault
+--   dropped_aggregator, dropped_other                  when a unit is dropped, by its type
+--   other_dropped, other_kept                          the fate of a unit that is no aggregator
+--   inside_dropped, loses_zeroed, stays_kept           the fate of an aggregator
+--   loses_fault, loses_past                            an aggregator with a 21; whose additional_bytes go past the end
+--   Losing, losing_start, -next, -found, -fault, -end  the walk over what an aggregator covers
 use Prim.Native.Nat.{ℕ, zero, suc, ◌+◌, ◌-◌, ◌≤◌, ◌<◌}
 use mathlib.Core.Path.{◌≡◌, refl, ap, sym, ◌∙◌}
 use mathlib.Core.List.Memᴰ

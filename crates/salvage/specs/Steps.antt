@@ -1,10 +1,10 @@
 -- The steps of the code on the top-level units of a sample y, in the words of the crate salvage_rules, and the code's answers.
 --
---   TopUnit y p             a top-level unit, in a sample whose top-level units are whole
---   left_size f n            how many bytes are left of a unit of n bytes
---   list_size f              how many bytes are listed of it
+--   TopUnit y p               a top-level unit, in a sample whose top-level units are whole
+--   left_size f n             how many bytes are left of a unit of n bytes
+--   list_size f               how many bytes are listed of it
 --   new_from, list_from y p   what is left, and listed, of the units from p on
---   counts_of, all_counts_of   the code's answers in these words
+--   counts_of, all_counts_of  the code's answers in these words
 use Rattle.std.specs.Prelude.{ℕ, ◌≡◌, List, [], ◌∷◌, true}
 use Rattle.words.specs.Refusals.{Answer, refused, ok}
 use Rattle.words.specs.Lists.{has, each}

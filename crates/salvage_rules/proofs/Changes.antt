@@ -1,11 +1,11 @@
 -- What the list of changes says. Assumes nothing.
 --
---   units_join         the units of a sample whose top-level units are whole are its bytes
---   untouched          a sample without a change
---   listed-here        what the list says of a unit is what is listed of it
---   listed_drop, listed_zeroing    a drop of a unit is listed exactly if it is dropped; a zeroing of one that is kept exactly if it loses its cover
---   listed_tail        a drop at the first top-level fault is listed exactly if there is one
---   changes_rise, changes_inside   places rise, and lie in the old sample
+--   units_join                    the units of a sample whose top-level units are whole are its bytes
+--   untouched                     a sample without a change
+--   listed-here                   what the list says of a unit is what is listed of it
+--   listed_drop, listed_zeroing   a drop of a unit is listed exactly if it is dropped; a zeroing of one that is kept exactly if it loses its cover
+--   listed_tail                   a drop at the first top-level fault is listed exactly if there is one
+--   changes_rise, changes_inside  places rise, and lie in the old sample
 use Prim.Native.Nat.{ℕ, zero, suc, ◌+◌, ◌-◌, ◌≤◌, ◌<◌}
 use mathlib.Core.Path.{◌≡◌, refl, ap, ap₂, sym, ◌∙◌, subst}
 use mathlib.Core.List.Memᴰ

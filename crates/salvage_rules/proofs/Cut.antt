@@ -1,13 +1,13 @@
 -- The sample as if it ended at its first top-level fault. Assumes nothing.
 --
---   fault_most       the first top-level fault lies in the sample, or is its end
---   fault_none, fault_some    without a top-level fault it is the end; with one it is its place
---   cut_end          the cut sample ends there
---   cut_wholes       its top-level units have none of 14 to 18
---   cut_all          without a top-level fault it is the sample itself
---   cut_units        its top-level units are those of the sample before that place
---   cut_next, cut_type, cut_additional, cut_unit, cut_inside    each of them, its bytes, its inside fault: as in the sample
---   cut_rest         its bytes, and after them those from the fault on, are those of the sample
+--   fault_most                                                the first top-level fault lies in the sample, or is its end
+--   fault_none, fault_some                                    without a top-level fault it is the end; with one it is its place
+--   cut_end                                                   the cut sample ends there
+--   cut_wholes                                                its top-level units have none of 14 to 18
+--   cut_all                                                   without a top-level fault it is the sample itself
+--   cut_units                                                 its top-level units are those of the sample before that place
+--   cut_next, cut_type, cut_additional, cut_unit, cut_inside  each of them, its bytes, its inside fault: as in the sample
+--   cut_rest                                                  its bytes, and after them those from the fault on, are those of the sample
 use Prim.Native.Nat.{ℕ, zero, suc, ◌+◌, ◌-◌, ◌≤◌, ◌<◌}
 use mathlib.Core.Path.{◌≡◌, refl, ap, ap₂, sym, ◌∙◌, subst}
 use mathlib.Core.List.Memᴰ

@@ -1,11 +1,11 @@
 -- Bytes b that stand in a sample w at p, beside b as a sample of its own. Assumes nothing.
 --
---   size_placed, first_placed, type_placed, next_placed    the unit at p + q of w is the unit at q of b
---   additional_placed                its additional_bytes
+--   size_placed, first_placed, type_placed, next_placed  the unit at p + q of w is the unit at q of b
+--   additional_placed                                    its additional_bytes
 --   size_here, first_here, type_here, additional_here    the same at p itself
---   places_placed                    the places of units
---   whole_up, whole_down             a whole unit, both ways
---   included_up, included_down       an included unit without a fault, both ways
+--   places_placed                                        the places of units
+--   whole_up, whole_down                                 a whole unit, both ways
+--   included_up, included_down                           an included unit without a fault, both ways
 use Prim.Native.Nat.{ℕ, zero, suc, ◌+◌, ◌-◌, ◌≤◌, ◌<◌}
 use mathlib.Core.Path.{◌≡◌, refl, ap, sym, ◌∙◌, subst}
 use mathlib.Core.List.{List, [], ◌∷◌, ◌++◌, map}

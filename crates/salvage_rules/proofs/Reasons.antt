@@ -1,9 +1,9 @@
 -- Why each change is listed, and what it is. Assumes nothing.
 --
---   Listed, listed_from        why a change is listed: for one of three reasons
---   in_units_lem, in_tail          and back: a change of a unit, and that of the tail
---   Uncovered, uncovered       an aggregator that loses its additional_bytes has a 21, or covers a unit that is dropped
---   zeroed_some                and they were not 0 before
+--   Listed, listed_from    why a change is listed: for one of three reasons
+--   in_units_lem, in_tail  and back: a change of a unit, and that of the tail
+--   Uncovered, uncovered   an aggregator that loses its additional_bytes has a 21, or covers a unit that is dropped
+--   zeroed_some            and they were not 0 before
 use Prim.Native.Nat.{ℕ, zero, suc, ◌+◌, ◌-◌, ◌≤◌, ◌<◌}
 use mathlib.Core.Path.{◌≡◌, refl, ap, sym, ◌∙◌, subst}
 use mathlib.Core.List.Memᴰ

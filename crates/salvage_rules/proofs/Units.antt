@@ -1,16 +1,16 @@
 -- The units of a sample y whose top-level units are whole, each as bytes of its own. Assumes nothing.
 --
---   inside_ok, dropped_not     a unit that is not dropped has no fault inside, both ways
---   cover_kept, cover_stays    an aggregator that keeps its additional_bytes, both ways
---   fate_dropped, fate_zeroed, fate_kept, by_fate    what becomes of a unit, by the two rules
---   dropped_from, zeroed_from, kept_from    and back
---   new_by, change_by          what is left of it and listed of it
---   kept_bytes, kept_units, content_kept    the new sample as the units that are kept
---   unit_there, unit_length    the bytes of a unit in the sample
---   unit_piece                 the bytes of a unit that is not dropped are a piece
---   zeroed_piece               so they are with additional_bytes 0
---   zeroed_length, zeroed_none    which are then as long as before, and cover nothing
---   new_plain, new_zeroed      the bytes of a unit as it is kept
+--   inside_ok, dropped_not                         a unit that is not dropped has no fault inside, both ways
+--   cover_kept, cover_stays                        an aggregator that keeps its additional_bytes, both ways
+--   fate_dropped, fate_zeroed, fate_kept, by_fate  what becomes of a unit, by the two rules
+--   dropped_from, zeroed_from, kept_from           and back
+--   new_by, change_by                              what is left of it and listed of it
+--   kept_bytes, kept_units, content_kept           the new sample as the units that are kept
+--   unit_there, unit_length                        the bytes of a unit in the sample
+--   unit_piece                                     the bytes of a unit that is not dropped are a piece
+--   zeroed_piece                                   so they are with additional_bytes 0
+--   zeroed_length, zeroed_none                     which are then as long as before, and cover nothing
+--   new_plain, new_zeroed                          the bytes of a unit as it is kept
 use Prim.Native.Nat.{ℕ, zero, suc, ◌+◌, ◌-◌, ◌^◌, ◌≤◌, ◌<◌}
 use mathlib.Core.Path.{◌≡◌, refl, ap, ap₂, sym, ◌∙◌, subst}
 use mathlib.Core.List.{List, [], ◌∷◌, ◌++◌, map, append-nil, Memᴰ}

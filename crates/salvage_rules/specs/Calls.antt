@@ -1,11 +1,11 @@
 -- What the calls answer (02, [11]): the new sample, the list of changes and, on a bundle, the naming list of the old sample.
 --
---   listable_most     the most bytes of a sample whose places 4 bytes can say
---   outputs x        the new sample and the list, as bytes
---   salvage_of x      the two, or 29 for a sample that is longer
---   salvage_alone     the call on a sample outside a bundle: 4, 11, 29
---   salvage r n      the call on a recording: 30, or the three outputs
---   salvage_call      the call on a bundle: 1 to 13, 30, then 29 if any of the three lent buffers lacks room
+--   listable_most  the most bytes of a sample whose places 4 bytes can say
+--   outputs x      the new sample and the list, as bytes
+--   salvage_of x   the two, or 29 for a sample that is longer
+--   salvage_alone  the call on a sample outside a bundle: 4, 11, 29
+--   salvage r n    the call on a recording: 30, or the three outputs
+--   salvage_call   the call on a bundle: 1 to 13, 30, then 29 if any of the three lent buffers lacks room
 use Rattle.std.specs.Prelude.{ℕ, List, [], ◌∷◌, ◌++◌}
 use Rattle.words.specs.Tests.{◌<?◌}
 use Rattle.words.specs.RefusalNumbers.{output_too_long}

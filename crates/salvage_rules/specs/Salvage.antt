@@ -1,19 +1,19 @@
 -- Salvage (02, [11]): of a damaged sample what is whole, and a list of what is dropped or changed.
 --
---   holding x s                    the bytes s as a sample of x's track
---   first_fault, cut                where the first top-level fault is, or the end; the sample as if it ended there
---   whole_units                     the top-level units before it
+--   holding x s                      the bytes s as a sample of x's track
+--   first_fault, cut                 where the first top-level fault is, or the end; the sample as if it ended there
+--   whole_units                      the top-level units before it
 --   is_dropped p, loses_cover p      the two rules for a top-level unit
---   fate p                         what becomes of it: kept, dropped, or kept with additional_bytes 0
+--   fate p                           what becomes of it: kept, dropped, or kept with additional_bytes 0
 --   unit_bytes p, zeroed_bytes p     a unit with its length field: as it is; with additional_bytes 0
 --   left_by f p, new_bytes p         what is left of it, by its fate
---   new_content                     what is left of all
---   Change                         a change that is listed
+--   new_content                      what is left of all
+--   Change                           a change that is listed
 --   listed_by f p, change_at p       what is listed of a unit, by its fate
---   salvaged, tail_drop, changes    the new sample; what is listed of the rest; the list
---   listed, applied                whether a list has a change; what a list makes of an old sample
---   change_bytes, change_list_bytes   a change as it is written, 5 bytes; the list
---   changes_in                      the list that bytes say
+--   salvaged, tail_drop, changes     the new sample; what is listed of the rest; the list
+--   listed, applied                  whether a list has a change; what a list makes of an old sample
+--   change_bytes, change_list_bytes  a change as it is written, 5 bytes; the list
+--   changes_in                       the list that bytes say
 use Rattle.std.specs.Prelude.{ℕ, zero, suc, ◌+◌, ◌-◌, ◌/◌, List, [], ◌∷◌, ◌++◌, Bool, ◌&&◌, ◌||◌, not, length, take, drop}
 use Rattle.words.specs.Tests.{pick, ◌<?◌, ◌≡?◌}
 use Rattle.words.specs.Refusals.{refused, ok, Verdict, passed}
@@ -120,8 +120,8 @@ module _ (x : Sample) where
 unfoldable pub listed : ℕ → ℕ → List Change → Bool
 listed w p cs = some (λ c. (c.what ≡? w) && (c.place ≡? p)) cs
 
--- What a list makes of the old sample x. A drop at the first top-level fault cuts off all from there on; where it is not listed, that stays.
--- Of each unit before it nothing is left where its drop is listed, and additional_bytes are 0 where a zeroing is.
+-- What a list makes of the old sample x. A drop at the first top-level fault cuts off all from there on; where it is not listed, that
+-- stays. Of each unit before it nothing is left where its drop is listed, and additional_bytes are 0 where a zeroing is.
 module _ (x : Sample) (cs : List Change) where
   unfoldable pub listed_end : ℕ
   listed_end = pick (listed a_drop (first_fault x) cs) (first_fault x) (end x)

@@ -1,18 +1,18 @@
 -- What the check promises, and what upper crates need of a well-formed sample. For any kind and any L. Assumes nothing.
 --
---   rules, rules_check      no fault exactly if every unit's rules hold: `check x ≡ ok tt` gives Rules x, and Rules x gives it
---   formed, formed_ok       `well_formed x ≡ true` is the same as `check x ≡ ok tt`
---   first_walk_first        a refusal of the first walk is the answer
---   empty_formed            zero bytes are a well-formed sample
---   check_top               in a well-formed sample the first walk passed
---   top_tile                where the first walk passed, the top-level units lie without gap or overlap, from 0 to the end
---   included_tile           the included units lie so too, from the aggregator's additional_bytes to its end
---   included_inside         an included unit lies in its aggregator and is no aggregator
---   covered_border, covered_clear, covered_inside    what an aggregator covers ends on a border, holds no aggregator and lies in the sample
---   unit_whole, unit_inside, units_rise    each unit is whole and lies in the sample; places of units rise
---   extractor_step          the total step gives the extractors of a well-formed sample
---   check_refusals          a refusal of the check is 14 to 22, at a place in the sample
---   alone_refusals          outside a bundle it is 4 or 11 at 0 besides
+--   rules, rules_check                             no fault exactly if every unit's rules hold: `check x ≡ ok tt` gives Rules x, and Rules x gives it
+--   formed, formed_ok                              `well_formed x ≡ true` is the same as `check x ≡ ok tt`
+--   first_walk_first                               a refusal of the first walk is the answer
+--   empty_formed                                   zero bytes are a well-formed sample
+--   check_top                                      in a well-formed sample the first walk passed
+--   top_tile                                       where the first walk passed, the top-level units lie without gap or overlap, from 0 to the end
+--   included_tile                                  the included units lie so too, from the aggregator's additional_bytes to its end
+--   included_inside                                an included unit lies in its aggregator and is no aggregator
+--   covered_border, covered_clear, covered_inside  what an aggregator covers ends on a border, holds no aggregator and lies in the sample
+--   unit_whole, unit_inside, units_rise            each unit is whole and lies in the sample; places of units rise
+--   extractor_step                                 the total step gives the extractors of a well-formed sample
+--   check_refusals                                 a refusal of the check is 14 to 22, at a place in the sample
+--   alone_refusals                                 outside a bundle it is 4 or 11 at 0 besides
 use Prim.Native.Nat.{ℕ, ◌≤◌, ◌<◌}
 use mathlib.Core.Path.{◌≡◌, sym, ◌∙◌}
 use mathlib.Core.List.{List, [], Memᴰ}

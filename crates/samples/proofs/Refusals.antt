@@ -1,9 +1,9 @@
 -- The numbers and places of refusals, unit by unit. Assumes nothing.
 --
---   unit_refusal, unit_form                                 a refusal of a unit by itself is 14 to 18, so one of the sample's form
---   extractor_refusal, included_refusal, cover_refusal      each other refusal of a unit is one of the sample's form
---   sample_refusal        a refusal of a unit in the sample is one of the sample
---   content_refusal       so is one of what stands in a top-level unit
+--   unit_refusal, unit_form                             a refusal of a unit by itself is 14 to 18, so one of the sample's form
+--   extractor_refusal, included_refusal, cover_refusal  each other refusal of a unit is one of the sample's form
+--   sample_refusal                                      a refusal of a unit in the sample is one of the sample
+--   content_refusal                                     so is one of what stands in a top-level unit
 use Prim.Native.Nat.{ℕ, ◌+◌, ◌<◌}
 use mathlib.Core.Path.{◌≡◌, refl, sym, ◌∙◌, subst}
 use mathlib.Core.List.Memᴰ

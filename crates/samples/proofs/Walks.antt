@@ -1,11 +1,11 @@
 -- The two walks of the check, unit by unit. Assumes nothing.
 --
---   top_judge, included_judge     what a walk gives for a unit
---   top_whole, whole_top      where the first walk passed, every top-level unit is whole; the other way
---   content_ok                  nothing wrong in a top-level unit: no inside fault, no 21
---   content_included, -cover, -other    what stands in a top-level unit, by parts
---   next_is                     a length field that was read, and the place after the unit
---   top_has                     a top-level unit is among the top-level units
+--   top_judge, included_judge         what a walk gives for a unit
+--   top_whole, whole_top              where the first walk passed, every top-level unit is whole; the other way
+--   content_ok                        nothing wrong in a top-level unit: no inside fault, no 21
+--   content_included, -cover, -other  what stands in a top-level unit, by parts
+--   next_is                           a length field that was read, and the place after the unit
+--   top_has                           a top-level unit is among the top-level units
 use Prim.Native.Nat.{ℕ, ◌+◌, ◌<◌}
 use mathlib.Core.Path.{◌≡◌}
 use mathlib.Core.List.{List}

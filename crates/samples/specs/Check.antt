@@ -53,7 +53,8 @@ module _ (x : Sample) where
 
 -- Outside a bundle the kind and the length size come as numbers: 4 first, then 11, both at 0.
 abbrev pub check_of : MaybeKind → MaybeLengthSize → List ℕ → Verdict
-check_of kind length_size s = on_kind kind (λ k. on_length_size length_size (λ l. check (record { kind = k; length_size = l; content = s })))
+check_of kind length_size s =
+    on_kind kind (λ k. on_length_size length_size (λ l. check (record { kind = k; length_size = l; content = s })))
 
 abbrev pub check_alone : ℕ → ℕ → List ℕ → Verdict
 check_alone kind l s = check_of (kind_of kind) (length_size_of l) s

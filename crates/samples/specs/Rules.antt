@@ -1,9 +1,9 @@
 -- The rules of all units of a sample in plain facts, and which refusals there are. The laws are in proofs/Laws.
 --
---   Rules              every unit's rules hold
---   SampleRefusal      a refusal of the check: its number, and its place in the sample
---   outside_refusals    what is refused only outside a bundle: 4, 11
---   AloneRefusal       a refusal of the check outside a bundle
+--   Rules             every unit's rules hold
+--   SampleRefusal     a refusal of the check: its number, and its place in the sample
+--   outside_refusals  what is refused only outside a bundle: 4, 11
+--   AloneRefusal      a refusal of the check outside a bundle
 use Rattle.std.specs.Prelude.{ℕ, ◌<◌, ◌≡◌, true, ◌⊎◌, length}
 use mathlib.Core.List.{List, [], ◌∷◌, Memᴰ}
 use Rattle.words.specs.Lists.{◌∈◌}

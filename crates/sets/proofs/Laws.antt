@@ -1,11 +1,11 @@
 -- Laws of sets. Assumes nothing.
 --
---   Whole, whole, no_fault           what a set without a refusal has, both ways
---   sets_none, sets_here, sets_on    a walk at its end, at a refusal, and past a set without one
---   sets_within                      a walk without a refusal ends in the bytes
---   walk_refused, walk_ended, walk_fault, walk_end    what a walk answers
---   sets_inside, sets_outside        sets in a part are those sets in the whole, both ways
---   fit_sets, fit_true               what `sets_fit` says
+--   Whole, whole, no_fault                          what a set without a refusal has, both ways
+--   sets_none, sets_here, sets_on                   a walk at its end, at a refusal, and past a set without one
+--   sets_within                                     a walk without a refusal ends in the bytes
+--   walk_refused, walk_ended, walk_fault, walk_end  what a walk answers
+--   sets_inside, sets_outside                       sets in a part are those sets in the whole, both ways
+--   fit_sets, fit_true                              what `sets_fit` says
 use Prim.Native.Nat.{ℕ, zero, suc, ◌+◌, ◌-◌, ◌%◌, ◌≤◌, ◌<◌}
 use mathlib.Core.Path.{◌≡◌, refl, ap, sym, ◌∙◌}
 use mathlib.Core.Bool.{true}

@@ -1,16 +1,16 @@
 -- Parameter sets in bytes s, each a unit after its 2-byte length (5.2.4.1; 01, 'Configuration records').
 --
---   sequence_set_type, subset_set_type, picture_set_type, extension_set_type    types of sets (Table A.1)
---   set_length_size         how many bytes the length before a set has
---   set_end s p            where the set at p ends
---   sets_end s n p         where n sets from p on end
---   header_at s p          the first byte of the unit of the set at p
---   one_of types t         whether the unit type t is one of the types
---   set_fault types s p    the refusal of the set at p: 8 or 12
+--   sequence_set_type, subset_set_type, picture_set_type, extension_set_type  types of sets (Table A.1)
+--   set_length_size                                                           how many bytes the length before a set has
+--   set_end s p                                                               where the set at p ends
+--   sets_end s n p                                                            where n sets from p on end
+--   header_at s p                                                             the first byte of the unit of the set at p
+--   one_of types t                                                            whether the unit type t is one of the types
+--   set_fault types s p                                                       the refusal of the set at p: 8 or 12
 --   sets_fault types s n p the first refusal of n sets from p on
---   exactly s n           s is n sets, cut by their lengths, and nothing else
---   sets_fit types s n     the same, and none of them is refused
---   walk_of types s n p    what a walk over the sets answers
+--   exactly s n          s is n sets, cut by their lengths, and nothing else
+--   sets_fit types s n   the same, and none of them is refused
+--   walk_of types s n p  what a walk over the sets answers
 use Rattle.std.specs.Prelude.{ℕ, ◌+◌, List, Bool, ◌||◌, ◌&&◌, not, length}
 use Rattle.words.specs.Tests.{◌<?◌, ◌≡?◌, pick}
 use Rattle.words.specs.RefusalNumbers.{record_cut, bad_set}

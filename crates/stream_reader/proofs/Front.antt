@@ -1,12 +1,12 @@
 -- The front of a stream s, by where its zeros end. Assumes nothing.
 --
---   units_after                    the units after a start code, or 33 or 34
---   Started                       zeros and a start code, or zeros only: the units are those after it
---   Stray                         a byte above 00 that ends no start code: 33 there
---   stray_short, stray_byte       a byte after fewer than two zeros; a byte that is not 01
---   started_end, started_code     no byte; a 01 after two zeros or more
---   first_inside                  the zeros end inside the stream
---   read_started                  units that were read are those after the first start code
+--   units_after                the units after a start code, or 33 or 34
+--   Started                    zeros and a start code, or zeros only: the units are those after it
+--   Stray                      a byte above 00 that ends no start code: 33 there
+--   stray_short, stray_byte    a byte after fewer than two zeros; a byte that is not 01
+--   started_end, started_code  no byte; a 01 after two zeros or more
+--   first_inside               the zeros end inside the stream
+--   read_started               units that were read are those after the first start code
 use Prim.Native.Nat.{ℕ, suc, ◌+◌, ◌≤◌, ◌<◌}
 use mathlib.Core.Path.{◌≡◌, refl, ap, ap₂, sym, ◌∙◌}
 use mathlib.Core.Logic.{◌⊎◌, inl, inr, ⊎_elim}

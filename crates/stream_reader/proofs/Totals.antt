@@ -1,9 +1,9 @@
 -- How much a sample takes, as far as there is room. Assumes nothing.
 --
---   sample_size_lem                 the sample of one unit more
---   total_more, total_fits      a total with more added, by the room
---   added_capped                a total of m with more added is a total of more
---   capped_size, capped_long    what a total says
+--   sample_size_lem           the sample of one unit more
+--   total_more, total_fits    a total with more added, by the room
+--   added_capped              a total of m with more added is a total of more
+--   capped_size, capped_long  what a total says
 use Prim.Native.Nat.{ℕ, ◌+◌, ◌≤◌, ◌<◌}
 use mathlib.Core.Path.{◌≡◌, ap, ◌∙◌}
 use mathlib.Core.List.{List, ◌∷◌, ◌++◌}

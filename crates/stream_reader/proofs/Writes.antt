@@ -1,9 +1,9 @@
 -- The loop that writes: what is written so far, with what is left, is the sample. Assumes nothing.
 --
---   sample_after                            the sample of the units after a start code
---   Writing, writing_start, -next, -full, -end    what holds in the loop, and what is written when it ends
---   writing_length                         the buffer keeps its length
---   writing_place                          where the next unit stands, and that it fits
+--   sample_after                                the sample of the units after a start code
+--   Writing, writing_start, -next, -full, -end  what holds in the loop, and what is written when it ends
+--   writing_length                              the buffer keeps its length
+--   writing_place                               where the next unit stands, and that it fits
 use Prim.Native.Nat.{ℕ, ◌+◌, ◌-◌, ◌≤◌, ◌<◌}
 use mathlib.Core.Path.{◌≡◌, refl, ap, sym, ◌∙◌}
 use mathlib.Core.List.{List, [], ◌++◌, map, append_assoc, append-nil}

@@ -1,13 +1,13 @@
 -- The steps of reading a byte stream s.
 --
---   unit_from s a           the unit that starts at a
---   next_from s a           where the start code after it ends, at its 01; the end of s if there is none; if a byte may not stand in the
---                          unit, that byte
---   parts_after s p         the parts after the start code whose 01 stands at p; none if p is the end
---   judgement L s a        33 or 34 of that unit, or its size, and where the next start code ends
---   judged_of               what the answer of `judge` says: the same
---   capped room m          m as a total that there is room for, or too long
---   add_to room t w n       a total with w and n bytes more
+--   unit_from s a      the unit that starts at a
+--   next_from s a      where the start code after it ends, at its 01; the end of s if there is none; if a byte may not stand in the
+--                      unit, that byte
+--   parts_after s p    the parts after the start code whose 01 stands at p; none if p is the end
+--   judgement L s a    33 or 34 of that unit, or its size, and where the next start code ends
+--   judged_of          what the answer of `judge` says: the same
+--   capped room m      m as a total that there is room for, or too long
+--   add_to room t w n  a total with w and n bytes more
 use Rattle.std.specs.Prelude.{ℕ, ◌+◌, List, [], ◌∷◌, length, drop}
 use Rattle.words.specs.Tests.{◌<?◌, pick}
 use Rattle.words.specs.Refusals.{Answer, refused, ok, ◌and_then◌}

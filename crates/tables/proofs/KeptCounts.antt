@@ -1,9 +1,9 @@
 -- A count kept for a sample, without a change to what the table says. Assumes nothing.
 --
---   set_beyond                   nothing is set past the end
---   cell_kept                    every other number stays
---   kept_count_layout, kept_count_recording    the table says and gives the same
---   kept_count_set, kept_count_other          the count that was kept, and every other
+--   set_beyond                               nothing is set past the end
+--   cell_kept                                every other number stays
+--   kept_count_layout, kept_count_recording  the table says and gives the same
+--   kept_count_set, kept_count_other         the count that was kept, and every other
 use Prim.Native.Nat.{ℕ, zero, suc, ◌+◌, ◌*◌, ◌≤◌, ◌<◌}
 use mathlib.Core.Path.{◌≡◌, refl, ap, ap₂, sym, ◌∙◌}
 use mathlib.Core.Bool.{Bool, true, false}

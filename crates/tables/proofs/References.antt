@@ -1,8 +1,8 @@
 -- The references of a track, in any table, found one after the other. Assumes nothing.
 --
---   comes_from                 whether a reference comes from a track
---   counted_none, counted_more, counted_all_lem    how many of the first i references come from a track
---   found_here, found_none    the reference of a number
+--   comes_from                                   whether a reference comes from a track
+--   counted_none, counted_more, counted_all_lem  how many of the first i references come from a track
+--   found_here, found_none                       the reference of a number
 use Prim.Native.Nat.{ℕ, zero, suc, ◌+◌, ◌≤◌, ◌<◌}
 use mathlib.Core.Path.{◌≡◌, refl, ap, sym, ◌∙◌}
 use mathlib.Core.Bool.{Bool, true, false}

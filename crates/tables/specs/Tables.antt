@@ -3,17 +3,17 @@
 -- rows as its limit says. A number past the table's end reads as 0, and a count beyond its limit as the limit. So every table says a
 -- layout, and together with any bytes it gives a recording: a sample whose bytes do not lie in the bundle has none.
 --
---   counts_row, track_row k, reference_row i, sample_row n    the rows
---   table_size n, table_most    how many numbers a table for n samples needs, and the most
---   cell t row column         a number of the table
---   layout_in t                the layout that it says
---   recording_in b t           the recording that it gives with the bytes b
---   range_in t k               the samples of track k: those after `before`, up to `after`
---   numbers_in r               their numbers
---   sample_cell t n column     a number of the row of sample n
---   start_in t n               where the bytes of sample n start
---   kept_count_in t n           the count kept for sample n
---   with_kept_count t n v       the table with that count set
+--   counts_row, track_row k, reference_row i, sample_row n  the rows
+--   table_size n, table_most                                how many numbers a table for n samples needs, and the most
+--   cell t row column                                       a number of the table
+--   layout_in t                                             the layout that it says
+--   recording_in b t                                        the recording that it gives with the bytes b
+--   range_in t k                                            the samples of track k: those after `before`, up to `after`
+--   numbers_in r                                            their numbers
+--   sample_cell t n column                                  a number of the row of sample n
+--   start_in t n                                            where the bytes of sample n start
+--   kept_count_in t n                                       the count kept for sample n
+--   with_kept_count t n v                                   the table with that count set
 use Rattle.std.specs.Prelude.{ℕ, zero, suc, ◌+◌, ◌-◌, ◌*◌, List, [], ◌∷◌, map, Bool, ◌&&◌, length, get_or, set}
 use Rattle.words.specs.Tests.{◌<?◌, ◌≤?◌, ◌≡?◌, pick}
 use Rattle.words.specs.Lists.{upto, last_that}

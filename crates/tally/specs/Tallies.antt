@@ -1,7 +1,7 @@
 -- The running tally of an audit (01, 'Audit and naming list').
 --
---   is_passed, is_empty, is_refused    what an outcome is
---   tallied os                      the tally of outcomes
+--   is_passed, is_empty, is_refused  what an outcome is
+--   tallied os                       the tally of outcomes
 --   one_more n                       n + 1, but the largest number of 8 bytes stays
 --   raised_by o t                    a tally raised by one outcome
 use Rattle.std.specs.Prelude.{ℕ, ◌+◌, List, Bool, true, false, length}

@@ -1,10 +1,10 @@
 -- What stands at a place. Assumes nothing.
 --
---   item_aggregator, -nothing, -extractor, -unit    by the unit's type, and where it ends
---   item_cut, item_end                              nothing where the length field ends past the sample; so at the end
---   aggregator_inside                               an aggregator starts in the sample
---   by_item                                         cases
---   nothing_is, aggregator_is, extractor_is, unit_is    the other way: what stands there, by what the walk meets
+--   item_aggregator, -nothing, -extractor, -unit      by the unit's type, and where it ends
+--   item_cut, item_end                                nothing where the length field ends past the sample; so at the end
+--   aggregator_inside                                 an aggregator starts in the sample
+--   by_item                                           cases
+--   nothing_is, aggregator_is, extractor_is, unit_is  the other way: what stands there, by what the walk meets
 use Prim.Native.Nat.{ℕ, ◌+◌, ◌≤◌, ◌<◌}
 use mathlib.Core.Path.{◌≡◌}
 use mathlib.Core.Bool.{true, false}

@@ -1,9 +1,9 @@
 -- 21 by a walk over what an aggregator covers, from its end on. Assumes nothing.
 --
---   clear_next                  no aggregator among the top-level units from a up to q
---   cover_bad, cover_aggregator, cover_good    21, by what a walk from the aggregator's end finds
---   cover_border, cover_clear   an aggregator without 21: what it covers ends on a border and holds no aggregator
---   Covering, covering_start, -whole, -next, -found, -end, -past    that walk
+--   clear_next                                                    no aggregator among the top-level units from a up to q
+--   cover_bad, cover_aggregator, cover_good                       21, by what a walk from the aggregator's end finds
+--   cover_border, cover_clear                                     an aggregator without 21: what it covers ends on a border and holds no aggregator
+--   Covering, covering_start, -whole, -next, -found, -end, -past  that walk
 use Prim.Native.Nat.{ℕ, ◌≤◌, ◌<◌}
 use mathlib.Core.Path.{◌≡◌, refl}
 use mathlib.Core.List.Memᴰ

@@ -1,8 +1,8 @@
 -- What the total functions give where there is no fault, and where there is one. Assumes nothing.
 --
---   extractor_there      a whole extractor of the right size is given
---   extractor_fields     by its bytes: it lies before e, has the right size, no top bit and the type
---   no_extractor_lem         nothing is given where one of these does not hold
+--   extractor_there   a whole extractor of the right size is given
+--   extractor_fields  by its bytes: it lies before e, has the right size, no top bit and the type
+--   no_extractor_lem  nothing is given where one of these does not hold
 use Prim.Native.Nat.{ℕ, ◌+◌, ◌≤◌, ◌<◌}
 use mathlib.Core.Path.{◌≡◌}
 use mathlib.Core.Bool.{true}

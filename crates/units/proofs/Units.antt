@@ -1,11 +1,11 @@
 -- Laws of one unit. Assumes nothing.
 --
---   next_after, type_past           the next unit starts later; past the end the type reads as 0
---   whole, whole_none               a unit without 14 to 18 is whole, both ways
---   whole_wider                     a unit that is whole in an aggregator is whole in the sample
---   whole_aggregator, whole_end     the additional_bytes of a whole aggregator lie in it; a whole unit ends within what it stands in
+--   next_after, type_past               the next unit starts later; past the end the type reads as 0
+--   whole, whole_none                   a unit without 14 to 18 is whole, both ways
+--   whole_wider                         a unit that is whole in an aggregator is whole in the sample
+--   whole_aggregator, whole_end         the additional_bytes of a whole aggregator lie in it; a whole unit ends within what it stands in
 --   extractor_size_lem, extractor_none  an extractor without 22, both ways
---   included_rules, included_none   an included unit without a fault, both ways
+--   included_rules, included_none       an included unit without a fault, both ways
 use Prim.Native.Nat.{ℕ, ◌+◌, ◌≤◌, ◌<◌}
 use mathlib.Core.Path.{◌≡◌}
 use mathlib.Core.Bool.{true, false, ◌&&◌}

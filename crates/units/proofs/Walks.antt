@@ -1,14 +1,14 @@
 -- Laws of walks over units. Assumes nothing.
 --
---   places_end, places_step     the places of units from p up to e: none, or p and those from the next on
---   in_places, in_top           they lie from p on, before e
---   places_rise, top_rise       each ends before the next starts
---   walk, walk_none, walk_here, walk_on  the first refusal of a walk, place by place
---   places_tile                 units that lie without gap or overlap
---   Reached, reached_start, -next, -top, -mem, -border    a top-level walk that has come to p
---   border_past, -here, -inside    borders on the way of a walk
---   in_unit, units_rise         a unit and what it includes lie before the next; all units rise
---   units_top, units_included, units_from    membership in all units, both ways
+--   places_end, places_step                             the places of units from p up to e: none, or p and those from the next on
+--   in_places, in_top                                   they lie from p on, before e
+--   places_rise, top_rise                               each ends before the next starts
+--   walk, walk_none, walk_here, walk_on                 the first refusal of a walk, place by place
+--   places_tile                                         units that lie without gap or overlap
+--   Reached, reached_start, -next, -top, -mem, -border  a top-level walk that has come to p
+--   border_past, -here, -inside                         borders on the way of a walk
+--   in_unit, units_rise                                 a unit and what it includes lie before the next; all units rise
+--   units_top, units_included, units_from               membership in all units, both ways
 use Prim.Native.Nat.{ℕ, zero, suc, ◌-◌, ◌≤◌, ◌<◌}
 use mathlib.Core.Path.{◌≡◌, refl, ap, sym, ◌∙◌, subst}
 use mathlib.Core.List.Memᴰ

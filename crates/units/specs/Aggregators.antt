@@ -1,12 +1,12 @@
 -- Aggregators (01, 'Units in a sample'; B.2): header, additional_bytes in L bytes, then included units, each after its length.
 --
 --   included_start, included     where the included units start; the included units
---   additional_bytes, cover_end   what the aggregator covers by reference ends at cover_end
+--   additional_bytes, cover_end  what the aggregator covers by reference ends at cover_end
 --   cover_fault                  21
 --   is_slice t                   the types that 20 is about
 --   included_fault e p           the first refusal of an included unit
 --   with_included, units         a unit with what it includes; all units of a sample
---   extractors                  the extractors among them
+--   extractors                   the extractors among them
 use Rattle.std.specs.Prelude.{ℕ, ◌+◌, List, [], ◌∷◌, Bool, ◌&&◌, not}
 use Rattle.words.specs.Tests.{◌≤?◌, pick}
 use Rattle.words.specs.Refusals.{◌if◌, ◌or_else◌}

@@ -1,9 +1,9 @@
 -- Extractors (01, 'Units in a sample'; B.3): header, track_ref_index in 1 byte, signed sample_offset in 1, data_offset in L bytes,
 -- data_length in L.
 --
---   sample_offset_at, data_offset_at                           where these fields stand after the header
---   track_ref_index, sample_offset, data_offset, data_length    the fields of the extractor at a place
---   extractor_fault                                         22
+--   sample_offset_at, data_offset_at                          where these fields stand after the header
+--   track_ref_index, sample_offset, data_offset, data_length  the fields of the extractor at a place
+--   extractor_fault                                           22
 use Rattle.std.specs.Prelude.{ℕ, ◌+◌, ◌&&◌, not}
 use Rattle.words.specs.Tests.{◌≡?◌}
 use Rattle.words.specs.Refusals.{◌if◌}

@@ -1,10 +1,10 @@
 -- What the total functions for walks give, at any place p of any bytes, in what ends at e. At the units of a well-formed sample
 -- `Nothing` does not come.
 --
---   place p             p as the code has it
---   unit_of p            the unit at p
---   extractor_of p       the fields of the extractor at p
---   extractor_at e p     the same, if it is one and has none of 14 to 18 and 22
+--   place p           p as the code has it
+--   unit_of p         the unit at p
+--   extractor_of p    the fields of the extractor at p
+--   extractor_at e p  the same, if it is one and has none of 14 to 18 and 22
 use Rattle.std.specs.Prelude.{ℕ, ◌+◌}
 use Rattle.words.specs.Tests.{◌≡?◌, pick}
 use Rattle.numbers.specs.declared.ByteOffset.{ByteOffset}

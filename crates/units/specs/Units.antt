@@ -1,16 +1,16 @@
 -- The units of a sample (01, 'Units in a sample'; 5.3.4.2: each NAL unit stands after its length).
 -- A place is the offset of a unit's length field in the sample. Bytes past the end read as 0; 14 and 15 come before they could matter.
 --
---   Sample, sample k s       a sample with what its track says of it
---   L, end                   the length size in bytes; where the sample ends
---   size, first_byte, type, next     the unit at a place, and where the next one starts
---   prefix_type, scalable_slice_type, aggregator_type, extractor_type    types of units
---   least_size t              the least size of a unit of a type
---   unit_fault e p            the first of 14 to 18 of the unit at p, in what ends at e
---   places p e               where units start from p up to e
---   top_units                 the top-level units
---   border q                 q is a top-level border
---   top_between a b           the top-level units from a up to b
+--   Sample, sample k s                                                 a sample with what its track says of it
+--   L, end                                                             the length size in bytes; where the sample ends
+--   size, first_byte, type, next                                       the unit at a place, and where the next one starts
+--   prefix_type, scalable_slice_type, aggregator_type, extractor_type  types of units
+--   least_size t                                                       the least size of a unit of a type
+--   unit_fault e p                                                     the first of 14 to 18 of the unit at p, in what ends at e
+--   places p e                                                         where units start from p up to e
+--   top_units                                                          the top-level units
+--   border q                                                           q is a top-level border
+--   top_between a b                                                    the top-level units from a up to b
 use Rattle.std.specs.Prelude.{ℕ, zero, suc, ◌+◌, ◌-◌, List, [], ◌∷◌, Bool, ◌||◌, ◌&&◌, length}
 use Rattle.words.specs.Tests.{◌<?◌, ◌≤?◌, ◌≡?◌, pick, ◌when◌else◌}
 use Rattle.words.specs.Refusals.{◌if◌, ◌or_else◌}

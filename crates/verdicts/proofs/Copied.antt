@@ -1,9 +1,9 @@
 -- What an extractor copies, counted. Assumes nothing.
 --
---   amount_ill                       25
---   amount_few                       no more units and bytes than the sample has
---   extract_refused, extract_named   23, 24; what is copied of the sample named
---   CopyIs, is_refused_lem, is_good, extractor_amount    the extractor at p: its refusal, or how much it copies
+--   amount_ill                                         25
+--   amount_few                                         no more units and bytes than the sample has
+--   extract_refused, extract_named                     23, 24; what is copied of the sample named
+--   CopyIs, is_refused_lem, is_good, extractor_amount  the extractor at p: its refusal, or how much it copies
 use Prim.Native.Nat.{ℕ, ◌+◌, ◌≤◌, ◌<◌}
 use mathlib.Core.Path.{◌≡◌, refl, sym, ◌∙◌}
 use mathlib.Core.List.{List, [], ◌∷◌, map, Memᴰ}

@@ -1,10 +1,10 @@
 -- A walk over the units of a sample that counts what is delivered. Assumes nothing.
 --
---   Counting                  what a loop that has come to p has counted
---   counting_start            nothing
---   counting_skip, -unit, -copy      an aggregator's head; a unit of its own; an extractor
---   unit_fits, copy_fits      the sums fit
---   counting_refused, -end    what is judged of the sample
+--   Counting                     what a loop that has come to p has counted
+--   counting_start               nothing
+--   counting_skip, -unit, -copy  an aggregator's head; a unit of its own; an extractor
+--   unit_fits, copy_fits         the sums fit
+--   counting_refused, -end       what is judged of the sample
 use Prim.Native.Nat.{ℕ, ◌+◌, ◌*◌, ◌≤◌, ◌<◌}
 use mathlib.Core.Path.{◌≡◌, refl, ap, sym, ◌∙◌}
 use mathlib.Core.List.{List, [], ◌∷◌, ◌++◌, append-nil, append_assoc, Memᴰ}

@@ -4,13 +4,13 @@
 --   word_verdict                        it is read back
 --   between_none                        no sample
 --   between_layout, -recording, -length with judgements kept, the table says the same
---   more                                one judgement more
---   upto_between                        the first n samples are samples 1 to n
---   all_upto, all_long, all_short                 of a bundle too long, and of another
---   all_layout, all_recording           the table says the same
---   between_kept, kept_judgement        what is kept beside a sample is its judgement
---   units_refused, units_good           what a judgement says of a sample
---   refused_kept, units_kept            what is kept, read back
+--   more                           one judgement more
+--   upto_between                   the first n samples are samples 1 to n
+--   all_upto, all_long, all_short  of a bundle too long, and of another
+--   all_layout, all_recording      the table says the same
+--   between_kept, kept_judgement   what is kept beside a sample is its judgement
+--   units_refused, units_good      what a judgement says of a sample
+--   refused_kept, units_kept       what is kept, read back
 use Prim.Native.Nat.{ℕ, zero, suc, ◌+◌, ◌≤◌, ◌<◌}
 use mathlib.Core.Path.{◌≡◌, refl, ap, sym, ◌∙◌}
 use mathlib.Core.List.{List}

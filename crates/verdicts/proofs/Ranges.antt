@@ -1,12 +1,12 @@
 -- Samples first to last judged, and how long their joined output is. Assumes nothing.
 --
---   size_most, size_given        what a judged sample adds: at most so much; as long as what resolving gives
---   Keeping, keeping_start, -more, -length, -end    a loop over the samples
---   range_unfit, -none, -judged  a range by a bundle too long or a table too short, by numbers that are not good, and by others: the answer and
---                                the table
---   range_refused, -stays        a refusal: it is that of any call on the range, and the table stays
---   range_count                  a length
---   range_recording, range_kept  the table then says the same, and keeps the judgement of each sample
+--   size_most, size_given                         what a judged sample adds: at most so much; as long as what resolving gives
+--   Keeping, keeping_start, -more, -length, -end  a loop over the samples
+--   range_unfit, -none, -judged                   a range by a bundle too long or a table too short, by numbers that are not good, and by others: the answer and
+--                                                 the table
+--   range_refused, -stays                         a refusal: it is that of any call on the range, and the table stays
+--   range_count                                   a length
+--   range_recording, range_kept                   the table then says the same, and keeps the judgement of each sample
 use Prim.Native.Nat.{ℕ, ◌+◌, ◌-◌, ◌*◌, ◌≤◌, ◌<◌}
 use mathlib.Core.Path.{◌≡◌, refl, ap, sym, ◌∙◌}
 use mathlib.Core.List.{List, [], ◌∷◌, ◌++◌}

@@ -1,17 +1,17 @@
 -- Judgements kept in a table, each in the count beside its sample (01, 'Audit and naming list': refusal, place, units).
 --
---   judgement_word a        a judgement in one number: its refusal, then the place; or 0, then how many units are delivered
---   units_of a              a judgement: its refusal, or how many units are delivered
---   verdict_in w            what such a number says
---   kept_answer             the code's answer in these words
---   judged_size a           how many bytes a judged sample adds to the output of a range: none if it is refused
---   sample_output_most       it is never more
---   judgements_upto b t n               the table with the judgements of the first n samples
---   judgements_between b t first n      the table with the judgements of samples first to n
---   with_judgements b t                 with those of all; a bundle too long leaves it as it was
---   range_size_in b t first last         a bundle too long or a table too short, 30, or how long the joined output of the samples is
---   with_range b t first last           the table with their judgements; a refusal leaves it as it was
---   JudgedBetween b t first last       the table keeps the judgement of each of samples first to last
+--   judgement_word a                a judgement in one number: its refusal, then the place; or 0, then how many units are delivered
+--   units_of a                      a judgement: its refusal, or how many units are delivered
+--   verdict_in w                    what such a number says
+--   kept_answer                     the code's answer in these words
+--   judged_size a                   how many bytes a judged sample adds to the output of a range: none if it is refused
+--   sample_output_most              it is never more
+--   judgements_upto b t n           the table with the judgements of the first n samples
+--   judgements_between b t first n  the table with the judgements of samples first to n
+--   with_judgements b t             with those of all; a bundle too long leaves it as it was
+--   range_size_in b t first last    a bundle too long or a table too short, 30, or how long the joined output of the samples is
+--   with_range b t first last       the table with their judgements; a refusal leaves it as it was
+--   JudgedBetween b t first last    the table keeps the judgement of each of samples first to last
 use Rattle.std.specs.Prelude.{ℕ, zero, suc, ◌+◌, ◌*◌, ◌/◌, ◌%◌, ◌≤◌, ◌≡◌, List, length}
 use Rattle.words.specs.Tests.{◌<?◌, ◌≡?◌, pick}
 use Rattle.words.specs.Refusals.{Answer, refused, ok, passed}

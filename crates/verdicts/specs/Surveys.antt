@@ -1,15 +1,15 @@
 -- What is known of the samples that a table gives with a bundle: a number for each sample, and rows of marks.
 --
---   packing                  256
---   packed n v               a number below packing and another in one
---   word_most                 no such number is larger
---   formed                   the first of them for a sample that is well formed; for another it is its refusal
---   Tells x f rows           what the number f says of the sample x: 0 nothing; formed, and the row of its first mark; its refusal and
---                            the place
---   Ready b t forms rows     the number of every sample tells so
---   Survey b t forms rows used     and the marks lie in the first used rows
---   Told x base old f new    sample x was checked, f tells so, and its marks, if any, went to the rows from base on
---   rows_most                 no more numbers than this are lent as rows, and so no more rows are in use
+--   packing                     256
+--   packed n v                  a number below packing and another in one
+--   word_most                   no such number is larger
+--   formed                      the first of them for a sample that is well formed; for another it is its refusal
+--   Tells x f rows              what the number f says of the sample x: 0 nothing; formed, and the row of its first mark; its refusal and
+--                               the place
+--   Ready b t forms rows        the number of every sample tells so
+--   Survey b t forms rows used  and the marks lie in the first used rows
+--   Told x base old f new       sample x was checked, f tells so, and its marks, if any, went to the rows from base on
+--   rows_most                   no more numbers than this are lent as rows, and so no more rows are in use
 use Rattle.std.specs.Prelude.{ℕ, ◌+◌, ◌*◌, ◌/◌, ◌%◌, ◌≤◌, ◌<◌, ◌≡◌, List, length, get_or}
 use Rattle.words.specs.Refusals.{ok, refused}
 use Rattle.units.specs.Units.{Sample, end}
@@ -46,7 +46,9 @@ module _ (b t forms rows : List ℕ) where
 
   pub record Survey (used : ℕ) : Type 0 where
     pub tells : Ready
-    pub below : (m : ℕ) → get_or forms m 0 % packing ≡ formed → get_or forms m 0 / packing + end (sample_of (recording_in b t) m) / block ≤ used
+    pub below :
+        (m : ℕ) → get_or forms m 0 % packing ≡ formed →
+        get_or forms m 0 / packing + end (sample_of (recording_in b t) m) / block ≤ used
     pub room : used * row_size ≤ length rows
 
 pub record Told (x : Sample) (base : ℕ) (old : List ℕ) (f : ℕ) (new : List ℕ) : Type 0 where

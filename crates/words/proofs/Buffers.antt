@@ -1,16 +1,16 @@
 -- Laws of written bytes. Assumes nothing.
 --
---   copy_step, copy_done     a turn of a copy, and a copy that is done
---   back_step                one byte more before what was written
---   write_write              two writes, one after the other, are one
---   write_none, write_first, write_length    nothing written; a write at the start; the length stays
---   put_fits, put_not, put_length            a write that fits, one that does not; the length stays
---   put_next                 a write right after what was written from the start on
---   within_room, within_not  an answer with room, and without
---   refused_leaves           a refusal's count is zero, and it leaves the buffer as it was
---   refuse, accept           what a call did: refused, or wrote bytes that fit
---   fit_all, lacks_here, lacks_later    several rooms: all are enough; one is not
---   within_all_room, within_all_not, refused_leaves_all, refuse_all, accept_all    the same laws of several buffers
+--   copy_step, copy_done                                                         a turn of a copy, and a copy that is done
+--   back_step                                                                    one byte more before what was written
+--   write_write                                                                  two writes, one after the other, are one
+--   write_none, write_first, write_length                                        nothing written; a write at the start; the length stays
+--   put_fits, put_not, put_length                                                a write that fits, one that does not; the length stays
+--   put_next                                                                     a write right after what was written from the start on
+--   within_room, within_not                                                      an answer with room, and without
+--   refused_leaves                                                               a refusal's count is zero, and it leaves the buffer as it was
+--   refuse, accept                                                               what a call did: refused, or wrote bytes that fit
+--   fit_all, lacks_here, lacks_later                                             several rooms: all are enough; one is not
+--   within_all_room, within_all_not, refused_leaves_all, refuse_all, accept_all  the same laws of several buffers
 use Prim.Native.Nat.{ℕ, suc, ◌+◌, ◌≤◌, ◌<◌}
 use mathlib.Core.Path.{◌≡◌, ap, sym, ◌∙◌}
 use mathlib.Core.Bool.{true, false, true-or, or-true}

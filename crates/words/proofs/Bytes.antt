@@ -1,13 +1,13 @@
 -- Laws of numbers in bytes, for any width n. Assumes nothing.
 --
---   big_more, pow_more        one byte more
---   big_below                 n bytes hold a number below 256 ^ n
---   pow_small                 fewer than 8 bytes
---   big_inside                a number in a part is that number in the whole
---   bytes_length              v in n bytes is n bytes
---   big_bytes                 a number that was written is read back
---   bytes_big                 a number that was read is written back
---   Held, held_bytes, bytes_held, held_append    lists that hold bytes, element by element
+--   big_more, pow_more                         one byte more
+--   big_below                                  n bytes hold a number below 256 ^ n
+--   pow_small                                  fewer than 8 bytes
+--   big_inside                                 a number in a part is that number in the whole
+--   bytes_length                               v in n bytes is n bytes
+--   big_bytes                                  a number that was written is read back
+--   bytes_big                                  a number that was read is written back
+--   Held, held_bytes, bytes_held, held_append  lists that hold bytes, element by element
 use Prim.Native.Nat.{ℕ, zero, suc, ◌+◌, ◌*◌, ◌/◌, ◌%◌, ◌^◌, ◌≤◌, ◌<◌}
 use mathlib.Core.Path.{◌≡◌, refl, ap, ap₂, ◌∙◌}
 use mathlib.Core.List.{List, [], ◌∷◌, ◌++◌, append_assoc}

@@ -1,12 +1,12 @@
 -- Laws of entries, one after the other, and of a walk over them; sums and maps. Assumes nothing.
 --
---   entries_split, entries_snoc, skip_snoc     a table's entries, and its last one
---   entries_length, entries_at_lem, entries_mem    how many, which stands where
---   and_assoc, first_append, first_snoc        the first refusal of verdicts one after the other, and of joined lists
---   Walked, walked_start, -next, -refused, -end    a walk over entries that has come to its entry i, at the place p
---   walk-keeps                                 what holds of a place and of the place after each entry without a refusal
---   sum_append, map_append, map_at             sums and maps
---   big_one                                    a number of one byte
+--   entries_split, entries_snoc, skip_snoc       a table's entries, and its last one
+--   entries_length, entries_at_lem, entries_mem  how many, which stands where
+--   and_assoc, first_append, first_snoc          the first refusal of verdicts one after the other, and of joined lists
+--   Walked, walked_start, -next, -refused, -end  a walk over entries that has come to its entry i, at the place p
+--   walk-keeps                                   what holds of a place and of the place after each entry without a refusal
+--   sum_append, map_append, map_at               sums and maps
+--   big_one                                      a number of one byte
 use Prim.Native.Nat.{ℕ, zero, suc, ◌+◌, ◌-◌, ◌≤◌, ◌<◌}
 use mathlib.Core.Path.{◌≡◌, refl, ap, sym, ◌∙◌, subst}
 use mathlib.Core.List.{List, [], ◌∷◌, ◌++◌, map, Memᴰ}

@@ -1,17 +1,17 @@
 -- Laws of joined lists and of the first refusal in them; rising lists of numbers; parts of parts. Assumes nothing.
 --
---   each_length               the length of joined lists is a sum
---   each_by_number            joined lists, element by number
---   nth_map                   the nth of a list of values
---   nth_front, nth_back       the nth of joined lists
---   map_keep                  `keep` over a list of values
---   first_keep, first_each    the first refusal of the elements that pass, and of joined lists
---   first_earliest, first_here    the first refusal of a rising list: of the first place that has one, both ways
---   keep_and                  two tests at once
---   each_single               joined lists of one element
---   rising_cut                a rising list of numbers, cut at one of them
---   keep_one                  the one element of a rising list of numbers that is a number
---   part_byte, part_part      a byte of a part, a part of a part
+--   each_length                 the length of joined lists is a sum
+--   each_by_number              joined lists, element by number
+--   nth_map                     the nth of a list of values
+--   nth_front, nth_back         the nth of joined lists
+--   map_keep                    `keep` over a list of values
+--   first_keep, first_each      the first refusal of the elements that pass, and of joined lists
+--   first_earliest, first_here  the first refusal of a rising list: of the first place that has one, both ways
+--   keep_and                    two tests at once
+--   each_single                 joined lists of one element
+--   rising_cut                  a rising list of numbers, cut at one of them
+--   keep_one                    the one element of a rising list of numbers that is a number
+--   part_byte, part_part        a byte of a part, a part of a part
 use Prim.Native.Nat.{ℕ, zero, suc, ◌+◌, ◌-◌, ◌≤◌, ◌<◌}
 use mathlib.Core.Path.{◌≡◌, refl, ap, ap₂, sym, ◌∙◌}
 use mathlib.Core.List.Memᴰ

@@ -1,16 +1,16 @@
 -- Laws of lists: membership, order, joined lists. Assumes nothing.
 --
---   each_cong, each_append, each_each, each_map    `each` of equal functions; over joined lists; of `each`; of `map`
---   each_mem, each_from               membership in `each`, both ways
---   keep_mem, keep_from, keep_cong    membership in `keep`, both ways; `keep` of equal tests
---   keep_append, keep_nothing, some_append, some_none, some_mem    tests over joined lists, and over lists where none passes
---   some_from                         an element that passes a test
---   has_from, has_mem                 a number that is among numbers, both ways
---   is_or_from, is_or_mem             a number that is one number, or among others, both ways
---   upto_mem, upto_from               membership in `upto`, both ways
---   nth_mem, nth_found                what stands at a number
---   last_that_snoc                     one element more at the end
---   map_cong                          `map` of functions that are equal on the list
+--   each_cong, each_append, each_each, each_map                  `each` of equal functions; over joined lists; of `each`; of `map`
+--   each_mem, each_from                                          membership in `each`, both ways
+--   keep_mem, keep_from, keep_cong                               membership in `keep`, both ways; `keep` of equal tests
+--   keep_append, keep_nothing, some_append, some_none, some_mem  tests over joined lists, and over lists where none passes
+--   some_from                                                    an element that passes a test
+--   has_from, has_mem                                            a number that is among numbers, both ways
+--   is_or_from, is_or_mem                                        a number that is one number, or among others, both ways
+--   upto_mem, upto_from                                          membership in `upto`, both ways
+--   nth_mem, nth_found                                           what stands at a number
+--   last_that_snoc                                               one element more at the end
+--   map_cong                                                     `map` of functions that are equal on the list
 --   Rising, rising_append, -keep, -each, -map, -upto, -weaken    every element before every later one
 use Prim.Native.Nat.{ℕ, zero, suc, ◌≤◌, ◌<◌}
 use mathlib.Core.Path.{◌≡◌, refl, ap, ap₂, sym, ◌∙◌, subst}

@@ -1,10 +1,10 @@
 -- Laws of the nth element, of parts past the end, and of a write after a write. Assumes nothing.
 --
---   nth_none, nth_first, nth_later    the nth element of an empty list; of a list with a first element
---   nth_other, nth_map      an nth element that is not the default; of a `map`
---   part_past               a part past the end is empty
---   put_after               a write right after what was written
---   put_put                 two writes, one right after the other, where there is room for both
+--   nth_none, nth_first, nth_later  the nth element of an empty list; of a list with a first element
+--   nth_other, nth_map              an nth element that is not the default; of a `map`
+--   part_past                       a part past the end is empty
+--   put_after                       a write right after what was written
+--   put_put                         two writes, one right after the other, where there is room for both
 use Prim.Native.Nat.{ℕ, zero, suc, ◌+◌, ◌-◌, ◌≤◌, ◌<◌}
 use mathlib.Core.Path.{◌≡◌, refl, ap, sym, ◌∙◌}
 use mathlib.Core.List.{List, [], ◌∷◌, ◌++◌, map, Memᴰ}

@@ -1,16 +1,16 @@
 -- Chains of refusals taken apart and built, and the first refusal of a list. Assumes nothing.
 --
---   if_none, if_some          a test that named a refusal: it failed where there is none; it held where there is one
---   or_else_none               a chain without a refusal: none in either part
---   or_else_here, or_else_on    by a function's result: its refusal is the chain's, or the chain goes on
---   or_else_assoc              a chain may be cut anywhere
---   at_ok, at_none, at_from, at_refused         a number at a place, as a verdict
---   and_ok                    a verdict and an answer that is no refusal
---   by_verdict, by_answer     cases of a verdict and of an answer, with the equation
---   NoneOr, none_or_if, -orElse, -pick, -firstOf, -some, -wider    refusal numbers of a chain that are none, or one of a set
---   first_of_none, -cong, -map     the first refusal number of a list
---   first_ok, first_all, first_from, first_cong    the first refusal of a list
---   ok_same, ok_refused, refused_same, refused_along    two answers that are equal; what is said of the number and place of the one holds of the other's
+--   if_none, if_some                                             a test that named a refusal: it failed where there is none; it held where there is one
+--   or_else_none                                                 a chain without a refusal: none in either part
+--   or_else_here, or_else_on                                     by a function's result: its refusal is the chain's, or the chain goes on
+--   or_else_assoc                                                a chain may be cut anywhere
+--   at_ok, at_none, at_from, at_refused                          a number at a place, as a verdict
+--   and_ok                                                       a verdict and an answer that is no refusal
+--   by_verdict, by_answer                                        cases of a verdict and of an answer, with the equation
+--   NoneOr, none_or_if, -orElse, -pick, -firstOf, -some, -wider  refusal numbers of a chain that are none, or one of a set
+--   first_of_none, -cong, -map                                   the first refusal number of a list
+--   first_ok, first_all, first_from, first_cong                  the first refusal of a list
+--   ok_same, ok_refused, refused_same, refused_along             two answers that are equal; what is said of the number and place of the one holds of the other's
 use Prim.Native.Nat.{ℕ, zero, suc, ◌<◌}
 use mathlib.Core.Path.{◌≡◌, refl, ap, ap₂, sym, ◌∙◌, subst}
 use mathlib.Core.List.Memᴰ

@@ -1,14 +1,14 @@
 -- Laws of lists by number, of what stands in a written list, and of rows of four numbers. Assumes nothing.
 --
---   upto_length, upto_at, upto_more, upto_split    1, 2, .. n
---   map_upto, nth_upto                 a list by its numbers; the nth of it
---   get_d_mem                           what stands at a place is in the list
---   keep_at                            the next element that passes
---   last_that_cong, last_that_upto       the last number that passes
---   write_here, write_before, write_after    what stands in a written buffer
---   row_write                          four numbers written one after the other
---   take_sum_le                        the sum of the first numbers
---   rows_length, rows_more, rows_at    rows of four numbers, one after the other
+--   upto_length, upto_at, upto_more, upto_split  1, 2, .. n
+--   map_upto, nth_upto                           a list by its numbers; the nth of it
+--   get_d_mem                                    what stands at a place is in the list
+--   keep_at                                      the next element that passes
+--   last_that_cong, last_that_upto               the last number that passes
+--   write_here, write_before, write_after        what stands in a written buffer
+--   row_write                                    four numbers written one after the other
+--   take_sum_le                                  the sum of the first numbers
+--   rows_length, rows_more, rows_at              rows of four numbers, one after the other
 use Prim.Native.Nat.{ℕ, zero, suc, ◌+◌, ◌-◌, ◌*◌, ◌≤◌, ◌<◌}
 use mathlib.Core.Path.{◌≡◌, refl, ap, ◌∙◌, subst}
 use mathlib.Core.List.{List, [], ◌∷◌, ◌++◌, map, append_assoc, append-nil, Memᴰ}

@@ -1,10 +1,10 @@
 -- Laws of walks: entries of a table, and the place after them. Assumes nothing.
 --
---   skip_grows              the place after the entries is not before them
---   entries_end             an entry ends before the place after the entries
---   entries_same            another way from entry to entry that is the same on the way
---   entries_shift, skip_shift    the entries of a table that stands further on
---   skip_stride             entries of one width
+--   skip_grows                 the place after the entries is not before them
+--   entries_end                an entry ends before the place after the entries
+--   entries_same               another way from entry to entry that is the same on the way
+--   entries_shift, skip_shift  the entries of a table that stands further on
+--   skip_stride                entries of one width
 use Prim.Native.Nat.{ℕ, zero, suc, ◌+◌, ◌*◌, ◌≤◌}
 use mathlib.Core.Path.{◌≡◌, refl, ap, ◌∙◌}
 use mathlib.Core.List.Memᴰ

@@ -1,14 +1,14 @@
 -- Bytes written over lent buffers. Where they fit, a buffer's length stays.
 --
---   write_at o p b           b over o from p on
---   overwrite o b           b over the start of o
---   put o p b               b over o from p on if it fits there, else o
---   room_verdict rooms outs  29 at 0 where an output is longer than its room
---   within room a           the answer a, but 29 at 0 where its bytes are more than the room
---   counted a               the number of bytes of an answer
---   leaves o a              what an answer leaves in o: o itself after a refusal, else its bytes over the start
---   Wrote o o' r a          a call that answered r and turned o into o' did what the answer a says
---   within_all, counted_all, leaves_all, WroteAll    the same of several buffers: all stay as they were where one lacks room
+--   write_at o p b                                 b over o from p on
+--   overwrite o b                                  b over the start of o
+--   put o p b                                      b over o from p on if it fits there, else o
+--   room_verdict rooms outs                        29 at 0 where an output is longer than its room
+--   within room a                                  the answer a, but 29 at 0 where its bytes are more than the room
+--   counted a                                      the number of bytes of an answer
+--   leaves o a                                     what an answer leaves in o: o itself after a refusal, else its bytes over the start
+--   Wrote o o' r a                                 a call that answered r and turned o into o' did what the answer a says
+--   within_all, counted_all, leaves_all, WroteAll  the same of several buffers: all stay as they were where one lacks room
 use Rattle.std.specs.Prelude.{ℕ, ◌+◌, ◌≡◌, Bool, false, ◌||◌, List, [], ◌∷◌, ◌++◌, map, length, take, drop}
 use Rattle.words.specs.Tests.{◌<?◌, ◌≤?◌, pick}
 use Rattle.words.specs.RefusalNumbers.{output_too_long}

@@ -1,14 +1,14 @@
 -- Numbers in bytes, and parts of a list of bytes. A byte past the end reads as 0.
 --
---   Bytes s            s holds bytes
---   byte_at s p         the byte at p
---   big s p n          the big-endian number of n bytes at p
---   word_at s p n       the same, where it fits a word: 0 for more than 8 bytes
---   bytes n v          v in n bytes, big-endian
---   largest            the largest number of 8 bytes
---   part s a n         the n elements from a on
---   splice s a new     s with the elements from a on replaced by new
---   cuts s ns a        the parts of lengths ns, one after the other from a on
+--   Bytes s         s holds bytes
+--   byte_at s p     the byte at p
+--   big s p n       the big-endian number of n bytes at p
+--   word_at s p n   the same, where it fits a word: 0 for more than 8 bytes
+--   bytes n v       v in n bytes, big-endian
+--   largest         the largest number of 8 bytes
+--   part s a n      the n elements from a on
+--   splice s a new  s with the elements from a on replaced by new
+--   cuts s ns a     the parts of lengths ns, one after the other from a on
 use Rattle.std.specs.Prelude.{ℕ, zero, suc, ◌+◌, ◌*◌, ◌/◌, ◌%◌, ◌<◌, List, [], ◌∷◌, ◌++◌, length, get_or, take, drop}
 use Rattle.words.specs.Tests.{◌≤?◌, pick}
 

@@ -1,13 +1,13 @@
 -- What is taken from lists. Elements are numbered from 1.
 --
---   keep t xs, some t xs   the elements that pass a test; whether one does
---   has n ns               whether the number n is among ns
---   x ∈ xs                 x is an element of xs
---   each f xs              the lists f x joined, in order
---   nth xs n d             the nth element from 1, or d where there is none
---   upto n                 1, 2, .. n
---   last_that t xs          the number, from 1, of the last element that passes; 0 if none does
---   sum ns                 the sum of numbers
+--   keep t xs, some t xs  the elements that pass a test; whether one does
+--   has n ns              whether the number n is among ns
+--   x ∈ xs                x is an element of xs
+--   each f xs             the lists f x joined, in order
+--   nth xs n d            the nth element from 1, or d where there is none
+--   upto n                1, 2, .. n
+--   last_that t xs        the number, from 1, of the last element that passes; 0 if none does
+--   sum ns                the sum of numbers
 use Rattle.std.specs.Prelude.{ℕ, zero, suc, ◌+◌, Bool, false, ◌||◌, get_or}
 use mathlib.Core.List.{List, [], ◌∷◌, ◌++◌, Memᴰ}
 use Rattle.words.specs.Tests.{◌≡?◌, pick, ◌when◌else◌}

@@ -1,15 +1,15 @@
 -- Refusals: a number, 0 for none; an answer, which is a refusal at a place or a value; the first refusal of a list of places.
 --
---   n if t             the refusal number n if the test holds, else none
---   n or_else m         the refusal number n, or m where n is none
---   first_of fault ps   the first refusal number among those of the places ps
---   Answer A           refused with a number at a place, or ok with a value; a Verdict has no value
---   n at_place p        the refusal number n at the place p, as a verdict
---   v and_then a        the refusal of v, else the answer a
---   first judge ps     the first refusal among those of the places ps
---   passed a           whether an answer is no refusal
+--   n if t               the refusal number n if the test holds, else none
+--   n or_else m          the refusal number n, or m where n is none
+--   first_of fault ps    the first refusal number among those of the places ps
+--   Answer A             refused with a number at a place, or ok with a value; a Verdict has no value
+--   n at_place p         the refusal number n at the place p, as a verdict
+--   v and_then a         the refusal of v, else the answer a
+--   first judge ps       the first refusal among those of the places ps
+--   passed a             whether an answer is no refusal
 --   number_of, place_of  what an answer returns as refusal number and place: both 0 where it is none
---   count_of            what an answer with a count returns as count: 0 where it is a refusal
+--   count_of             what an answer with a count returns as count: 0 where it is a refusal
 use Rattle.std.specs.Prelude.{ℕ, zero, suc, List, [], ◌∷◌, Bool, true, false}
 use Rattle.words.specs.Tests.{pick}
 

@@ -1,10 +1,10 @@
 -- Tests of numbers, and choice by a test.
 --
---   a <? b, a ≤? b, a ≡? b    tests of numbers
---   pick t a b                a if the test t holds, else b
---   n when t else m           the same, on numbers
---   out_of count n             whether n is not one of the numbers 1 to count: 0, or past the last
---   all ts                    whether every test of a list holds
+--   a <? b, a ≤? b, a ≡? b  tests of numbers
+--   pick t a b              a if the test t holds, else b
+--   n when t else m         the same, on numbers
+--   out_of count n          whether n is not one of the numbers 1 to count: 0, or past the last
+--   all ts                  whether every test of a list holds
 use Rattle.std.specs.Prelude.{ℕ, Bool, true, false, ◌&&◌, ◌||◌, List, [], ◌∷◌, ltb, leb, eqb}
 
 infix 50 ◌<?◌ ◌≤?◌ ◌≡?◌

@@ -1,11 +1,9 @@
 -- 31, then 29, then the record. Assumes nothing.
-use borrow.Author.Rules.{rules}
 use native.Mathlib.Omega.{arith}
 use mathlib.Core.Path.{◌≡◌, sym, ap, ◌∙◌}
 use Prim.Native.Nat.{◌+◌}
 use lib.ListN.{length}
 use mathlib.Core.Bool.{true}
-use borrow.Author.Tests.{not-true, not-false}
 use Rattle.words.specs.Buffers.{within}
 use Rattle.words.proofs.Buffers.{refuse, accept, within_room, within_not}
 use Rattle.record_rules.specs.Trailers.{ending}

@@ -1,5 +1,4 @@
 -- One row each. Assumes nothing.
-use borrow.Author.Rules.{rules}
 use native.Mathlib.Omega.{arith}
 use Rattle.record_writer.proofs.fitting.facts_of.Goals as goal
 

@@ -1,5 +1,4 @@
 -- Part by part, by the law that what fits, fits by its parts. Assumes nothing.
-use borrow.Author.Rules.{rules}
 use mathlib.Core.Path.{◌≡◌, ap, sym, ◌∙◌}
 use mathlib.Core.Bool.{true, false, and-true}
 use borrow.Author.Tests.{ne_eqb, not-true, not-false}

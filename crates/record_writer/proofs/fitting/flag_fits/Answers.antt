@@ -1,5 +1,4 @@
 -- By the flag, for a kind that has it and for one that has not. Assumes nothing.
-use borrow.Author.Rules.{rules}
 use Rattle.words.proofs.Tests.{by_bool}
 use Rattle.record_writer.proofs.fitting.flag_fits.Goals as goal
 

@@ -1,5 +1,4 @@
 -- Flag by flag. Assumes nothing.
-use borrow.Author.Rules.{rules}
 use mathlib.Core.Path.{sym, ◌∙◌}
 use mathlib.Core.Bool.{and-true}
 use Rattle.record_rules.specs.Layout.{flags_fit}

@@ -1,5 +1,4 @@
 -- One test for each value. Assumes nothing.
-use borrow.Author.Rules.{rules}
 use Rattle.words.specs.Tests.{all}
 use Rattle.words.proofs.Tests.{tests}
 use mathlib.Core.Bool.{and-true}

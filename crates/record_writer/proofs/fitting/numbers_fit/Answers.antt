@@ -1,6 +1,5 @@
 -- One test for each number. Assumes nothing.
-use borrow.Author.Rules.{rules}
-use borrow.Author.Tests.{not-true, not-false, lt-ltb, le-leb}
+use borrow.Author.Tests.{lt-ltb, le-leb}
 use Rattle.words.specs.Tests.{all}
 use Rattle.words.proofs.Tests.{tests}
 use Rattle.record_rules.specs.Fields.{numbers_fit}

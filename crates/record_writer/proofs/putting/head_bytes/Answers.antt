@@ -1,10 +1,8 @@
 -- Each byte by its shape. Assumes nothing.
-use borrow.Author.Rules.{rules}
 use native.Mathlib.Omega.{arith}
-use mathlib.Core.Path.{◌≡◌, sym, ◌∙◌}
-use mathlib.Core.List.{[], ◌∷◌}
+use mathlib.Core.Path.{◌≡◌}
 use Prim.Native.Nat.{◌+◌, ◌-◌, ◌*◌, ◌<◌}
-use Rattle.record_rules.specs.Layout.{record_layout, byte_of, bit}
+use Rattle.record_rules.specs.Layout.{record_layout, byte_of}
 use Rattle.record_rules.proofs.Shapes.{row, byte_below, plain_below, Flagged, flagged, flags_one}
 use Rattle.record_rules.proofs.Numbers.{Numbers, numbers}
 use Rattle.record_writer.proofs.putting.head_bytes.Goals as goal

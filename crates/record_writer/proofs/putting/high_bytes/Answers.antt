@@ -1,5 +1,4 @@
 -- Each byte by its shape. Assumes nothing.
-use borrow.Author.Rules.{rules}
 use native.Mathlib.Omega.{arith}
 use Rattle.record_rules.specs.Trailers.{chroma_shape, depth_shape}
 use Rattle.record_rules.proofs.Shapes.{sound_chroma, sound_depth, plain_below}

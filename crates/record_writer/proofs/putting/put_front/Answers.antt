@@ -1,5 +1,4 @@
 -- Three writes, one after the other. Assumes nothing.
-use borrow.Author.Rules.{rules}
 use native.Mathlib.Omega.{arith}
 use mathlib.Core.Path.{◌∙◌}
 use Rattle.record_rules.proofs.Numbers.{numbers}

@@ -1,5 +1,4 @@
 -- Without a trailer, and where it is absent, nothing is written; else its values. Assumes nothing.
-use borrow.Author.Rules.{rules}
 use native.Mathlib.Omega.{arith}
 use mathlib.Core.Path.{◌∙◌}
 use Rattle.record_rules.specs.Trailers.{high_bytes}
