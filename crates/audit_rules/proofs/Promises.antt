@@ -19,7 +19,7 @@
 --   audit_refused_exactly, tally_refused_exactly                   else it is refused: by the bundle, or the lines do not fit
 --   refused_alike                                                  lines and tally are refused alike
 --   audit_refused_with                                             with a number of the reader's at a place in the bundle or at its end, or 29 at 0
-use Prim.Native.Nat.{ℕ, ◌+◌, ◌-◌, ◌*◌, ◌≤◌, ◌<◌}
+use Prim.Native.Nat.{ℕ, ◌+◌, ◌*◌, ◌≤◌, ◌<◌}
 use mathlib.Core.Path.{◌≡◌, refl, sym, ◌∙◌}
 use mathlib.Core.List.{List, []}
 use mathlib.Core.Logic.{◌⊎◌, inl, inr, ⊎_elim}

@@ -8,30 +8,28 @@
 --   track_at_lem                             a track by its number
 --   Kept, kept_start, kept_next, kept_sizes  the length sizes of the tracks so far
 --   total_start, total_next                  the sum of the lengths so far
-use Prim.Native.Nat.{ℕ, zero, suc, ◌+◌, ◌-◌, ◌*◌, ◌%◌, ◌≤◌, ◌<◌}
+use Prim.Native.Nat.{ℕ, zero, suc, ◌+◌, ◌-◌, ◌≤◌, ◌<◌}
 use mathlib.Core.Path.{◌≡◌, refl, ap, sym, ◌∙◌}
-use mathlib.Core.Bool.{Bool, true, false}
-use mathlib.Core.List.{List, [], ◌∷◌, ◌++◌, map}
+use mathlib.Core.List.{List, [], ◌∷◌, map}
 use native.Mathlib.Omega.{arith}
 use native.Mathlib.Numerals.{add-one}
 use borrow.Author.Count.{below_more}
-use lib.ListN.{length, get_or, set}
+use lib.ListN.{length, set}
 use lib.Seq.{get_or-set_same, get_or-set_other}
-use Rattle.words.specs.Refusals.{Answer, refused, ok, Verdict, ◌and_then◌, ◌at_place◌, first}
+use Rattle.words.specs.Refusals.{Answer, refused, ok, Verdict, ◌and_then◌, ◌at_place◌}
 use Rattle.words.specs.Lists.{nth, sum, upto}
 use Rattle.words.specs.Walks.{skip}
 use Rattle.words.specs.Bytes.{byte_at}
 use Rattle.words.proofs.Refusals.{at_refused, at_none, ok_same, ok_refused}
 use Rattle.numbers.specs.Sizes.{in_bytes, length_size_of}
 use Rattle.numbers.specs.declared.Kind.{Kind}
-use Rattle.numbers.specs.declared.Kind.TheVariants.{Avc, Svc}
 use Rattle.numbers.specs.declared.MaybeKind.{MaybeKind}
 use Rattle.numbers.specs.declared.MaybeKind.TheVariants.{Known, Unknown}
 use Rattle.record_rules.specs.Read.{record_fault, length_size, read_as}
 use Rattle.record_rules.specs.declared.Record.{Record}
 use Rattle.record_rules.proofs.Answers.{accepted_as, refused_as}
 use Rattle.record_rules.proofs.Parsed.{parsed, length_size_most}
-use Rattle.bundles.specs.Recordings.{Track, no_track}
+use Rattle.bundles.specs.Recordings.{no_track}
 use Rattle.bundles.specs.Tracks.{track_count, tracks_at, track_end, kind_at, record_at, record_fault_as, known_kind, known_size, size_at, track_fault, track_on, track_places, tracks}
 use Rattle.bundles.specs.References.{length_size_on}
 use Rattle.bundles.specs.Samples.{entry_at, length_at}

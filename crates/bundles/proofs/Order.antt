@@ -4,14 +4,13 @@
 --   InOrder, in_order_then    two entries of section three in order; the relation is transitive
 --   entries_rise              the entries of an accepted bundle rise
 --   entries_there             each has a track that exists
-use Prim.Native.Nat.{ℕ, zero, suc, ◌+◌, ◌-◌, ◌≤◌, ◌<◌}
-use mathlib.Core.Path.{◌≡◌, refl, ap, sym, ◌∙◌, subst}
+use Prim.Native.Nat.{ℕ, zero, suc, ◌-◌, ◌≤◌, ◌<◌}
+use mathlib.Core.Path.{◌≡◌, subst}
 use mathlib.Core.List.Memᴰ
-use mathlib.Core.List.{List, [], ◌∷◌, ◌++◌, map, Memᴰ}
+use mathlib.Core.List.{List, [], ◌∷◌, map, Memᴰ}
 use native.Mathlib.Omega.{arith}
 use borrow.Author.Tests.{ltb-true, ltb-false}
 use lib.Dec.{ltb}
-use lib.ListN.{length}
 use Rattle.words.specs.Lists.{upto}
 use Rattle.words.proofs.Tests.{by_bool}
 use Rattle.words.proofs.Lists.{Rising, rising_append, upto_from}
@@ -19,7 +18,7 @@ use Rattle.words.proofs.Entries.{map_append}
 use Rattle.bundles.specs.Recordings.{Entry}
 use Rattle.bundles.specs.Tracks.{track_count}
 use Rattle.bundles.specs.Samples.{entry_count, entry_at, entry_on, entry_numbers, sample_entries}
-use Rattle.bundles.proofs.Sections.{Samples, EntryGood, entry_good, order_good}
+use Rattle.bundles.proofs.Sections.{Samples, entry_good, order_good}
 
 pub record InOrder (e f : Entry) : Type 0 where
   pub track : e.track ≤ f.track

@@ -4,10 +4,10 @@
 --   Earliest, first_earlier                 the first number that is refused: those before it are not
 --   passed_start, -next, -refused, -end     no number yet; one more; the next is refused; all are passed
 use Prim.Native.Nat.{ℕ, zero, suc, ◌+◌, ◌≤◌, ◌<◌}
-use mathlib.Core.Path.{◌≡◌, refl, ap, sym, ◌∙◌}
-use mathlib.Core.List.{List, [], ◌∷◌, ◌++◌}
+use mathlib.Core.Path.{◌≡◌, refl, sym, ◌∙◌}
+use mathlib.Core.List.{[], ◌∷◌}
 use native.Mathlib.Omega.{arith}
-use Rattle.words.specs.Refusals.{refused, ok, ◌and_then◌, ◌at_place◌, first}
+use Rattle.words.specs.Refusals.{refused, ok, ◌at_place◌, first}
 use Rattle.words.specs.Lists.{upto}
 use Rattle.words.proofs.Refusals.{at_refused, at_ok, ok_refused, first_ok, by_verdict}
 use Rattle.words.proofs.Lists.{upto_mem}

@@ -8,16 +8,16 @@
 --   bytes_replaced      a sample's bytes replaced by as many others: accepted still, with these bytes replaced in the recording and nothing else
 --   refusals_within     every refusal is one of the bundle's, at a place in the bundle or at its end
 --   one_or_other        a bundle is refused, or means its recording
-use Prim.Native.Nat.{ℕ, zero, suc, ◌+◌, ◌-◌, ◌≤◌, ◌<◌}
-use mathlib.Core.Path.{◌≡◌, refl, ap, sym, ◌∙◌, subst}
+use Prim.Native.Nat.{ℕ, suc, ◌+◌, ◌-◌, ◌≤◌, ◌<◌}
+use mathlib.Core.Path.{◌≡◌, ap, sym, ◌∙◌, subst}
 use mathlib.Core.List.Memᴰ
-use mathlib.Core.List.{List, [], ◌∷◌, map, Memᴰ}
+use mathlib.Core.List.{List, Memᴰ}
 use mathlib.Core.Logic.{◌⊎◌, inl, inr}
 use native.Mathlib.Omega.{arith}
-use lib.ListN.{length, get_or, drop}
-use Rattle.words.specs.Refusals.{Answer, refused, ok}
-use Rattle.words.specs.Lists.{each, nth, sum}
-use Rattle.words.specs.Bytes.{big, part, splice, cuts}
+use lib.ListN.{length}
+use Rattle.words.specs.Refusals.{refused, ok}
+use Rattle.words.specs.Lists.{nth, sum}
+use Rattle.words.specs.Bytes.{big, splice, cuts}
 use Rattle.words.proofs.Refusals.{and_ok, by_verdict}
 use Rattle.words.proofs.Lists.{Rising}
 use Rattle.numbers.specs.Sizes.{in_bytes}

@@ -2,35 +2,30 @@
 --
 --   refused_within    a refused bundle's refusal
 use Prim.Native.Nat.{ℕ, zero, suc, ◌+◌, ◌-◌, ◌≤◌, ◌<◌}
-use mathlib.Core.Path.{◌≡◌, refl, ap, sym, ◌∙◌, subst}
-use mathlib.Core.Bool.{Bool, true, false, not, ◌&&◌}
+use mathlib.Core.Path.{◌≡◌, refl, sym, subst}
+use mathlib.Core.Bool.{Bool, true, not, ◌&&◌}
 use mathlib.Core.List.Memᴰ
 use mathlib.Core.List.{List, [], ◌∷◌}
 use mathlib.Core.Logic.{◌⊎◌, inl, inr, ⊎_elim}
 use native.Mathlib.Omega.{arith}
-use borrow.Author.Tests.{eqb-true, eqb-false}
-use lib.Dec.{eqb}
 use lib.ListN.{length}
-use Rattle.words.specs.Tests.{◌<?◌, ◌≤?◌, ◌≡?◌, pick}
+use Rattle.words.specs.Tests.{◌<?◌, ◌≤?◌, ◌≡?◌}
 use Rattle.words.specs.RefusalNumbers.{bundle_too_long, bundle_cut, count_out_of_limits, unknown_kind, bad_reference, bad_track_or_time, bad_byte_count, record_refusals, bundle_refusals}
-use Rattle.words.specs.Refusals.{◌if◌, ◌or_else◌, Answer, refused, ok, Verdict, ◌and_then◌, ◌at_place◌, first}
+use Rattle.words.specs.Refusals.{◌if◌, ◌or_else◌, refused, ok, Verdict, ◌and_then◌, ◌at_place◌, first}
 use Rattle.words.specs.Lists.{some, has, ◌∈◌}
-use Rattle.words.specs.Walks.{entries, skip}
+use Rattle.words.specs.Walks.{entries}
 use Rattle.words.specs.Bytes.{big}
-use Rattle.words.proofs.Tests.{by_bool}
 use Rattle.words.proofs.Lists.{has_from}
 use Rattle.words.proofs.Refusals.{at_ok, ok_refused, NoneOr, none_or_if, none_or_or_else, none_or_pick, none_or_some, none_or_wider}
-use Rattle.numbers.specs.declared.Kind.{Kind}
 use Rattle.numbers.specs.declared.MaybeKind.{MaybeKind}
 use Rattle.numbers.specs.declared.MaybeKind.TheVariants.{Known, Unknown}
-use Rattle.record_rules.specs.Read.{record_fault}
 use Rattle.record_rules.proofs.Refusals.{record_refusal}
-use Rattle.bundles.specs.Limits.{count_fault, cut, bundle_most, track_least, track_most, reference_most, sample_most}
+use Rattle.bundles.specs.Limits.{count_fault, bundle_most, track_least, track_most, reference_most, sample_most}
 use Rattle.bundles.specs.Fields.{track_count_size, track_head_size, reference_count_size, reference_size, sample_count_size, sample_entry_size, byte_count_size}
 use Rattle.bundles.specs.Recordings.{Entry}
 use Rattle.bundles.specs.Tracks.{record_fault_as, tracks_at, record_length, kind_at, record_at, track_count, track_end, track_fault, tracks_verdict, references_at}
 use Rattle.bundles.specs.References.{from, to, no_such_track, length_size_on, reference_count, reference_fault, references_verdict, samples_at}
-use Rattle.bundles.specs.Samples.{track, entry_count, entries_at, entry_at, entry_on, order_fault, entry_fault, entry_numbers, samples_verdict, byte_count_at}
+use Rattle.bundles.specs.Samples.{track, entry_count, entry_at, entry_on, order_fault, entry_fault, samples_verdict, byte_count_at}
 use Rattle.bundles.specs.Bundles.{byte_count, byte_count_fault, bytes_verdict, length_verdict, bundle_verdict, BundleRefusal}
 use Rattle.words.proofs.Entries.{walk_keeps_here}
 use Rattle.bundles.proofs.Passing.{first_earlier}

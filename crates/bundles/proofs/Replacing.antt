@@ -7,29 +7,26 @@
 --   records_replaced                           the records stand where they did
 use Prim.Native.Nat.{ℕ, zero, suc, ◌+◌, ◌-◌, ◌*◌, ◌≤◌, ◌<◌}
 use mathlib.Core.Path.{◌≡◌, refl, ap, ap₂, sym, ◌∙◌}
-use mathlib.Core.List.{List, [], ◌∷◌, ◌++◌, map, Memᴰ}
-use mathlib.Core.Bool.{Bool, true, false, not}
+use mathlib.Core.List.{List, map, Memᴰ}
 use native.Mathlib.Omega.{arith}
 use lib.ListN.{length, get_or, take, set}
-use Rattle.words.specs.Tests.{◌<?◌}
-use Rattle.words.specs.RefusalNumbers.{bundle_too_long}
-use Rattle.words.specs.Refusals.{◌if◌, ok, Verdict, ◌and_then◌, ◌at_place◌, first}
+use Rattle.words.specs.Refusals.{ok, ◌and_then◌, ◌at_place◌, first}
 use Rattle.words.specs.Lists.{sum, nth}
 use Rattle.words.specs.Walks.{entries, skip}
-use Rattle.words.specs.Bytes.{big, byte_at, part, splice, cuts}
+use Rattle.words.specs.Bytes.{big, part, splice, cuts}
 use Rattle.words.proofs.Refusals.{first_cong, and_ok}
 use Rattle.words.proofs.Entries.{entries_length}
 use Rattle.words.proofs.Lists.{map_cong, upto_from, nth_mem}
 use Rattle.words.proofs.Walks.{skip_grows, skip_stride, entries_end, entries_same}
 use Rattle.words.proofs.Splices.{part_ext, splice_length, splice_before, cuts_splice, cuts_lengths, take_sum}
-use Rattle.bundles.specs.Limits.{bundle_most, track_least, track_most, reference_most, sample_most, count_fault}
+use Rattle.bundles.specs.Limits.{track_least, track_most, reference_most, sample_most, count_fault}
 use Rattle.bundles.specs.Fields.{track_count_size, record_length_size, record_length_offset, track_head_size, reference_count_size, track_number_size, to_offset, reference_size, sample_count_size, time_size, sample_length_size, time_offset, length_offset, sample_entry_size, byte_count_size}
-use Rattle.bundles.specs.Recordings.{Layout, Recording, replaced, sample_count, content_of}
-use Rattle.bundles.specs.Tracks.{track_count, tracks_at, record_length, track_end, record_at, size_at, track_fault, track_places, tracks_verdict, track_on, tracks, record_part, references_at}
+use Rattle.bundles.specs.Recordings.{Recording, replaced, sample_count, content_of}
+use Rattle.bundles.specs.Tracks.{track_count, tracks_at, track_end, record_at, size_at, track_fault, track_places, tracks_verdict, track_on, tracks, record_part, references_at}
 use Rattle.bundles.specs.References.{reference_count, no_such_track, reference_fault, reference_places, references_verdict, reference_on, references, samples_at}
 use Rattle.bundles.specs.Samples.{entry_count, entries_at, entry_at, entry_fault, entry_numbers, samples_verdict, entry_on, sample_entries, length_at, lengths, byte_count_at}
 use Rattle.bundles.specs.Bundles.{byte_count_fault, bytes_verdict, bundle_verdict, layout_of, contents_at, recording_of, meaning, content_at}
-use Rattle.bundles.proofs.Sections.{track_end_grows, Accepted, accepted, track_count_lem, sample_count_lem, lengths_count}
+use Rattle.bundles.proofs.Sections.{track_end_grows, accepted, track_count_lem, sample_count_lem, lengths_count}
 
 module _ (b c : List ℕ) (same : length c ≡ length b) (agree : (q : ℕ) → q < contents_at b → get_or c q 0 ≡ get_or b q 0) where
   abbrev Below : ℕ → Type 0

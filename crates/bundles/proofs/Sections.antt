@@ -9,24 +9,23 @@
 --   EndGood, end_good                  section four without a refusal
 --   Tracks, References, Samples        the sections one to three; the place after each lies in the bundle
 --   Accepted, accepted                 a bundle without a refusal, section by section
-use Prim.Native.Nat.{ℕ, zero, suc, ◌+◌, ◌-◌, ◌*◌, ◌≤◌, ◌<◌}
-use mathlib.Core.Path.{◌≡◌, refl, ap, sym, ◌∙◌}
+use Prim.Native.Nat.{ℕ, ◌+◌, ◌-◌, ◌*◌, ◌≤◌, ◌<◌}
+use mathlib.Core.Path.{◌≡◌, refl, sym, ◌∙◌}
 use mathlib.Core.Bool.{Bool, true, false, ◌&&◌, not}
-use mathlib.Core.List.{List, map, Memᴰ}
+use mathlib.Core.List.{List, Memᴰ}
 use native.Mathlib.Omega.{arith}
 use borrow.Author.Tests.{ltb-false, leb-false, eqb-true, eqb-false, not-false, eq-eqb, ne_eqb}
 use lib.ListN.{length, length-map}
-use Rattle.words.specs.Tests.{◌<?◌, ◌≤?◌, ◌≡?◌, pick}
-use Rattle.words.specs.RefusalNumbers.{bundle_too_long, bundle_cut, count_out_of_limits, bad_reference, bad_track_or_time, bad_byte_count}
-use Rattle.words.specs.Refusals.{◌if◌, ◌or_else◌, ok, ◌at_place◌, first}
-use Rattle.words.specs.Lists.{sum, upto}
-use Rattle.words.specs.Walks.{entries, skip}
+use Rattle.words.specs.Tests.{◌<?◌, ◌≡?◌, pick}
+use Rattle.words.specs.RefusalNumbers.{count_out_of_limits, bad_reference, bad_track_or_time, bad_byte_count}
+use Rattle.words.specs.Refusals.{◌if◌, ok, ◌at_place◌}
+use Rattle.words.specs.Lists.{sum}
 use Rattle.words.specs.Bytes.{big}
 use Rattle.words.proofs.Tests.{true_false, by_number, count_within}
 use Rattle.words.proofs.Lists.{upto_mem}
 use Rattle.words.proofs.Rows.{upto_length}
 use Rattle.words.proofs.Refusals.{if_none, or_else_none, at_ok, and_ok, first_ok}
-use Rattle.words.proofs.Walks.{skip_grows, skip_stride}
+use Rattle.words.proofs.Walks.{skip_stride}
 use Rattle.bundles.specs.Limits.{bundle_most, track_least, track_most, reference_most, sample_most, cut, count_fault}
 use Rattle.bundles.specs.Fields.{track_count_size, track_head_size, reference_count_size, reference_size, sample_count_size, sample_entry_size, byte_count_size}
 use Rattle.bundles.specs.Recordings.{Entry}

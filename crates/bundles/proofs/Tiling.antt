@@ -6,13 +6,12 @@
 --   cuts_at         where each cut stands
 use Prim.Native.Nat.{ℕ, zero, suc, ◌+◌, ◌-◌, ◌≤◌, ◌<◌}
 use mathlib.Core.Path.{◌≡◌, refl, ap, ap₂, sym, ◌∙◌}
-use mathlib.Core.List.{List, [], ◌∷◌, ◌++◌, map}
+use mathlib.Core.List.{List, [], ◌∷◌, map}
 use native.Mathlib.Omega.{arith}
 use lib.ListN.{length, get_or, take, drop, length-drop}
-use lib.Seq.{drop-drop}
 use Rattle.words.specs.Lists.{each, sum}
 use Rattle.words.specs.Bytes.{part, cuts}
-use Rattle.words.proofs.Positions.{split_part, part_length, at_end}
+use Rattle.words.proofs.Positions.{split_part, part_length}
 
 pub cuts_count : (s ns : List ℕ) (a : ℕ) → length (cuts s ns a) ≡ length ns
 unfolding cuts

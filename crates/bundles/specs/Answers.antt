@@ -1,6 +1,5 @@
 -- What the code's answers say.
-use Rattle.std.specs.Prelude.{ℕ}
-use Rattle.words.specs.Refusals.{Answer, refused, ok, Verdict}
+use Rattle.words.specs.Refusals.{refused, ok, Verdict}
 use Rattle.bundles.specs.declared.Checked.{Checked}
 use Rattle.bundles.specs.declared.Checked.TheVariants.{Refused, Accepted}
 

@@ -9,7 +9,7 @@
 --   samples_in y k       the samples of track k, in number order
 --   content_of r n       the bytes of sample n
 --   replaced r n new     the recording with the bytes of sample n replaced
-use Rattle.std.specs.Prelude.{ℕ, zero, suc, List, [], ◌∷◌, length, set}
+use Rattle.std.specs.Prelude.{ℕ, zero, suc, List, [], length, set}
 use Rattle.words.specs.Tests.{◌≡?◌}
 use Rattle.words.specs.Lists.{keep, nth, upto}
 use Rattle.numbers.specs.declared.Kind.{Kind}

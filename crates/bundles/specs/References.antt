@@ -18,7 +18,7 @@ use Rattle.words.specs.Bytes.{big}
 use Rattle.numbers.specs.Sizes.{in_bytes}
 use Rattle.bundles.specs.Limits.{cut, count_fault, reference_most}
 use Rattle.bundles.specs.Fields.{reference_count_size, track_number_size, to_offset, reference_size}
-use Rattle.bundles.specs.Recordings.{Track, Reference, no_track}
+use Rattle.bundles.specs.Recordings.{Reference, no_track}
 use Rattle.bundles.specs.Tracks.{track_count, tracks, references_at}
 
 module _ (b : List ℕ) where

@@ -10,7 +10,7 @@
 --   samples_verdict b                   the section's first refusal
 --   sample_entries b, lengths b         what it means: the entries, and the samples' lengths
 --   byte_count_at b                     where section four starts
-use Rattle.std.specs.Prelude.{ℕ, ◌+◌, ◌-◌, ◌*◌, List, map, Bool, ◌&&◌}
+use Rattle.std.specs.Prelude.{ℕ, ◌+◌, ◌-◌, ◌*◌, List, map, ◌&&◌}
 use Rattle.words.specs.Tests.{◌<?◌, ◌≤?◌, ◌≡?◌, pick}
 use Rattle.words.specs.RefusalNumbers.{bad_track_or_time}
 use Rattle.words.specs.Refusals.{◌if◌, ◌or_else◌, Verdict, ◌and_then◌, ◌at_place◌, first}

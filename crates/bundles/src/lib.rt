@@ -1,5 +1,6 @@
 // The bundle: accepted, or refused. Section four is not read, but for its count.
 #![tactic(auto)]
+
 ghost use Rattle.std.specs.Prelude.{◌≡◌, ◌+◌, ◌≤◌, ◌<◌, length};
 ghost use Rattle.words.specs.Tests.{◌<?◌};
 ghost use Rattle.words.specs.Refusals.{ok, ◌and_then◌, ◌at_place◌};

@@ -22,7 +22,8 @@ use Rattle.byte_streams.specs.Grammar.{zeros, Streamable}
 use Rattle.byte_streams.specs.Writing.{ends_in_zero, is_streamable}
 use Rattle.byte_streams.specs.Reading.{is_bad_after, inside_verdict}
 use Rattle.byte_streams.specs.Faults.{NoStartCode}
-use Rattle.byte_streams.proofs.Units.{or_right, ends_tail, ends_from, streamable_from, streamable_to}
+use Rattle.byte_streams.proofs.Forbidden.{or_right}
+use Rattle.byte_streams.proofs.Units.{ends_tail, ends_from, streamable_from, streamable_to}
 
 -- `is_bad_after` as a fact
 abbrev pub BadAfter : ℕ → ℕ → Type 0

@@ -30,7 +30,8 @@ use Rattle.byte_streams.specs.Writing.{ends_in_zero, is_forbidden, holds_forbidd
 use Rattle.byte_streams.specs.Reading.{begins_code, Parts, split, strip, lead_verdict, inside_verdict}
 use Rattle.byte_streams.specs.Faults.{NoStartCode, UnitEnds}
 use Rattle.byte_streams.specs.Places.{clear_length, leading_zeros}
-use Rattle.byte_streams.proofs.Units.{three_from, ends_tail, ends_to, forbidden_from, forbidden_to, streamable_from}
+use Rattle.byte_streams.proofs.Forbidden.{three_from}
+use Rattle.byte_streams.proofs.Units.{ends_tail, ends_to, forbidden_from, forbidden_to, streamable_from}
 use Rattle.byte_streams.proofs.Splits.{CodeFree, split_code, none_in, code_free, split_byte, free_byte, strip_byte, unit_part_lem}
 use Rattle.byte_streams.proofs.Inside.{BadAfter, more_zeros, inside_good, inside_front, inside_run}
 

@@ -29,6 +29,7 @@ use Rattle.words.proofs.Refusals.{and_ok, at_ok, if_none, ok_refused, refused_sa
 use Rattle.byte_streams.specs.Grammar.{zeros, Streamable, StartCoded, ByteStream}
 use Rattle.byte_streams.specs.Writing.{start_code, is_streamable, stream_of, stream_verdict}
 use Rattle.byte_streams.proofs.Units.{ends_to, streamable_from, streamable_to}
+use Rattle.byte_streams.proofs.Coded.{with_unit}
 use Rattle.byte_streams.specs.Reading.{Parts, split, strip}
 use Rattle.byte_streams.specs.Faults.{NoStartCode}
 use Rattle.byte_streams.proofs.Splits.{split_append, split_code, none_in, code_free, strip_zeros}
@@ -37,9 +38,6 @@ abbrev pub AllStreamable : List (List ℕ) → Type 0
 AllStreamable us = (u : List ℕ) → u ∈ us → Streamable u
 
 -- written
-with_unit : {us : List (List ℕ)} {s : List ℕ} (u : List ℕ) → Streamable u → ByteStream us s → ByteStream (u ∷ us) (0 ∷ 0 ∷ 0 ∷ 1 ∷ (u ++ s))
-with_unit u h (ByteStream.stream n c) = ByteStream.stream 1 (StartCoded.unit u h n c)
-
 pub stream_written : (us : List (List ℕ)) → AllStreamable us → ByteStream us (stream_of us)
 unfolding stream_of each
 stream_written [] h = ByteStream.stream 0 StartCoded.none

@@ -1,9 +1,6 @@
 -- The test `is_streamable` and the facts `Streamable` say the same. Assumes nothing.
 --
 --   ends_tail, ends_from, ends_to    `ends_in_zero`: of what follows a byte; and as a fact, both ways
---   or_right                         a test or another that holds
---   three_from                       `is_forbidden` as facts
---   forbidden_tail                   what a list holds, it holds with a byte before it too
 --   forbidden_from, forbidden_to     `holds_forbidden` as a fact, both ways
 --   streamable_from, streamable_to   `is_streamable` and Streamable, both ways
 --   no_length                        a list of length 0 is empty
@@ -17,6 +14,7 @@ use lib.ListN.{length}
 use Rattle.words.specs.Tests.{◌≡?◌}
 use Rattle.words.proofs.Tests.{by_bool, true_false, not-true, and_both}
 use Rattle.byte_streams.specs.Grammar.{Streamable}
+use Rattle.byte_streams.proofs.Forbidden.{forbidden_found, three_from}
 use Rattle.byte_streams.specs.Writing.{ends_in_zero, is_forbidden, holds_forbidden, is_streamable}
 
 -- the end
@@ -41,28 +39,8 @@ ends_to (suc x ∷ []) h = refl
 ends_to (x ∷ y ∷ u) h = ends_to (y ∷ u) (λ a e. h (x ∷ a) (ap (λ l. x ∷ l) e))
 
 -- what it holds
-pub or_right : (a b : Bool) → b ≡ true → (a || b) ≡ true
-or_right true b e = refl
-or_right false b e = e
-
-pub forbidden_tail : (x : ℕ) (u : List ℕ) → holds_forbidden u ≡ true → holds_forbidden (x ∷ u) ≡ true
-unfolding holds_forbidden
-forbidden_tail x [] e = e
-forbidden_tail x (y ∷ []) e = e
-forbidden_tail x (y ∷ z ∷ u) e = or_right (is_forbidden x y z) (holds_forbidden (y ∷ z ∷ u)) e
-
-forbidden_found : (a b : List ℕ) (x : ℕ) → x ≤ 2 → holds_forbidden (a ++ (0 ∷ 0 ∷ x ∷ b)) ≡ true
-forbidden_found [] b x h = unfold holds_forbidden in rw (le-leb x 2 h)
-forbidden_found (y ∷ a) b x h = forbidden_tail y (a ++ (0 ∷ 0 ∷ x ∷ b)) (forbidden_found a b x h)
-
 pub forbidden_from : (u : List ℕ) → holds_forbidden u ≡ false → (a b : List ℕ) (x : ℕ) → u ≡ a ++ (0 ∷ 0 ∷ x ∷ b) → x ≤ 2 → ⊥
 forbidden_from u f a b x e h = true_false (holds_forbidden u) (ap holds_forbidden e ∙ forbidden_found a b x h) f
-
-pub three_from : (x y z : ℕ) → is_forbidden x y z ≡ true → (x ≡ 0) × (y ≡ 0) × (z ≤ 2)
-three_from x y z e =
-    let a = and_both _ _ e in
-    let b = and_both _ _ a.1 in
-    (eqb-true x 0 a.0, eqb-true y 0 b.0, leb-true z 2 b.1)
 
 pub forbidden_to : (u : List ℕ) → ((a b : List ℕ) (x : ℕ) → u ≡ a ++ (0 ∷ 0 ∷ x ∷ b) → x ≤ 2 → ⊥) → holds_forbidden u ≡ false
 unfolding holds_forbidden

@@ -1,5 +1,6 @@
 // What an extractor copies of the sample that it names.
 #![tactic(auto)]
+
 pub mod range;
 
 ghost use Rattle.std.specs.Prelude.{◌≡◌, ◌≤◌, length};

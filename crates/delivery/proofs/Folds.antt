@@ -8,7 +8,7 @@
 --   folded_split                                 in a good sample the units so far, the one at hand and those after it are what is delivered
 --   step_inside                                  a unit that a step gives lies in its sample
 --   content_most, recording_bound, bound_most    the bounds, in what a table says of a bundle
-use Prim.Native.Nat.{ℕ, suc, ◌+◌, ◌-◌, ◌*◌, ◌≤◌, ◌<◌}
+use Prim.Native.Nat.{ℕ, suc, ◌+◌, ◌*◌, ◌≤◌}
 use mathlib.Core.Path.{◌≡◌, refl, ap, sym, ◌∙◌}
 use mathlib.Core.List.Memᴰ
 use mathlib.Core.List.{List, [], ◌∷◌, ◌++◌, map, append_assoc, append-nil}

@@ -1,6 +1,7 @@
 // What a good sample delivers, unit by unit: a cursor, and the one step that all loops over delivered units take. Nothing is judged here.
 // Every function takes any bytes, any table, any numbers and any cursor.
 #![tactic(auto)]
+
 ghost use Rattle.std.specs.Prelude.{◌≡◌, length};
 ghost use Rattle.units.specs.Units.{sample};
 ghost use Rattle.units.specs.Steps.{extractor_at};

@@ -2,16 +2,15 @@
 --
 --   table_sections         the table of its recording, section by section
 --   short_here, done_here  a table without room, and one that was filled
-use Prim.Native.Nat.{ℕ, ◌+◌, ◌*◌, ◌≤◌, ◌<◌}
-use mathlib.Core.Path.{◌≡◌, refl, ap, sym, ◌∙◌}
+use Prim.Native.Nat.{ℕ, ◌*◌, ◌≤◌, ◌<◌}
+use mathlib.Core.Path.{◌≡◌, refl}
 use mathlib.Core.List.{List, [], ◌∷◌}
-use native.Mathlib.Omega.{arith}
 use borrow.Author.Tests.{le-ltb, lt-ltb}
 use lib.ListN.{length}
 use Rattle.words.specs.RefusalNumbers.{output_too_long}
 use Rattle.words.specs.Refusals.{ok}
 use Rattle.words.specs.Buffers.{write_at}
-use Rattle.bundles.specs.Recordings.{Layout, sample_count}
+use Rattle.bundles.specs.Recordings.{sample_count}
 use Rattle.bundles.specs.Tracks.{track_count}
 use Rattle.bundles.specs.References.{reference_count}
 use Rattle.bundles.specs.Samples.{entry_count}

@@ -15,27 +15,26 @@
 --   any_range                                 in any table, a track's range is the track's samples in the layout that the table says
 --   any_kept_count                            in any table, a count that is kept changes nothing that the table says or gives
 use Prim.Native.Nat.{ℕ, suc, ◌+◌, ◌-◌, ◌≤◌, ◌<◌}
-use mathlib.Core.Path.{◌≡◌, refl, ap, sym, ◌∙◌}
+use mathlib.Core.Path.{◌≡◌, refl, sym}
 use mathlib.Core.Bool.{false}
 use mathlib.Core.List.{List, []}
 use native.Mathlib.Omega.{arith}
 use native.Mathlib.Numerals.{add-one}
 use borrow.Author.Tests.{le-leb}
-use lib.ListN.{length, get_or, take}
+use lib.ListN.{length, get_or}
 use Rattle.words.specs.RefusalNumbers.{output_too_long, bundle_refusals}
 use Rattle.words.specs.Refusals.{refused, ok}
 use Rattle.words.specs.Tests.{◌≡?◌}
-use Rattle.words.specs.Lists.{◌∈◌, sum, some}
+use Rattle.words.specs.Lists.{◌∈◌, some}
 use Rattle.words.proofs.Tests.{true_false}
 use Rattle.words.proofs.Lists.{some_mem}
-use Rattle.words.proofs.Refusals.{and_ok}
 use Rattle.words.proofs.Positions.{part_length}
 use Rattle.words.proofs.Splices.{take_sum}
 use Rattle.numbers.specs.declared.Refusal.{Refusal}
 use Rattle.bundles.specs.Limits.{bundle_most}
-use Rattle.bundles.specs.Recordings.{Layout, Recording, sample_count, samples_in}
+use Rattle.bundles.specs.Recordings.{Recording, sample_count, samples_in}
 use Rattle.bundles.specs.Samples.{lengths}
-use Rattle.bundles.specs.Bundles.{bundle_verdict, recording_of, meaning, contents_at, content_at}
+use Rattle.bundles.specs.Bundles.{bundle_verdict, recording_of, meaning, content_at}
 use Rattle.bundles.specs.Readers.{first_layout}
 use Rattle.bundles.proofs.Promises.{means, refusals_within, limits_kept, samples_ordered, samples_tile, samples_all, sum_exact}
 use Rattle.bundles.proofs.Checking.{refused_there}

@@ -3,7 +3,7 @@
 --   table_recording, table_lays_out, table_ranges, table_starts, table_kept_counts  what the table says, for a recording that a table holds
 --   held_room, held_short, held_same                                                a recording for whose table there is room, or none; room for any
 --   untouched, refused_answer, done_answer                                          what the answer says
-use Prim.Native.Nat.{ℕ, zero, suc, ◌+◌, ◌-◌, ◌*◌, ◌≤◌, ◌<◌}
+use Prim.Native.Nat.{ℕ, ◌+◌, ◌-◌, ◌≤◌, ◌<◌}
 use mathlib.Core.Path.{◌≡◌, refl, ap, sym, ◌∙◌}
 use mathlib.Core.List.{List}
 use native.Mathlib.Omega.{arith}
@@ -15,9 +15,9 @@ use Rattle.words.specs.RefusalNumbers.{output_too_long}
 use Rattle.words.specs.Refusals.{Answer, refused, ok}
 use Rattle.words.proofs.Tests.{by_bool}
 use Rattle.numbers.specs.declared.Refusal.{Refusal}
-use Rattle.bundles.specs.Recordings.{Layout, Recording, sample_count, samples_in}
+use Rattle.bundles.specs.Recordings.{Recording, sample_count, samples_in}
 use Rattle.bundles.specs.Readers.{Reader}
-use Rattle.tables.specs.Tables.{columns, start_column, kept_count_column, cell, sample_total, sample_row, layout_in, recording_in, range_in, numbers_in, sample_cell, start_in, kept_count_in}
+use Rattle.tables.specs.Tables.{start_column, kept_count_column, cell, sample_total, sample_row, layout_in, recording_in, range_in, numbers_in, sample_cell, start_in, kept_count_in}
 use Rattle.tables.proofs.Ranges.{range_samples}
 use Rattle.filling.specs.declared.Filled.{Filled}
 use Rattle.filling.specs.declared.Filled.TheVariants.{Refused, Done}

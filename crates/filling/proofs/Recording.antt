@@ -6,20 +6,20 @@
 --   filled_layout                                             it says the recording's layout
 --   filled_contents                                           and with the bundle gives its samples' bytes
 --   filled_recording                                          and so the recording
-use Prim.Native.Nat.{ℕ, zero, suc, ◌+◌, ◌-◌, ◌*◌, ◌≤◌, ◌<◌}
-use mathlib.Core.Path.{◌≡◌, refl, ap, ap₂, sym, ◌∙◌}
-use mathlib.Core.List.{List, [], ◌∷◌, ◌++◌, map, Memᴰ}
+use Prim.Native.Nat.{ℕ, ◌+◌, ◌-◌, ◌*◌, ◌≤◌, ◌<◌}
+use mathlib.Core.Path.{◌≡◌, refl, ap, sym, ◌∙◌}
+use mathlib.Core.List.{List, [], map, Memᴰ}
 use native.Mathlib.Omega.{arith}
 use native.Mathlib.Numerals.{add-one}
 use lib.ListN.{length, get_or}
 use Rattle.words.specs.Tests.{◌<?◌}
-use Rattle.words.specs.Lists.{nth, upto, each, last_that}
+use Rattle.words.specs.Lists.{nth, upto, each}
 use Rattle.words.specs.Buffers.{write_at}
 use Rattle.words.proofs.Buffers.{write_length}
 use Rattle.words.proofs.Lists.{upto_from}
 use Rattle.words.proofs.Rows.{map_upto, last_that_cong, write_here, write_before, write_after, rows_length, rows_at, get_d_mem}
 use Rattle.bundles.specs.Limits.{track_most, reference_most, sample_most}
-use Rattle.bundles.specs.Recordings.{Layout, Recording, Track, Reference, Entry, no_track, no_reference, no_entry, sample_count}
+use Rattle.bundles.specs.Recordings.{Layout, Recording, no_track, no_reference, no_entry, sample_count}
 use Rattle.bundles.proofs.Promises.{LimitsKept, Ordered}
 use Rattle.tables.specs.Tables.{columns, counts_row, track_row, reference_row, sample_row, tracks_column, references_column, samples_column, kind_column, size_column, before_column, from_column, to_column, time_column, start_column, length_column, cell, track_total, reference_total, sample_total, track_in, reference_in, before_in, owner_in, sample_entry_in, layout_in, inside, content_in, recording_in}
 use Rattle.tables.proofs.Layouts.{total_fits}

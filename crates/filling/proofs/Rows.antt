@@ -6,40 +6,36 @@
 --   before_on, before_off, before_most, before_grow   how many samples stand before a track's, found by going on
 --   track_sound, reference_sound, entry_sound         an entry of an accepted bundle, by its number
 --   start_of, start_first, start_next, start_inside   where a sample's bytes start
-use Prim.Native.Nat.{ℕ, zero, suc, ◌+◌, ◌-◌, ◌*◌, ◌%◌, ◌≤◌, ◌<◌}
-use mathlib.Core.Path.{◌≡◌, refl, ap, sym, ◌∙◌}
-use mathlib.Core.List.{List, [], ◌∷◌, ◌++◌, map}
+use Prim.Native.Nat.{ℕ, suc, ◌+◌, ◌-◌, ◌*◌, ◌≤◌, ◌<◌}
+use mathlib.Core.Path.{◌≡◌, ap, ◌∙◌}
+use mathlib.Core.List.{List, [], ◌∷◌}
 use native.Mathlib.Omega.{arith}
 use native.Mathlib.Numerals.{add-one}
-use lib.ListN.{length, get_or, take, drop}
-use lib.Seq.{take-suc, get_or-take, get_or-drop}
+use lib.ListN.{length, get_or, take}
+use lib.Seq.{take-suc}
 use Rattle.words.specs.Lists.{nth, upto, each, sum}
-use Rattle.words.specs.Walks.{entries, skip}
-use Rattle.words.specs.Bytes.{byte_at, big}
+use Rattle.words.specs.Walks.{skip}
+use Rattle.words.specs.Bytes.{byte_at}
 use Rattle.words.specs.Buffers.{write_at}
 use Rattle.words.specs.Refusals.{ok}
-use Rattle.words.proofs.Positions.{part_length}
 use Rattle.words.proofs.Buffers.{write_none, write_write, write_length}
-use Rattle.words.proofs.Entries.{entries_length, entries_at_lem, entries_mem, map_at, sum_append, big_one}
+use Rattle.words.proofs.Entries.{entries_length, entries_at_lem, entries_mem, map_at, sum_append}
 use Rattle.words.proofs.Rows.{rows_length, rows_more, take_sum_le, nth_upto}
-use Rattle.numbers.specs.Sizes.{in_bytes}
-use Rattle.numbers.specs.declared.Kind.{Kind}
-use Rattle.numbers.specs.declared.MaybeKind.TheVariants.{Known, Unknown}
-use Rattle.numbers.specs.Kinds.{number_of_kind}
-use Rattle.bundles.specs.Fields.{track_head_size, to_offset, track_number_size, reference_count_size, reference_size, sample_entry_size, byte_count_size}
-use Rattle.bundles.specs.Recordings.{Entry, no_track, no_reference, no_entry, time_of, content_of}
-use Rattle.bundles.specs.Tracks.{track_count, tracks_at, track_end, track_fault, record_length, kind_at, record_at, record_fault_as, size_at, track_on, tracks, references_at}
+use Rattle.numbers.specs.declared.MaybeKind.TheVariants.{Unknown}
+use Rattle.bundles.specs.Fields.{reference_count_size, reference_size, sample_entry_size, byte_count_size}
+use Rattle.bundles.specs.Recordings.{no_reference, no_entry, time_of, content_of}
+use Rattle.bundles.specs.Tracks.{track_count, tracks_at, track_end, track_fault, kind_at, record_at, record_fault_as, size_at, references_at}
 use Rattle.bundles.specs.References.{from, to, reference_count, reference_places, reference_on, references}
 use Rattle.bundles.specs.Samples.{entry_count, entries_at, entry_at, track, time, length_at, entry_on, sample_entries, lengths, byte_count_at}
 use Rattle.bundles.specs.Bundles.{bundle_verdict, layout_of, recording_of, contents_at, content_at}
-use Rattle.bundles.proofs.Sections.{Samples, Accepted, accepted, track_count_lem, reference_count_lem, sample_count_lem, lengths_count, track_good, reference_good, entry_good}
+use Rattle.bundles.proofs.Sections.{Samples, Accepted, track_count_lem, reference_count_lem, sample_count_lem, lengths_count, track_good, reference_good, entry_good}
 use Rattle.bundles.proofs.Checking.{track_at_lem, good_size}
-use Rattle.bundles.proofs.Order.{InOrder, entries_rise}
+use Rattle.bundles.proofs.Order.{entries_rise}
 use Rattle.bundles.proofs.Replacing.{length_is}
 use Rattle.tables.specs.Tables.{columns}
 use Rattle.tables.proofs.Numbers.{number_back}
 use Rattle.filling.specs.Filling.{write_rows, count_cells, samples_before, track_cells, reference_cells, sample_cells}
-use Rattle.filling.proofs.Sorted.{below, below_most, below_more, above_here, below_here}
+use Rattle.filling.proofs.Sorted.{below_most, below_more, above_here, below_here}
 
 module _ (cells : ℕ → List ℕ) (wide : (k : ℕ) → length (cells k) ≡ columns) (t : List ℕ) (row : ℕ) where
   pub rows_none : t ≡ write_rows t row cells 0

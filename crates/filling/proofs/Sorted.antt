@@ -5,14 +5,13 @@
 --   above_here, below_here     where the entry at i is below k, and where it is not
 --   owner_here                 the track of a sample is the last one that has fewer samples before it
 use Prim.Native.Nat.{ℕ, zero, suc, ◌+◌, ◌≤◌, ◌<◌}
-use mathlib.Core.Path.{◌≡◌, refl, ap, sym, ◌∙◌}
-use mathlib.Core.Bool.{Bool, true, false}
-use mathlib.Core.List.{List, [], ◌∷◌, Memᴰ}
+use mathlib.Core.Path.{◌≡◌, ap, ◌∙◌}
+use mathlib.Core.List.{List, [], ◌∷◌}
 use native.Mathlib.Omega.{arith}
-use borrow.Author.Tests.{lt-ltb, le-ltb, le-leb, lt-leb, ltb-true, ltb-false, leb-true, leb-false}
+use borrow.Author.Tests.{lt-ltb, le-ltb, ltb-true, ltb-false, leb-true, leb-false}
 use lib.Dec.{ltb, leb}
 use lib.ListN.{length, get_or}
-use Rattle.words.specs.Tests.{◌<?◌, ◌≤?◌, pick}
+use Rattle.words.specs.Tests.{◌<?◌, ◌≤?◌}
 use Rattle.words.specs.Lists.{keep, upto, last_that}
 use Rattle.words.proofs.Tests.{by_bool}
 use Rattle.words.proofs.Lists.{keep_nothing, Rising}

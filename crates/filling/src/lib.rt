@@ -1,5 +1,6 @@
 // The table of a bundle, filled row by row into lent numbers.
 #![tactic(auto)]
+
 ghost use Rattle.std.specs.Prelude.{◌≡◌, [], ◌∷◌, ◌+◌, ◌*◌, ◌≤◌, ◌<◌, length};
 ghost use Rattle.words.specs.Refusals.{ok};
 ghost use Rattle.words.specs.Buffers.{write_at};

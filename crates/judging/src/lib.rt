@@ -1,6 +1,7 @@
 // What is judged of a sample by a bundle and any table beside it: 30, 14 to 28, or how much it delivers. Here are its number, 30, the two
 // numbers of a range, and its form, up to 22; the crate verdicts has the rest.
 #![tactic(auto)]
+
 pub mod form;
 
 ghost use Rattle.std.specs.Prelude.{◌≡◌};

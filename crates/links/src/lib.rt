@@ -1,5 +1,6 @@
 // Which sample an extractor names, by a table alone. Every public function takes any table and any numbers.
 #![tactic(auto)]
+
 ghost use Rattle.std.specs.Prelude.{◌≡◌, ◌-◌, ◌≤◌, length};
 ghost use Rattle.bundles.specs.Limits.{sample_most};
 ghost use Rattle.bundles.specs.Recordings.{samples_in};

@@ -1,6 +1,7 @@
 // Marks of a sample: the state of the walk over its units at the end of each block of its bytes, kept in rows of numbers; and what an
 // extractor copies, counted from them without going over the sample. Every public function takes any bytes, any rows and any numbers.
 #![tactic(auto)]
+
 ghost use Rattle.std.specs.Prelude.{◌≡◌, ◌*◌, ◌-◌, ◌≤◌, ◌<◌, length, get_or};
 ghost use Rattle.words.specs.Bytes.{big};
 ghost use Rattle.words.specs.Buffers.{put};

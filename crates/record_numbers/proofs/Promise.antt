@@ -21,7 +21,7 @@ use Rattle.numbers.specs.Kinds.{kind_of}
 use Rattle.numbers.specs.declared.Kind.{Kind}
 use Rattle.numbers.specs.declared.Kind.TheVariants.{Avc, Svc}
 use Rattle.numbers.specs.declared.MaybeKind.TheVariants.{Known}
-use Rattle.record_rules.specs.Layout.{record_layout, bit, flag_of}
+use Rattle.record_rules.specs.Layout.{bit, flag_of}
 use Rattle.record_rules.specs.Trailers.{extension_types}
 use Rattle.sets.specs.Sets.{sets_end}
 use Rattle.sets.proofs.Laws.{sets_none}

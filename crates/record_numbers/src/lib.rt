@@ -1,5 +1,6 @@
 // Decoder configuration records as 18 numbers.
 #![tactic(auto)]
+
 mod reading;
 mod writing;
 

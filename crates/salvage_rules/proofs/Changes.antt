@@ -6,21 +6,21 @@
 --   listed_drop, listed_zeroing   a drop of a unit is listed exactly if it is dropped; a zeroing of one that is kept exactly if it loses its cover
 --   listed_tail                   a drop at the first top-level fault is listed exactly if there is one
 --   changes_rise, changes_inside  places rise, and lie in the old sample
-use Prim.Native.Nat.{ℕ, zero, suc, ◌+◌, ◌-◌, ◌≤◌, ◌<◌}
+use Prim.Native.Nat.{ℕ, zero, suc, ◌-◌, ◌≤◌, ◌<◌}
 use mathlib.Core.Path.{◌≡◌, refl, ap, ap₂, sym, ◌∙◌, subst}
 use mathlib.Core.List.Memᴰ
 use mathlib.Core.List.{List, [], ◌∷◌, ◌++◌, Memᴰ}
 use mathlib.Core.Logic.{⊎_elim}
 use mathlib.Core.Bool.{Bool, true, false, not, ◌&&◌, ◌||◌, false-or}
 use native.Mathlib.Omega.{arith}
-use borrow.Author.Tests.{leb-true, leb-false, eqb-true, eq-eqb, ne_eqb, ltb-true, ltb-false, lt-ltb, le-ltb}
-use lib.Dec.{leb, ltb}
+use borrow.Author.Tests.{leb-true, leb-false, eqb-true, eq-eqb, ne_eqb, ltb-true}
+use lib.Dec.{leb}
 use lib.ListN.{length, drop}
 use lib.Seq.{drop-length}
-use Rattle.words.specs.Tests.{pick, ◌≡?◌, ◌<?◌}
-use Rattle.words.specs.Lists.{keep, some, each}
-use Rattle.words.proofs.Tests.{by_bool, true_false, and_both, bool_same}
-use Rattle.words.proofs.Lists.{some_append, some_mem, some_none, some_from, each_mem, each_from, each_cong, Rising, rising_append, rising_each}
+use Rattle.words.specs.Tests.{◌≡?◌, ◌<?◌}
+use Rattle.words.specs.Lists.{some, each}
+use Rattle.words.proofs.Tests.{by_bool, and_both, bool_same}
+use Rattle.words.proofs.Lists.{some_append, some_mem, some_none, some_from, each_mem, each_from, Rising, rising_append, rising_each}
 use Rattle.units.specs.Units.{Sample, end, next, places, top_units}
 use Rattle.units.specs.Rules.{Whole, TopUnitsWhole}
 use Rattle.units.proofs.Units.{next_after, whole_end}

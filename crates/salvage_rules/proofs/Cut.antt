@@ -9,7 +9,7 @@
 --   cut_next, cut_type, cut_additional, cut_unit, cut_inside  each of them, its bytes, its inside fault: as in the sample
 --   cut_rest                                                  its bytes, and after them those from the fault on, are those of the sample
 use Prim.Native.Nat.{ℕ, zero, suc, ◌+◌, ◌-◌, ◌≤◌, ◌<◌}
-use mathlib.Core.Path.{◌≡◌, refl, ap, ap₂, sym, ◌∙◌, subst}
+use mathlib.Core.Path.{◌≡◌, refl, ap, sym, ◌∙◌, subst}
 use mathlib.Core.List.Memᴰ
 use mathlib.Core.List.{List, [], ◌∷◌, ◌++◌, Memᴰ}
 use mathlib.Core.Logic.{⊎_elim}
@@ -20,7 +20,7 @@ use lib.Dec.{leb}
 use lib.ListN.{length, take, drop, take-append-drop, length-drop}
 use lib.Seq.{take-length, length-take-le, drop-append-le, take-append-le}
 use Rattle.words.specs.Tests.{◌<?◌, ◌≡?◌}
-use Rattle.words.specs.Refusals.{ok, refused, first, ◌at_place◌, ◌or_else◌}
+use Rattle.words.specs.Refusals.{ok, refused, ◌at_place◌}
 use Rattle.words.specs.Lists.{keep}
 use Rattle.words.specs.Bytes.{part}
 use Rattle.words.proofs.Tests.{by_bool}

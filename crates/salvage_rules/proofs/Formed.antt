@@ -4,23 +4,23 @@
 --   kept_reaches     what an aggregator covers, where no unit of it is dropped
 --   kept_formed      the units that are kept are pieces of which a well-formed sample is made
 --   new_formed       the new sample is well formed
-use Prim.Native.Nat.{ℕ, zero, suc, ◌+◌, ◌-◌, ◌≤◌, ◌<◌}
-use mathlib.Core.Path.{◌≡◌, refl, ap, ap₂, sym, ◌∙◌, subst}
-use mathlib.Core.List.{List, [], ◌∷◌, ◌++◌, Memᴰ}
-use mathlib.Core.Logic.{inl, inr}
+use Prim.Native.Nat.{ℕ, zero, suc, ◌-◌, ◌≤◌, ◌<◌}
+use mathlib.Core.Path.{◌≡◌}
+use mathlib.Core.List.{Memᴰ}
+use mathlib.Core.Logic.{inr}
 use mathlib.Core.Bool.{Bool, true, false, not}
 use native.Mathlib.Omega.{arith}
 use borrow.Author.Tests.{leb-true, leb-false, le-leb, lt-ltb, ltb-true, ltb-false}
 use lib.Dec.{leb, ltb}
 use lib.ListN.{length}
 use Rattle.words.specs.Refusals.{ok}
-use Rattle.words.specs.Lists.{keep, each}
+use Rattle.words.specs.Lists.{keep}
 use Rattle.words.proofs.Tests.{by_bool, true_false}
 use Rattle.words.proofs.Lists.{keep_mem}
 use Rattle.words.proofs.Kept.{keep_yes, keep_no, some_false}
-use Rattle.units.specs.Units.{Sample, L, end, size, next, is_aggregator, places, top_units, border, top_between}
+use Rattle.units.specs.Units.{Sample, end, next, is_aggregator, places, top_units, border, top_between}
 use Rattle.units.specs.Aggregators.{additional_bytes, cover_end}
-use Rattle.units.specs.Rules.{Whole, TopUnitsWhole, Clear}
+use Rattle.units.specs.Rules.{TopUnitsWhole, Clear}
 use Rattle.units.proofs.Units.{next_after, whole_end, whole_aggregator}
 use Rattle.units.proofs.Walks.{places_end, places_step, Reached, reached_start, reached_next, reached_mem, border_past, border_inside}
 use Rattle.units.proofs.Covers.{cover_border, cover_clear}

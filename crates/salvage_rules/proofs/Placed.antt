@@ -7,23 +7,21 @@
 --   whole_up, whole_down                                 a whole unit, both ways
 --   included_up, included_down                           an included unit without a fault, both ways
 use Prim.Native.Nat.{ℕ, zero, suc, ◌+◌, ◌-◌, ◌≤◌, ◌<◌}
-use mathlib.Core.Path.{◌≡◌, refl, ap, sym, ◌∙◌, subst}
-use mathlib.Core.List.{List, [], ◌∷◌, ◌++◌, map}
-use mathlib.Core.Bool.{true, false}
+use mathlib.Core.Path.{◌≡◌, ap, sym, ◌∙◌, subst}
+use mathlib.Core.List.{List, ◌∷◌, ◌++◌, map}
 use native.Mathlib.Omega.{arith}
 use native.Mathlib.Nat.{add-zero}
 use borrow.Author.Tests.{leb-true, leb-false}
 use lib.Dec.{leb}
-use lib.ListN.{length, get_or, take, drop}
+use lib.ListN.{length, drop}
 use Rattle.words.specs.Bytes.{byte_at, big}
 use Rattle.words.proofs.Tests.{by_bool}
 use Rattle.words.proofs.Positions.{at_inside}
 use Rattle.words.proofs.Bytes.{big_inside}
-use Rattle.numbers.specs.Kinds.{is_avc}
-use Rattle.numbers.specs.Sizes.{header_size, extractor_size}
+use Rattle.numbers.specs.Sizes.{header_size}
 use Rattle.numbers.proofs.Laws.{L_some}
-use Rattle.units.specs.Units.{Sample, L, end, size, first_byte, type, next, is_aggregator, is_extractor, least_size, places}
-use Rattle.units.specs.Aggregators.{additional_bytes, is_slice}
+use Rattle.units.specs.Units.{Sample, L, size, first_byte, type, next, places}
+use Rattle.units.specs.Aggregators.{additional_bytes}
 use Rattle.units.specs.Rules.{Whole, Included}
 use Rattle.units.proofs.Walks.{places_end, places_step}
 use Rattle.salvage_rules.specs.Salvage.{holding}

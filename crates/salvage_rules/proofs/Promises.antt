@@ -9,38 +9,36 @@
 --   new_left                            the new sample is what is left of each unit
 --   zeroed_same, zeroed_size            a zeroing leaves all other bytes of a unit, and its size, as they were
 --   list_rises, list_inside             the places in the list rise, and lie in the old sample
-use Prim.Native.Nat.{ℕ, zero, suc, ◌+◌, ◌-◌, ◌≤◌, ◌<◌}
-use mathlib.Core.Path.{◌≡◌, refl, ap, ap₂, sym, ◌∙◌, subst}
+use Prim.Native.Nat.{ℕ, ◌+◌, ◌≤◌, ◌<◌}
+use mathlib.Core.Path.{◌≡◌, refl, ap, sym, ◌∙◌, subst}
 use mathlib.Core.List.{List, [], ◌∷◌, ◌++◌, Memᴰ}
 use mathlib.Core.Logic.{◌⊎◌, ⊎_elim}
-use mathlib.Core.Bool.{Bool, true, false, not, ◌&&◌}
+use mathlib.Core.Bool.{false}
 use native.Mathlib.Omega.{arith}
 use borrow.Author.Tests.{ltb-false, lt-ltb, le-ltb, eqb-true}
 use lib.ListN.{length, drop}
-use Rattle.words.specs.Tests.{pick, ◌<?◌, ◌≡?◌}
-use Rattle.words.specs.Refusals.{ok, ◌at_place◌, first}
-use Rattle.words.specs.Lists.{keep, some, each, has, ◌∈◌}
+use Rattle.words.specs.Tests.{◌<?◌}
+use Rattle.words.specs.Refusals.{ok, ◌at_place◌}
+use Rattle.words.specs.Lists.{keep, each, ◌∈◌}
 use Rattle.words.specs.Bytes.{byte_at, bytes, splice}
-use Rattle.words.proofs.Tests.{by_bool, true_false, and_both}
+use Rattle.words.proofs.Tests.{by_bool}
 use Rattle.words.proofs.Refusals.{by_verdict, at_none, at_ok, first_all, first_ok}
-use Rattle.words.proofs.Lists.{each_cong, keep_from, keep_mem, some_none, some_mem, Rising}
-use Rattle.words.proofs.Kept.{keep_all, each_keep}
+use Rattle.words.proofs.Lists.{each_cong, keep_from, some_none, Rising}
 use Rattle.words.proofs.Bytes.{bytes_length}
 use Rattle.words.proofs.Splices.{splice_before, splice_after}
 use Rattle.numbers.specs.Sizes.{header_size}
 use Rattle.units.specs.Units.{Sample, L, end, type, next, aggregator_type, extractor_type, is_aggregator, top_units, top_between}
-use Rattle.units.specs.Aggregators.{included, included_fault, cover_end, cover_fault}
+use Rattle.units.specs.Aggregators.{included, included_fault, cover_end}
 use Rattle.units.specs.Rules.{Tiles}
 use Rattle.units.proofs.Units.{included_rules, included_none, extractor_none, extractor_size_lem, whole_aggregator}
 use Rattle.units.proofs.Covers.{cover_good, cover_border, cover_clear}
 use Rattle.samples.specs.Check.{check, inside_verdict, top_verdict}
-use Rattle.samples.specs.Rules.{Rules}
 use Rattle.samples.proofs.Laws.{rules, rules_check, check_top, top_tile}
 use Rattle.samples.proofs.Walks.{top_whole, whole_top}
 use Rattle.salvage_rules.specs.declared.Fate.{Fate}
 use Rattle.salvage_rules.specs.declared.Fate.TheVariants.{Kept, Dropped, Zeroed}
 use Rattle.salvage_rules.specs.Salvage.{holding, Change, first_fault, cut, whole_units, is_dropped, loses_cover, fate, unit_bytes, zeroed_bytes, left_by, new_bytes, new_content, change_at, salvaged, tail_drop, changes, listed_end, applied_at, applied}
-use Rattle.salvage_rules.proofs.Units.{inside_ok, inside_aggregator, inside_other, dropped_not, cover_kept, cover_other, cover_stays, fate_dropped, fate_zeroed, fate_kept, by_fate, zeroed_from, new_by, zeroed_length, unit_length}
+use Rattle.salvage_rules.proofs.Units.{inside_ok, inside_aggregator, inside_other, dropped_not, cover_kept, cover_other, cover_stays, fate_kept, by_fate, zeroed_from, new_by, zeroed_length, unit_length}
 use Rattle.salvage_rules.proofs.Formed.{new_formed}
 use Rattle.salvage_rules.proofs.Cut.{fault_most, fault_some, fault_none, cut_end, cut_wholes, cut_all, cut_units, cut_next, cut_unit, cut_rest}
 use Rattle.salvage_rules.proofs.Changes.{each_nothing, nothing_both, nothing_each, units_join, change_none, none_change, listed_drop, listed_zeroing, listed_tail, changes_rise, changes_inside}

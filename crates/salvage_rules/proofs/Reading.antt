@@ -3,18 +3,18 @@
 --   change_length, list_length     5 bytes a change
 --   list_read                      a list whose places fit 4 bytes is read back
 --   changes_read                   so is the list of a sample of at most 2 ^ 32 bytes
-use Prim.Native.Nat.{ℕ, zero, suc, ◌+◌, ◌*◌, ◌/◌, ◌≤◌, ◌<◌}
-use mathlib.Core.Path.{◌≡◌, refl, ap, ap₂, sym, ◌∙◌, subst}
+use Prim.Native.Nat.{ℕ, ◌+◌, ◌*◌, ◌/◌, ◌≤◌, ◌<◌}
+use mathlib.Core.Path.{◌≡◌, refl, ap, ap₂, ◌∙◌, subst}
 use mathlib.Core.List.{List, [], ◌∷◌, ◌++◌, append_assoc, append-nil, Memᴰ}
 use native.Mathlib.Omega.{arith}
-use lib.ListN.{length, drop, length-append}
+use lib.ListN.{length, length-append}
 use lib.Seq.{drop_at}
 use Rattle.words.specs.Lists.{each, ◌∈◌}
 use Rattle.words.specs.Bytes.{big, bytes}
 use Rattle.words.proofs.Bytes.{big_inside, bytes_length, big_bytes}
 use Rattle.numbers.specs.Places.{place_size}
 use Rattle.units.specs.Units.{Sample, end}
-use Rattle.salvage_rules.specs.Salvage.{Change, change, a_drop, a_zeroing, changes, change_size, change_bytes, change_list_bytes, first_changes, changes_in}
+use Rattle.salvage_rules.specs.Salvage.{Change, changes, change_size, change_bytes, change_list_bytes, first_changes, changes_in}
 use Rattle.salvage_rules.specs.Calls.{listable_most}
 use Rattle.salvage_rules.proofs.Changes.{changes_inside}
 use Rattle.salvage_rules.proofs.Reasons.{Listed, listed_from}

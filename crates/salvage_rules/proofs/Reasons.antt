@@ -4,18 +4,18 @@
 --   in_units_lem, in_tail  and back: a change of a unit, and that of the tail
 --   Uncovered, uncovered   an aggregator that loses its additional_bytes has a 21, or covers a unit that is dropped
 --   zeroed_some            and they were not 0 before
-use Prim.Native.Nat.{ℕ, zero, suc, ◌+◌, ◌-◌, ◌≤◌, ◌<◌}
+use Prim.Native.Nat.{ℕ, ◌≤◌, ◌<◌}
 use mathlib.Core.Path.{◌≡◌, refl, ap, sym, ◌∙◌, subst}
 use mathlib.Core.List.Memᴰ
-use mathlib.Core.List.{List, [], ◌∷◌, Memᴰ}
+use mathlib.Core.List.{Memᴰ}
 use mathlib.Core.Logic.{◌⊎◌, inl, inr, ⊎_elim}
-use mathlib.Core.Bool.{Bool, true, false, not, ◌&&◌, ◌||◌}
+use mathlib.Core.Bool.{true, ◌&&◌}
 use native.Mathlib.Omega.{arith}
-use borrow.Author.Tests.{leb-true, ltb-true, ltb-false, lt-ltb, eqb-true, eqb-false, eq-eqb}
-use Rattle.words.specs.Tests.{pick, ◌<?◌, ◌≤?◌, ◌≡?◌}
+use borrow.Author.Tests.{leb-true, ltb-true, ltb-false, lt-ltb, eq-eqb}
+use Rattle.words.specs.Tests.{◌<?◌, ◌≤?◌}
 use Rattle.words.specs.RefusalNumbers.{bad_additional_bytes}
 use Rattle.words.specs.Refusals.{refused}
-use Rattle.words.specs.Lists.{keep, some, each, ◌∈◌}
+use Rattle.words.specs.Lists.{some, each, ◌∈◌}
 use Rattle.words.proofs.Tests.{by_bool, true_false, and_both}
 use Rattle.words.proofs.Refusals.{by_verdict}
 use Rattle.words.proofs.Lists.{each_mem, each_from, keep_from, some_from, some_none}

@@ -3,9 +3,9 @@
 --   new_most         the new sample is no longer than the old one
 --   changes_most     the list has at most 4 bytes more than the old sample
 --   unit_changes     the same of the units of a sample whose top-level units are whole
-use Prim.Native.Nat.{ℕ, zero, suc, ◌+◌, ◌*◌, ◌≤◌, ◌<◌}
-use mathlib.Core.Path.{◌≡◌, refl, ap, sym, ◌∙◌}
-use mathlib.Core.List.{List, [], ◌∷◌, ◌++◌, Memᴰ}
+use Prim.Native.Nat.{ℕ, ◌+◌, ◌*◌, ◌≤◌, ◌<◌}
+use mathlib.Core.Path.{◌≡◌, refl, ap}
+use mathlib.Core.List.{List, [], ◌∷◌, Memᴰ}
 use mathlib.Core.Bool.{true, false}
 use mathlib.Core.Logic.{◌⊎◌, inl, inr, ⊎_elim}
 use native.Mathlib.Omega.{arith}
@@ -17,7 +17,7 @@ use Rattle.words.specs.Lists.{each, ◌∈◌}
 use Rattle.words.specs.Refusals.{ok}
 use Rattle.words.proofs.Tests.{by_bool, true_false}
 use Rattle.numbers.proofs.Laws.{L_some}
-use Rattle.units.specs.Units.{Sample, L, end, size, type, extractor_type, is_aggregator, is_extractor, top_units}
+use Rattle.units.specs.Units.{Sample, end, size, type, extractor_type, is_aggregator, is_extractor, top_units}
 use Rattle.units.specs.Rules.{TopUnitsWhole}
 use Rattle.units.proofs.Units.{whole_aggregator}
 use Rattle.samples.specs.Check.{inside_verdict}

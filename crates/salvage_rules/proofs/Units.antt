@@ -11,20 +11,20 @@
 --   zeroed_piece                                   so they are with additional_bytes 0
 --   zeroed_length, zeroed_none                     which are then as long as before, and cover nothing
 --   new_plain, new_zeroed                          the bytes of a unit as it is kept
-use Prim.Native.Nat.{ℕ, zero, suc, ◌+◌, ◌-◌, ◌^◌, ◌≤◌, ◌<◌}
+use Prim.Native.Nat.{ℕ, ◌+◌, ◌-◌, ◌^◌, ◌≤◌}
 use mathlib.Core.Path.{◌≡◌, refl, ap, ap₂, sym, ◌∙◌, subst}
 use mathlib.Core.List.{List, [], ◌∷◌, ◌++◌, map, append-nil, Memᴰ}
-use mathlib.Core.Bool.{Bool, true, false, not, ◌||◌}
+use mathlib.Core.Bool.{true, false, not, ◌||◌}
 use native.Mathlib.Omega.{arith}
-use native.Mathlib.Nat.{add-zero, zero-add, pow-zero, pow-le-pow_right}
+use native.Mathlib.Nat.{add-zero, pow-zero, pow-le-pow_right}
 use borrow.Author.Tests.{eqb-true, eq-eqb}
 use lib.Dec.{lit<}
-use lib.ListN.{length, take, drop, take-append-drop, length-drop, length-append}
+use lib.ListN.{length, take, drop, take-append-drop, length-drop}
 use lib.Seq.{drop-drop, drop-append-le, drop_at, length-take-le}
 use Rattle.words.specs.Tests.{◌≡?◌, pick}
-use Rattle.words.specs.Refusals.{ok, refused, ◌at_place◌, first}
+use Rattle.words.specs.Refusals.{ok, ◌at_place◌, first}
 use Rattle.words.specs.Lists.{keep, some, each}
-use Rattle.words.specs.Bytes.{big, bytes, part, splice}
+use Rattle.words.specs.Bytes.{big, bytes, splice}
 use Rattle.words.proofs.Tests.{by_bool, true_false}
 use Rattle.words.proofs.Refusals.{by_verdict, at_ok, first_ok}
 use Rattle.words.proofs.Lists.{each_cong}
@@ -33,11 +33,10 @@ use Rattle.words.proofs.Positions.{split_part, part_length}
 use Rattle.words.proofs.Bytes.{big_inside, bytes_length, big_bytes}
 use Rattle.words.proofs.Splices.{splice_length}
 use Rattle.numbers.specs.Sizes.{header_size, extractor_size}
-use Rattle.numbers.proofs.Laws.{L_some}
 use Rattle.units.specs.Units.{Sample, L, end, size, first_byte, type, next, aggregator_type, extractor_type, is_aggregator, is_extractor, places, top_units, top_between}
 use Rattle.units.specs.Extractors.{extractor_fault}
 use Rattle.units.specs.Aggregators.{included_start, included, included_fault, additional_bytes, cover_end, cover_fault}
-use Rattle.units.specs.Rules.{Whole, TopUnitsWhole, Included}
+use Rattle.units.specs.Rules.{Whole, Included}
 use Rattle.units.proofs.Units.{next_after, whole_end, whole_aggregator, included_rules, extractor_size_lem}
 use Rattle.samples.specs.Check.{inside_verdict}
 use Rattle.salvage_rules.specs.declared.Fate.{Fate}

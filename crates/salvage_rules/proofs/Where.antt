@@ -2,21 +2,19 @@
 --
 --   listed_places    a listed place is that of a top-level unit before the first top-level fault, or that fault
 --   listed_where     a unit before it is listed exactly if what is left of it is not what it was
-use Prim.Native.Nat.{ℕ, ◌+◌, ◌≤◌, ◌<◌}
+use Prim.Native.Nat.{ℕ, ◌<◌}
 use mathlib.Core.Path.{◌≡◌, refl, ap, sym, ◌∙◌, subst}
 use mathlib.Core.List.Memᴰ
-use mathlib.Core.List.{List, [], ◌∷◌}
+use mathlib.Core.List.{List, []}
 use mathlib.Core.Logic.{◌⊎◌, inl, inr, ◌↔◌}
 use native.Mathlib.Omega.{arith}
 use lib.ListN.{length}
 use Rattle.words.specs.Lists.{◌∈◌}
-use Rattle.numbers.specs.Sizes.{header_size}
-use Rattle.units.specs.Units.{Sample, L, end, top_units}
+use Rattle.units.specs.Units.{Sample, end}
 use Rattle.units.specs.Aggregators.{additional_bytes}
 use Rattle.units.proofs.Units.{whole_aggregator}
 use Rattle.units.proofs.Walks.{in_top}
-use Rattle.samples.specs.Check.{top_verdict}
-use Rattle.salvage_rules.specs.declared.Fate.TheVariants.{Kept, Dropped, Zeroed}
+use Rattle.salvage_rules.specs.declared.Fate.TheVariants.{Dropped, Zeroed}
 use Rattle.salvage_rules.specs.Salvage.{holding, Change, change, a_drop, a_zeroing, first_fault, cut, whole_units, fate, unit_bytes, zeroed_bytes, left_by, changes}
 use Rattle.salvage_rules.proofs.Placed.{additional_here}
 use Rattle.salvage_rules.proofs.Units.{by_fate, zeroed_from, change_by, inside_ok, unit_there, unit_length, zeroed_none}

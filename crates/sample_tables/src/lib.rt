@@ -1,5 +1,6 @@
 // The samples that a table says: track, time, bytes, and the samples of a track. Every function takes any bundle and any table.
 #![tactic(auto)]
+
 ghost use Rattle.std.specs.Prelude.{◌≡◌, ◌+◌, ◌≤◌, ◌<◌, ◌&&◌};
 ghost use Rattle.words.specs.Tests.{◌<?◌, pick};
 ghost use Rattle.bundles.specs.Limits.{sample_most};

@@ -1,5 +1,6 @@
 // The form of a sample: any bytes offered as a sample get one answer.
 #![tactic(auto)]
+
 ghost use Rattle.std.specs.Prelude.{◌≡◌, true};
 ghost use Rattle.words.specs.Refusals.{ok};
 ghost use Rattle.words.specs.Lists.{has};

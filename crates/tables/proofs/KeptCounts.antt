@@ -5,19 +5,17 @@
 --   kept_count_layout, kept_count_recording  the table says and gives the same
 --   kept_count_set, kept_count_other         the count that was kept, and every other
 use Prim.Native.Nat.{ℕ, zero, suc, ◌+◌, ◌*◌, ◌≤◌, ◌<◌}
-use mathlib.Core.Path.{◌≡◌, refl, ap, ap₂, sym, ◌∙◌}
-use mathlib.Core.Bool.{Bool, true, false}
-use mathlib.Core.List.{List, [], ◌∷◌, map, Memᴰ}
+use mathlib.Core.Path.{◌≡◌, refl, ap}
+use mathlib.Core.List.{List, [], ◌∷◌}
 use native.Mathlib.Omega.{arith}
-use borrow.Author.Tests.{eqb-false, ltb-true, ltb-false, ne_eqb, le-ltb}
+use borrow.Author.Tests.{ne_eqb, le-ltb}
 use lib.Dec.{eqb, ltb}
-use lib.ListN.{length, get_or, set}
+use lib.ListN.{length, set}
 use lib.Seq.{get_or-set_same, get_or-set_other}
-use Rattle.words.specs.Tests.{◌<?◌, ◌≡?◌, pick}
-use Rattle.words.specs.Lists.{upto, last_that}
+use Rattle.words.specs.Tests.{◌<?◌}
+use Rattle.words.specs.Lists.{upto}
 use Rattle.words.proofs.Tests.{by_bool}
-use Rattle.words.proofs.Lists.{map_cong, upto_from}
-use Rattle.bundles.specs.Recordings.{Layout, Recording}
+use Rattle.words.proofs.Lists.{map_cong}
 use Rattle.tables.specs.Tables.{columns, counts_row, track_row, reference_row, sample_row, tracks_column, references_column, samples_column, kind_column, size_column, before_column, from_column, to_column, time_column, start_column, length_column, kept_count_column, cell, track_total, reference_total, sample_total, track_in, reference_in, before_in, owner_in, sample_entry_in, layout_in, content_in, recording_in, sample_cell, kept_count_in, with_kept_count}
 use Rattle.words.proofs.Rows.{last_that_cong}
 

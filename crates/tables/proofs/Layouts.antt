@@ -6,18 +6,17 @@
 --   entry_here, entry_none, entry_past               sample n, but its bytes
 --   content_here, content_none, content_past         its bytes
 --   total_fits, total_most                           a count within its limit, and one beyond it
-use Prim.Native.Nat.{ℕ, zero, suc, ◌+◌, ◌≤◌, ◌<◌}
-use mathlib.Core.Path.{◌≡◌, refl, ap, sym, ◌∙◌}
-use mathlib.Core.List.{List, [], ◌∷◌, map}
+use Prim.Native.Nat.{ℕ, ◌≤◌, ◌<◌}
+use mathlib.Core.Path.{◌≡◌, ◌∙◌}
+use mathlib.Core.List.{List, []}
 use native.Mathlib.Omega.{arith}
 use borrow.Author.Tests.{le-leb, lt-leb, leb-true}
 use lib.Dec.{leb}
 use lib.ListN.{length, length-map}
-use Rattle.words.specs.Tests.{pick}
 use Rattle.words.specs.Lists.{nth, upto}
 use Rattle.words.proofs.Tests.{by_bool}
 use Rattle.bundles.specs.Limits.{sample_most}
-use Rattle.bundles.specs.Recordings.{Layout, Recording, no_track, no_entry, sample_count, content_of}
+use Rattle.bundles.specs.Recordings.{no_track, no_entry, sample_count, content_of}
 use Rattle.tables.specs.Tables.{at_most, counts_row, samples_column, cell, track_total, reference_total, sample_total, track_in, reference_in, sample_entry_in, content_in, layout_in, recording_in}
 use Rattle.words.proofs.Rows.{upto_length, nth_upto, nth_past, nth_none}
 

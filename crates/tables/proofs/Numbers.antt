@@ -11,7 +11,6 @@ use Rattle.numbers.specs.Kinds.{number_of_kind, kind_of}
 use Rattle.numbers.specs.Sizes.{in_bytes, length_size_of}
 use Rattle.numbers.specs.declared.Kind.{Kind}
 use Rattle.numbers.specs.declared.Kind.TheVariants.{Avc, Svc}
-use Rattle.numbers.specs.declared.MaybeKind.{MaybeKind}
 use Rattle.numbers.specs.declared.MaybeKind.TheVariants.{Known, Unknown}
 use Rattle.numbers.specs.declared.LengthSize.{LengthSize}
 use Rattle.numbers.specs.declared.LengthSize.TheVariants.{One, Two, Four}

@@ -6,19 +6,18 @@
 --   keep_range                   the numbers from one to another
 --   range_samples                the samples of a track, in the layout that a table says, are its range
 use Prim.Native.Nat.{ℕ, zero, suc, ◌+◌, ◌-◌, ◌≤◌, ◌<◌}
-use mathlib.Core.Path.{◌≡◌, refl, ap, ap₂, sym, ◌∙◌}
-use mathlib.Core.Bool.{Bool, true, false, ◌&&◌}
-use mathlib.Core.List.{List, [], ◌∷◌, ◌++◌, map, append-nil, Memᴰ}
+use mathlib.Core.Path.{◌≡◌, refl, ap, sym, ◌∙◌}
+use mathlib.Core.Bool.{Bool, ◌&&◌}
+use mathlib.Core.List.{List, [], ◌∷◌, map, append-nil, Memᴰ}
 use native.Mathlib.Omega.{arith}
 use native.Mathlib.Numerals.{add-one}
-use borrow.Author.Tests.{lt-ltb, le-ltb, le-leb, lt-leb, ltb-true, ltb-false, leb-true, leb-false, eq-eqb, ne_eqb, eqb-true}
-use lib.Dec.{ltb, leb, eqb}
-use lib.ListN.{length}
+use borrow.Author.Tests.{lt-ltb, le-ltb, le-leb, ltb-true, ltb-false, leb-true, leb-false, eq-eqb, ne_eqb, eqb-true}
+use lib.Dec.{ltb, leb}
 use Rattle.words.specs.Tests.{◌<?◌, ◌≤?◌, ◌≡?◌, pick}
 use Rattle.words.specs.Lists.{keep, upto, last_that}
-use Rattle.words.proofs.Tests.{by_bool, true_false, and_both, and_holds, bool_same}
+use Rattle.words.proofs.Tests.{by_bool, and_both, and_holds, bool_same}
 use Rattle.words.proofs.Lists.{keep_append, keep_nothing, last_that_snoc, upto_from}
-use Rattle.bundles.specs.Recordings.{samples_in, sample_count, track_of}
+use Rattle.bundles.specs.Recordings.{samples_in, track_of}
 use Rattle.words.proofs.Entries.{map_append}
 use Rattle.tables.specs.Tables.{sample_total, track_total, before_in, after_in, owner_in, range_in, numbers_in, layout_in}
 use Rattle.words.proofs.Rows.{upto_length}

@@ -3,21 +3,20 @@
 --   comes_from                                   whether a reference comes from a track
 --   counted_none, counted_more, counted_all_lem  how many of the first i references come from a track
 --   found_here, found_none                       the reference of a number
-use Prim.Native.Nat.{ℕ, zero, suc, ◌+◌, ◌≤◌, ◌<◌}
-use mathlib.Core.Path.{◌≡◌, refl, ap, sym, ◌∙◌}
-use mathlib.Core.Bool.{Bool, true, false}
-use mathlib.Core.List.{List, [], ◌∷◌, ◌++◌, map}
+use Prim.Native.Nat.{ℕ, ◌+◌, ◌<◌}
+use mathlib.Core.Path.{◌≡◌, refl, sym, ◌∙◌}
+use mathlib.Core.Bool.{Bool, true}
+use mathlib.Core.List.{List, [], ◌∷◌, map}
 use native.Mathlib.Omega.{arith}
-use borrow.Author.Tests.{eq-eqb, eqb-true, eqb-false}
 use lib.Dec.{eqb}
 use lib.ListN.{length}
 use Rattle.words.specs.Tests.{◌≡?◌, pick}
 use Rattle.words.specs.Lists.{keep, nth, upto}
 use Rattle.words.proofs.Tests.{by_bool}
-use Rattle.bundles.specs.Recordings.{Reference, Layout, no_reference, references_from}
+use Rattle.bundles.specs.Recordings.{Reference, no_reference, references_from}
 use Rattle.words.proofs.Entries.{map_append}
-use Rattle.tables.specs.Tables.{cell, reference_row, from_column, to_column, reference_total, reference_in, layout_in}
-use Rattle.words.proofs.Rows.{upto_more, Split, upto_split, keep_at, keep_more, nth_beyond}
+use Rattle.tables.specs.Tables.{cell, reference_row, from_column, reference_total, reference_in, layout_in}
+use Rattle.words.proofs.Rows.{upto_more, upto_split, keep_at, keep_more, nth_beyond}
 
 abbrev pub comes_from : ℕ → Reference → Bool
 comes_from k f = f.from ≡? k

@@ -14,7 +14,7 @@
 --   start_in t n                                            where the bytes of sample n start
 --   kept_count_in t n                                       the count kept for sample n
 --   with_kept_count t n v                                   the table with that count set
-use Rattle.std.specs.Prelude.{ℕ, zero, suc, ◌+◌, ◌-◌, ◌*◌, List, [], ◌∷◌, map, Bool, ◌&&◌, length, get_or, set}
+use Rattle.std.specs.Prelude.{ℕ, zero, suc, ◌+◌, ◌-◌, ◌*◌, List, [], map, ◌&&◌, length, get_or, set}
 use Rattle.words.specs.Tests.{◌<?◌, ◌≤?◌, ◌≡?◌, pick}
 use Rattle.words.specs.Lists.{upto, last_that}
 use Rattle.words.specs.Bytes.{part}

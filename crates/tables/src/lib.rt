@@ -1,5 +1,6 @@
 // A table of numbers beside a bundle: its numbers, and the tracks and references that it says. Every function takes any table; the crate filling fills one.
 #![tactic(auto)]
+
 ghost use Rattle.std.specs.Prelude.{◌≡◌, ◌+◌, ◌≤◌, ◌<◌, length};
 ghost use Rattle.words.specs.Tests.{◌≡?◌, pick};
 ghost use Rattle.words.specs.Lists.{nth};

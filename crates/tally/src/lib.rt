@@ -1,5 +1,6 @@
 // One running tally of passed, empty and refused samples.
 #![tactic(auto)]
+
 ghost use Rattle.std.specs.Prelude.{◌≡◌, []};
 ghost use Rattle.tally.specs.Tallies.{tallied, one_more, raised_by};
 

@@ -1,5 +1,6 @@
 // What stands at a place of a sample, and the fields of an extractor, for walks: total, nothing where there is a fault.
 #![tactic(auto)]
+
 ghost use Rattle.std.specs.Prelude.{◌≡◌};
 ghost use Rattle.units.specs.Units.{sample};
 ghost use Rattle.units.specs.Steps.{extractor_at};

@@ -1,5 +1,6 @@
 // The units of a sample: what stands at a place, and what is wrong with it.
 #![tactic(auto)]
+
 ghost use Rattle.std.specs.Prelude.{◌≡◌, [], ◌&&◌, not};
 ghost use Rattle.words.specs.Tests.{◌≡?◌};
 ghost use Rattle.words.specs.Refusals.{◌if◌};

@@ -9,7 +9,7 @@
 --   range_recording, range_kept                   the table then says the same, and keeps the judgement of each sample
 use Prim.Native.Nat.{ℕ, ◌+◌, ◌-◌, ◌*◌, ◌≤◌, ◌<◌}
 use mathlib.Core.Path.{◌≡◌, refl, ap, sym, ◌∙◌}
-use mathlib.Core.List.{List, [], ◌∷◌, ◌++◌}
+use mathlib.Core.List.{List}
 use mathlib.Core.Logic.{◌⊎◌, inl, inr}
 use native.Mathlib.Omega.{arith}
 use borrow.Author.Tests.{lt-ltb, le-ltb, ltb-true, ltb-false}
@@ -19,12 +19,12 @@ use Rattle.words.specs.Refusals.{◌if◌, Answer, Verdict, refused, ok, ◌and_
 use Rattle.words.specs.RefusalNumbers.{bundle_too_long}
 use Rattle.words.proofs.Tests.{by_bool, by_number}
 use Rattle.words.proofs.Refusals.{at_refused, ok_same, ok_refused, refused_same}
-use Rattle.bundles.specs.Limits.{bundle_most, sample_most}
+use Rattle.bundles.specs.Limits.{bundle_most}
 use Rattle.bundles.specs.Recordings.{Recording, sample_count}
 use Rattle.tables.specs.Tables.{layout_in, recording_in, table_most, kept_count_in, with_kept_count}
 use Rattle.tables.proofs.Layouts.{samples_most}
-use Rattle.resolution_rules.specs.Resolving.{delivered, judged}
-use Rattle.resolution_rules.specs.Calls.{output, resolve}
+use Rattle.resolution_rules.specs.Resolving.{judged}
+use Rattle.resolution_rules.specs.Calls.{resolve}
 use Rattle.resolution_rules.specs.Ranges.{between, range_fault, given, joined}
 use Rattle.resolution_rules.proofs.Amounts.{delivered_size, output_bytes}
 use Rattle.resolution_rules.proofs.Good.{good_rules}

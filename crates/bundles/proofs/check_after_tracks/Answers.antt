@@ -1,5 +1,4 @@
 -- Section two's refusal, or its end handed on. Assumes nothing.
-use borrow.Author.Rules.{rules}
 use mathlib.Core.Path.{◌≡◌}
 use Rattle.words.specs.Refusals.{ok}
 use Rattle.bundles.specs.References.{references_verdict, samples_at}

@@ -1,5 +1,4 @@
 -- Section one's refusal, or its end and its length sizes handed on. Assumes nothing.
-use borrow.Author.Rules.{rules}
 use native.Mathlib.Omega.{arith}
 use mathlib.Core.Path.{◌≡◌}
 use lib.ListN.{length}

@@ -1,5 +1,4 @@
 -- The refusal of the fourth count, at it. Assumes nothing.
-use borrow.Author.Rules.{rules}
 use mathlib.Core.Path.{sym, ◌∙◌}
 use Rattle.words.proofs.Refusals.{at_refused, at_none}
 use Rattle.bundles.proofs.check_bytes.Goals as goal

@@ -1,5 +1,4 @@
 -- Section three's refusal, or its sum handed on to section four, which starts after the entries. Assumes nothing.
-use borrow.Author.Rules.{rules}
 use native.Mathlib.Omega.{arith}
 use mathlib.Core.Path.{◌≡◌}
 use Prim.Native.Nat.{◌+◌, ◌≤◌}

@@ -1,13 +1,12 @@
 -- The loop's invariant: the walk over the references has passed i of them and come to the place p. Assumes nothing.
-use borrow.Author.Rules.{rules}
 use native.Mathlib.Omega.{arith}
 use mathlib.Core.Path.{◌≡◌, refl, sym, ◌∙◌}
-use Prim.Native.Nat.{◌+◌, ◌-◌, ◌*◌}
+use Prim.Native.Nat.{◌+◌, ◌*◌}
 use Rattle.words.proofs.Walks.{skip_stride}
 use Rattle.bundles.specs.Limits.{reference_most}
 use Rattle.bundles.specs.Fields.{reference_count_size, reference_size}
-use Rattle.bundles.specs.References.{reference_fault, references_verdict, samples_at}
-use Rattle.words.proofs.Entries.{Walked, walked_start, walked_next, walked_refused, walked_end}
+use Rattle.bundles.specs.References.{references_verdict, samples_at}
+use Rattle.words.proofs.Entries.{walked_start, walked_next, walked_refused, walked_end}
 use Rattle.bundles.proofs.Sections.{count_good, reference_good}
 use Rattle.bundles.proofs.Checking.{at_count, at_entry, at_end}
 use Rattle.bundles.proofs.check_references.Goals as goal

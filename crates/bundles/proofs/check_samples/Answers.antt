@@ -1,18 +1,15 @@
 -- The loop's invariant: the first i entries have no refusal, p is where the next stands, and total is the sum of their lengths.
 -- Assumes nothing.
-use borrow.Author.Rules.{rules}
 use native.Mathlib.Omega.{arith}
-use mathlib.Core.Path.{◌≡◌, refl, sym, ap, ◌∙◌}
-use Prim.Native.Nat.{ℕ, ◌+◌, ◌-◌, ◌*◌, ◌≤◌}
+use mathlib.Core.Path.{◌≡◌, sym, ◌∙◌}
+use Prim.Native.Nat.{◌+◌, ◌≤◌}
 use lib.ListN.{length}
-use mathlib.Core.List.{map}
-use Rattle.words.specs.Lists.{sum, upto}
 use Rattle.bundles.specs.Limits.{sample_most}
 use Rattle.bundles.specs.Fields.{sample_count_size, sample_entry_size}
-use Rattle.bundles.specs.Samples.{entry_at, lengths, entry_fault, samples_verdict}
-use Rattle.bundles.proofs.Passing.{Passed, passed_start, passed_next, passed_refused, passed_end}
+use Rattle.bundles.specs.Samples.{lengths, samples_verdict}
+use Rattle.bundles.proofs.Passing.{passed_start, passed_next, passed_refused, passed_end}
 use Rattle.bundles.proofs.Sections.{count_good, entry_good}
-use Rattle.bundles.proofs.Checking.{at_count, at_entry, at_end, length_of, total_start, total_next}
+use Rattle.bundles.proofs.Checking.{at_count, at_entry, at_end, total_start, total_next}
 use Rattle.bundles.proofs.check_samples.Goals as goal
 use Rattle.bundles.proofs.check_samples.Goals.{After-number-n, Else-fault-ne0, Else-fault-ne0-2}
 
@@ -56,11 +53,11 @@ overflow_add-p-in-loop-i c = let h = inside (goal.at.overflow_add-p-in-loop-i c)
 
 pub loop-i-preserved : goal.loop-i-preserved
 loop-i-preserved c = let v = c.loop-i.invariant in (
-      passed_next v.0 c.loop-i-test.true (sym c.entry_fault-fault.ensures ∙ c.if-fault-ne0-2.false),
-      omega (arith, v.1),
-      total_next c.args.b.now c.loop-i.i c.loop-i.p _ _ v.2 v.1 c.sample_length-total.ensures.0,
-      omega (arith, c.sample_length-total.ensures.1),
-    )
+  passed_next v.0 c.loop-i-test.true (sym c.entry_fault-fault.ensures ∙ c.if-fault-ne0-2.false),
+  omega (arith, v.1),
+  total_next c.args.b.now c.loop-i.i c.loop-i.p _ _ v.2 v.1 c.sample_length-total.ensures.0,
+  omega (arith, c.sample_length-total.ensures.1),
+)
 
 pub returns : goal.returns
 unfolding samples_verdict lengths

@@ -1,17 +1,12 @@
 -- The loop's invariant: the first i entries have no refusal, p is where the next stands, and total is the sum of their lengths.
 -- Assumes nothing.
-use native.Mathlib.Omega.{arith}
-use mathlib.Core.Path.{◌≡◌, refl, sym, ap, ◌∙◌}
-use Prim.Native.Nat.{ℕ, ◌+◌, ◌-◌, ◌*◌, ◌≤◌}
-use lib.ListN.{length}
+use mathlib.Core.Path.{◌≡◌}
+use Prim.Native.Nat.{◌+◌, ◌-◌, ◌*◌, ◌≤◌}
 use mathlib.Core.List.{map}
 use Rattle.words.specs.Lists.{sum, upto}
-use Rattle.bundles.specs.Limits.{sample_most}
-use Rattle.bundles.specs.Fields.{sample_count_size, sample_entry_size}
-use Rattle.bundles.specs.Samples.{entry_at, lengths, entry_fault, samples_verdict}
-use Rattle.bundles.proofs.Passing.{Passed, passed_start, passed_next, passed_refused, passed_end}
-use Rattle.bundles.proofs.Sections.{count_good, entry_good}
-use Rattle.bundles.proofs.Checking.{at_count, at_entry, at_end, length_of, total_start, total_next}
+use Rattle.bundles.specs.Samples.{entry_at, entry_fault}
+use Rattle.bundles.proofs.Passing.{Passed}
+use Rattle.bundles.proofs.Checking.{length_of}
 use Rattle.bundles.proofs.check_samples.Given as goal
 
 abbrev pub invariant-loop-i : goal.invariant-loop-i

@@ -1,5 +1,4 @@
 -- The tests of a count, in the definition's order. Assumes nothing.
-use borrow.Author.Rules.{rules}
 use mathlib.Core.Path.{◌≡◌, ◌∙◌}
 use borrow.Author.Tests.{le-leb}
 use Rattle.words.proofs.Tests.{tests}

@@ -1,5 +1,4 @@
 -- Fewer than n bytes from a place on, which may lie past the end. Assumes nothing.
-use borrow.Author.Rules.{rules}
 use native.Mathlib.Omega.{arith}
 use Prim.Native.Nat.{◌+◌, ◌-◌}
 use lib.ListN.{length}

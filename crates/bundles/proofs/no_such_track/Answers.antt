@@ -1,5 +1,4 @@
 -- Tracks are numbered from 1 to their count. Assumes nothing.
-use borrow.Author.Rules.{rules}
 use Rattle.words.proofs.Tests.{tests}
 use borrow.Author.Tests.{ne_eqb}
 use Rattle.bundles.specs.References.{no_such_track}

@@ -1,5 +1,4 @@
 -- The tests of an entry after another, in the definition's order. Assumes nothing.
-use borrow.Author.Rules.{rules}
 use Rattle.words.proofs.Tests.{tests}
 use Rattle.bundles.specs.Samples.{order_fault}
 use Rattle.bundles.proofs.order_fault.Goals as goal

@@ -1,5 +1,4 @@
 -- The record's answer tells the refusal, or the length size, which fits a byte. Assumes nothing.
-use borrow.Author.Rules.{rules}
 use native.Mathlib.Omega.{arith}
 use mathlib.Core.Path.{refl, sym}
 use Rattle.record_rules.proofs.Parsed.{length_size_most}

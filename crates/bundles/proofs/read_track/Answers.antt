@@ -1,5 +1,4 @@
 -- The tests of a track entry, in the definition's order; its record is a part of the bundle. Assumes nothing.
-use borrow.Author.Rules.{rules}
 use native.Mathlib.Omega.{arith}
 use mathlib.Core.Path.{sym, ◌∙◌, ◌≡◌}
 use Prim.Native.Nat.{◌+◌, ◌≤◌}

@@ -1,5 +1,4 @@
 -- The tests of a reference, in the definition's order; where both tracks exist, their length sizes stand in sizes. Assumes nothing.
-use borrow.Author.Rules.{rules}
 use native.Mathlib.Omega.{arith}
 use mathlib.Core.Path.{◌≡◌, sym, ap, ◌∙◌}
 use Prim.Native.Nat.{◌+◌}

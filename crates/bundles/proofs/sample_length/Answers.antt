@@ -1,5 +1,4 @@
 -- Four bytes hold a number below 2 to the 32. Assumes nothing.
-use borrow.Author.Rules.{rules}
 use Prim.Native.Nat.{◌+◌}
 use Rattle.bundles.specs.Fields.{length_offset, sample_length_size}
 use Rattle.words.proofs.Bytes.{big_below}

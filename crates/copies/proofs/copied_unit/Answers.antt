@@ -1,5 +1,4 @@
 -- A unit that is found lies in the sample, so its part does. Assumes nothing.
-use borrow.Author.Rules.{rules}
 use native.Mathlib.Omega.{arith}
 use native.Mathlib.Nat.{add-sub_cancel_left}
 use mathlib.Core.Path.{◌≡◌, sym, ◌∙◌}

@@ -1,5 +1,4 @@
 -- The extractor's fields name the copy. Assumes nothing.
-use borrow.Author.Rules.{rules}
 use Rattle.copies.specs.Extracted.{extracted}
 use Rattle.copies.proofs.extracted.Goals as goal
 

@@ -1,5 +1,4 @@
 -- The copy starts at data_offset and ends in the sample named. Assumes nothing.
-use borrow.Author.Rules.{rules}
 use Rattle.tables.specs.Tables.{recording_in}
 use Rattle.delivery.proofs.Steps.{sample_from}
 use Rattle.delivery.proofs.copy_of.Goals as goal

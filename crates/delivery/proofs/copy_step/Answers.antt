@@ -1,5 +1,4 @@
 -- By what stands there. Assumes nothing.
-use borrow.Author.Rules.{rules}
 use Rattle.delivery.specs.Steps.{copy_step}
 use Rattle.delivery.proofs.copy_step.Goals as goal
 

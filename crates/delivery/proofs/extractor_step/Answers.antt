@@ -1,5 +1,4 @@
 -- An extractor's fields, and the sample that they name. Assumes nothing.
-use borrow.Author.Rules.{rules}
 use Rattle.tables.specs.Tables.{recording_in}
 use Rattle.delivery.proofs.extractor_step.Goals as goal
 

@@ -1,5 +1,4 @@
 -- A number below a place can be raised. Assumes nothing.
-use borrow.Author.Rules.{rules}
 use borrow.Author.Tests.{lt-ltb, le-ltb}
 use Rattle.delivery.specs.Steps.{number_after}
 use Rattle.delivery.proofs.number_after.Goals as goal

@@ -1,5 +1,4 @@
 -- By what stands there. Assumes nothing.
-use borrow.Author.Rules.{rules}
 use Rattle.delivery.specs.Steps.{own_step}
 use Rattle.delivery.proofs.own_step.Goals as goal
 

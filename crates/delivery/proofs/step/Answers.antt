@@ -1,6 +1,4 @@
 -- The copy comes first, while it is not at its end. Assumes nothing.
-use borrow.Author.Rules.{rules}
-use mathlib.Core.Path.{◌≡◌, sym, ap, ◌∙◌}
 use borrow.Author.Tests.{lt-ltb, le-ltb}
 use Rattle.delivery.specs.Steps.{step_of}
 use Rattle.delivery.proofs.step.Goals as goal

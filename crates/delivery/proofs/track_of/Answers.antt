@@ -1,5 +1,4 @@
 -- The track's kind and length size, by its number. Assumes nothing.
-use borrow.Author.Rules.{rules}
 use Rattle.delivery.proofs.track_of.Goals as goal
 
 pub returns : goal.returns

@@ -1,10 +1,8 @@
 -- The places and counts of the sections, then the rows, one section after the other. Assumes nothing.
-use borrow.Author.Rules.{rules}
 use native.Mathlib.Omega.{arith}
-use mathlib.Core.Path.{◌≡◌, refl, ap, ◌∙◌}
+use mathlib.Core.Path.{◌≡◌, ap, ◌∙◌}
 use Prim.Native.Nat.{ℕ, ◌+◌, ◌*◌, ◌≤◌}
 use lib.ListN.{length}
-use borrow.Author.Tests.{le-leb, lt-leb}
 use Rattle.words.specs.Bytes.{big}
 use Rattle.bundles.specs.References.{reference_count, samples_at}
 use Rattle.bundles.specs.Samples.{entry_count}

@@ -1,10 +1,9 @@
 -- The loop's invariant: the rows of the first i references are written, and p is the place of the next. Assumes nothing.
-use borrow.Author.Rules.{rules}
 use mathlib.Core.Path.{◌≡◌, refl, sym, ap, ◌∙◌}
-use Prim.Native.Nat.{◌+◌, ◌-◌, ◌≤◌, ℕ, ◌<◌}
+use Prim.Native.Nat.{◌+◌, ◌≤◌, ℕ, ◌<◌}
 use lib.ListN.{length}
 use Rattle.words.specs.Walks.{skip}
-use Rattle.filling.specs.Filling.{write_rows, reference_cells}
+use Rattle.filling.specs.Filling.{reference_cells}
 use Rattle.bundles.specs.Limits.{reference_most}
 use Rattle.bundles.specs.Fields.{reference_count_size, reference_size}
 use Rattle.bundles.specs.Bundles.{layout_of}

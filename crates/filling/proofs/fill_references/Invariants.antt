@@ -1,19 +1,12 @@
 -- The loop's invariant: the rows of the first i references are written, and p is the place of the next. Assumes nothing.
-use mathlib.Core.Path.{◌≡◌, refl, sym, ap, ◌∙◌}
-use Prim.Native.Nat.{◌+◌, ◌-◌, ◌≤◌, ℕ, ◌<◌}
+use mathlib.Core.Path.{◌≡◌}
+use Prim.Native.Nat.{◌+◌, ◌-◌, ◌≤◌}
 use lib.ListN.{length}
 use Rattle.words.specs.Walks.{skip}
 use Rattle.filling.specs.Filling.{write_rows, reference_cells}
-use Rattle.bundles.specs.Limits.{reference_most}
-use Rattle.bundles.specs.Fields.{reference_count_size, reference_size}
+use Rattle.bundles.specs.Fields.{reference_size}
 use Rattle.bundles.specs.Bundles.{layout_of}
 use Rattle.tables.specs.Tables.{reference_row}
-use Rattle.bundles.specs.References.{reference_count}
-use Rattle.bundles.specs.Tracks.{references_at}
-use Rattle.words.proofs.Entries.{skip_snoc}
-use Rattle.bundles.proofs.Sections.{Accepted, accepted}
-use Rattle.filling.proofs.Rows.{rows_none, rows_put, reference_row_lem, reference_sound}
-use native.Mathlib.Omega.{arith}
 use Rattle.filling.proofs.fill_references.Given as goal
 
 abbrev pub invariant-loop-i : goal.invariant-loop-i

@@ -1,9 +1,8 @@
 -- The loop's invariant: the rows of the first i samples are written, p is the place of the next entry, and place that of the next sample's bytes.
 -- Assumes nothing.
-use borrow.Author.Rules.{rules}
 use native.Mathlib.Omega.{arith}
-use mathlib.Core.Path.{◌≡◌, refl, sym, ap, ◌∙◌}
-use Prim.Native.Nat.{ℕ, ◌+◌, ◌-◌, ◌*◌, ◌≤◌, ◌<◌}
+use mathlib.Core.Path.{◌≡◌, refl, sym, ◌∙◌}
+use Prim.Native.Nat.{◌+◌, ◌*◌, ◌≤◌, ◌<◌}
 use lib.ListN.{length}
 use Rattle.bundles.specs.Limits.{sample_most}
 use Rattle.bundles.specs.Fields.{sample_entry_size, byte_count_size}
@@ -11,7 +10,7 @@ use Rattle.bundles.specs.Bundles.{recording_of, content_at}
 use Rattle.tables.specs.Tables.{sample_row}
 use Rattle.bundles.specs.Samples.{entry_count, entry_at}
 use Rattle.bundles.proofs.Sections.{Accepted, accepted}
-use Rattle.filling.specs.Filling.{write_rows, sample_cells}
+use Rattle.filling.specs.Filling.{sample_cells}
 use Rattle.filling.proofs.Rows.{rows_none, rows_put, sample_row_lem, entry_sound, entries_inside, start_of, start_first, start_next, start_inside}
 use Rattle.filling.proofs.fill_samples.Goals as goal
 use Rattle.filling.proofs.fill_samples.Goals.{After-number-size, After-slice_known-1, In-loop-i}

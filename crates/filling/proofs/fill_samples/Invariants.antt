@@ -1,17 +1,13 @@
 -- The loop's invariant: the rows of the first i samples are written, p is the place of the next entry, and place that of the next sample's bytes.
 -- Assumes nothing.
-use native.Mathlib.Omega.{arith}
-use mathlib.Core.Path.{◌≡◌, refl, sym, ap, ◌∙◌}
-use Prim.Native.Nat.{ℕ, ◌+◌, ◌-◌, ◌*◌, ◌≤◌, ◌<◌}
+use mathlib.Core.Path.{◌≡◌}
+use Prim.Native.Nat.{◌+◌, ◌-◌, ◌*◌, ◌≤◌}
 use lib.ListN.{length}
-use Rattle.bundles.specs.Limits.{sample_most}
-use Rattle.bundles.specs.Fields.{sample_entry_size, byte_count_size}
+use Rattle.bundles.specs.Fields.{sample_entry_size}
 use Rattle.bundles.specs.Bundles.{recording_of, content_at}
 use Rattle.tables.specs.Tables.{sample_row}
-use Rattle.bundles.specs.Samples.{entry_count, entry_at}
-use Rattle.bundles.proofs.Sections.{Accepted, accepted}
 use Rattle.filling.specs.Filling.{write_rows, sample_cells}
-use Rattle.filling.proofs.Rows.{rows_none, rows_put, sample_row_lem, entry_sound, entries_inside, start_of, start_first, start_next, start_inside}
+use Rattle.filling.proofs.Rows.{start_of}
 use Rattle.filling.proofs.fill_samples.Given as goal
 
 abbrev pub invariant-loop-i : goal.invariant-loop-i

@@ -1,5 +1,4 @@
 -- The bundle's refusal, or the table of an accepted one. Assumes nothing.
-use borrow.Author.Rules.{rules}
 use mathlib.Core.Path.{refl, sym}
 use Rattle.bundles.specs.Bundles.{meaning}
 use Rattle.filling.specs.Filling.{filling, table_after}

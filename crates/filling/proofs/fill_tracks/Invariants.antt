@@ -1,18 +1,13 @@
 -- The loop's invariant: the rows of the first k tracks are written, p is the place of the next, and before is at most how many samples
 -- stand before its own. Assumes nothing.
-use native.Mathlib.Omega.{arith}
-use mathlib.Core.Path.{◌≡◌, refl, sym, ap, ◌∙◌}
-use Prim.Native.Nat.{◌+◌, ◌-◌, ◌≤◌, ◌<◌}
+use mathlib.Core.Path.{◌≡◌}
+use Prim.Native.Nat.{◌+◌, ◌-◌, ◌≤◌}
 use lib.ListN.{length}
 use Rattle.words.specs.Walks.{skip}
-use Rattle.bundles.specs.Limits.{track_most}
 use Rattle.bundles.specs.Bundles.{layout_of}
 use Rattle.tables.specs.Tables.{track_row}
-use Rattle.bundles.specs.Tracks.{track_count, tracks_at, track_end, track_fault}
-use Rattle.words.proofs.Entries.{skip_snoc, big_one}
-use Rattle.bundles.proofs.Sections.{Accepted, accepted, TrackGood, track_good}
+use Rattle.bundles.specs.Tracks.{tracks_at, track_end}
 use Rattle.filling.specs.Filling.{write_rows, track_cells, samples_before}
-use Rattle.filling.proofs.Rows.{rows_none, rows_put, track_row_lem, track_sound, before_grow}
 use Rattle.filling.proofs.fill_tracks.Given as goal
 
 abbrev pub invariant-loop-k : goal.invariant-loop-k

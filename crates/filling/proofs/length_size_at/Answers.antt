@@ -1,5 +1,4 @@
 -- The length size of the record of a track entry, which lies in the bundle. Assumes nothing.
-use borrow.Author.Rules.{rules}
 use native.Mathlib.Omega.{arith}
 use native.Mathlib.Nat.{add-sub_cancel_left}
 use mathlib.Core.Path.{◌≡◌, sym, ◌∙◌}

@@ -1,8 +1,6 @@
 -- The loop's invariant: p is the place of the track entry after the first i. Assumes nothing.
-use borrow.Author.Rules.{rules}
 use native.Mathlib.Omega.{arith}
 use mathlib.Core.Path.{◌≡◌, refl, sym, ap, ◌∙◌}
-use Prim.Native.Nat.{◌-◌, ◌≤◌}
 use Rattle.words.specs.Walks.{skip}
 use Rattle.bundles.specs.Tracks.{tracks_at, track_end, references_at}
 use Rattle.words.proofs.Entries.{skip_snoc}

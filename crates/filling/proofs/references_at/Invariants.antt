@@ -1,12 +1,8 @@
 -- The loop's invariant: p is the place of the track entry after the first i. Assumes nothing.
-use native.Mathlib.Omega.{arith}
-use mathlib.Core.Path.{◌≡◌, refl, sym, ap, ◌∙◌}
+use mathlib.Core.Path.{◌≡◌}
 use Prim.Native.Nat.{◌-◌, ◌≤◌}
 use Rattle.words.specs.Walks.{skip}
-use Rattle.bundles.specs.Tracks.{tracks_at, track_end, references_at}
-use Rattle.words.proofs.Entries.{skip_snoc}
-use Rattle.bundles.proofs.Sections.{TrackGood, track_good, accepted}
-use Rattle.filling.proofs.Rows.{track_sound}
+use Rattle.bundles.specs.Tracks.{tracks_at, track_end}
 use Rattle.filling.proofs.references_at.Given as goal
 
 abbrev pub invariant-loop-i : goal.invariant-loop-i

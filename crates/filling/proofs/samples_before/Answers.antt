@@ -1,13 +1,10 @@
 -- The loop's invariant: at least n samples have a track below k. Assumes nothing.
-use borrow.Author.Rules.{rules}
 use native.Mathlib.Omega.{arith}
-use mathlib.Core.Path.{◌≡◌, ◌∙◌}
-use Prim.Native.Nat.{◌+◌, ◌-◌, ◌*◌, ◌≤◌, ◌<◌}
+use mathlib.Core.Path.{◌≡◌}
+use Prim.Native.Nat.{◌+◌, ◌*◌, ◌<◌}
 use Rattle.bundles.specs.Fields.{sample_entry_size}
-use Rattle.bundles.specs.Bundles.{layout_of}
 use Rattle.bundles.specs.Samples.{track, entries_at, entry_count}
 use Rattle.bundles.proofs.Sections.{Accepted, accepted}
-use Rattle.filling.specs.Filling.{samples_before}
 use Rattle.filling.proofs.Rows.{before_on, before_off, before_most, entries_inside}
 use Rattle.filling.proofs.samples_before.Goals as goal
 use Rattle.filling.proofs.samples_before.Goals.{After-number, In-loop-n}

@@ -1,5 +1,4 @@
 -- Each return is a test of 30. Assumes nothing.
-use borrow.Author.Rules.{rules}
 use Rattle.words.proofs.Tests.{tests}
 use Rattle.resolution_rules.specs.Ranges.{range_fault}
 use Rattle.judging.proofs.range_fault.Goals as goal

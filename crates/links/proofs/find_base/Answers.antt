@@ -1,5 +1,4 @@
 -- The loop's invariant: the search goes on among the numbers left, with the rounds counted so far. Assumes nothing.
-use borrow.Author.Rules.{rules}
 use native.Mathlib.Omega.{arith}
 use mathlib.Core.Path.{◌≡◌, ap, ◌∙◌}
 use lib.ListN.{length}

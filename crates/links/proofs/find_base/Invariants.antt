@@ -1,18 +1,9 @@
 -- The loop's invariant: the search goes on among the numbers left, with the rounds counted so far. Assumes nothing.
-use native.Mathlib.Omega.{arith}
-use mathlib.Core.Path.{◌≡◌, ap, ◌∙◌}
-use lib.ListN.{length}
-use Prim.Native.Nat.{◌+◌, ◌-◌, ◌≤◌}
-use borrow.Author.Tests.{le-leb, lt-leb}
+use Prim.Native.Nat.{◌+◌, ◌-◌}
 use Rattle.words.specs.Tests.{◌≤?◌}
-use Rattle.bundles.specs.Limits.{sample_most}
-use Rattle.bundles.specs.Recordings.{time_of, samples_in}
+use Rattle.bundles.specs.Recordings.{time_of}
 use Rattle.tables.specs.Tables.{layout_in}
-use Rattle.links.specs.declared.SearchResult.{SearchResult}
-use Rattle.links.specs.Halving.{middle, binary_digits}
-use Rattle.links.specs.Links.{base_search}
-use Rattle.links.proofs.Links.{search_rounds}
-use Rattle.links.proofs.Cases.{range_most, Searching, searching_begun, searching_after, searching_before, searching_done, base_searched}
+use Rattle.links.proofs.Cases.{Searching}
 use Rattle.links.proofs.find_base.Given as goal
 
 abbrev pub invariant-loop-low : goal.invariant-loop-low

@@ -1,5 +1,4 @@
 -- Each return is a case of the fault. Assumes nothing.
-use borrow.Author.Rules.{rules}
 use mathlib.Core.Path.{sym}
 use Rattle.tables.specs.Tables.{layout_in}
 use Rattle.links.proofs.Links.{link_good}

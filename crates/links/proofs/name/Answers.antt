@@ -1,5 +1,4 @@
 -- Each return is a case of the answer. Assumes nothing.
-use borrow.Author.Rules.{rules}
 use mathlib.Core.Path.{◌≡◌, sym, ◌∙◌}
 use Rattle.tables.specs.Tables.{layout_in}
 use Rattle.links.proofs.Cases.{name_link, name_nothing, name_sample}

@@ -1,5 +1,4 @@
 -- From the base on, or back by what is missing to 256. Assumes nothing.
-use borrow.Author.Rules.{rules}
 use native.Mathlib.Omega.{arith}
 use Rattle.links.proofs.Cases.{steps_ahead, steps_before, steps_back}
 use Rattle.links.proofs.stepped.Goals as goal

@@ -1,6 +1,4 @@
 -- No extractor between, or 28. Assumes nothing.
-use borrow.Author.Rules.{rules}
-use Prim.Native.Nat.{◌-◌}
 use borrow.Author.Tests.{eq-eqb, ne_eqb}
 use Rattle.mark_rules.specs.Amounts.{between}
 use Rattle.marks.proofs.between.Goals as goal

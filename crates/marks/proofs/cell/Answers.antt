@@ -1,8 +1,6 @@
 -- A number past the end of the rows reads as 0. Assumes nothing.
-use borrow.Author.Rules.{rules}
 use native.Mathlib.Omega.{arith}
 use mathlib.Core.Path.{refl, sym}
-use Prim.Native.Nat.{◌-◌}
 use lib.ListN.{get_or-eq_default}
 use Rattle.marks.proofs.cell.Goals as goal
 

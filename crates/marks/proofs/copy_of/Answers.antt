@@ -1,10 +1,6 @@
 -- 26, then 27, then 28 or the units counted. Assumes nothing.
-use borrow.Author.Rules.{rules}
 use native.Mathlib.Omega.{arith}
 use mathlib.Core.Path.{sym, ◌∙◌}
-use Prim.Native.Nat.{◌-◌}
-use lib.ListN.{length}
-use borrow.Author.Tests.{not-true, not-false}
 use Rattle.units.specs.Units.{sample}
 use Rattle.marks.proofs.Copying.{state_again, zero_again, offset_past, offset_wrong, length_past, length_wrong, length_good}
 use Rattle.marks.proofs.copy_of.Goals as goal

@@ -1,6 +1,4 @@
 -- The tests as they stand. Assumes nothing.
-use borrow.Author.Rules.{rules}
-use Prim.Native.Nat.{◌-◌}
 use borrow.Author.Tests.{eq-eqb, ne_eqb, lt-ltb, le-ltb}
 use Rattle.marks.proofs.ends.Goals as goal
 

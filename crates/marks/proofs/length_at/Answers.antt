@@ -1,7 +1,5 @@
 -- At most 4 bytes. Assumes nothing.
-use borrow.Author.Rules.{rules}
 use native.Mathlib.Omega.{arith}
-use Prim.Native.Nat.{◌-◌}
 use Rattle.words.proofs.Bytes.{big_below}
 use Rattle.numbers.specs.Sizes.{in_bytes}
 use Rattle.marks.proofs.Steps.{size_small}

@@ -1,11 +1,9 @@
 -- The invariant: the first i blocks are marked. Assumes nothing.
-use borrow.Author.Rules.{rules}
 use native.Mathlib.Omega.{arith}
 use mathlib.Core.Path.{sym}
-use Prim.Native.Nat.{◌-◌, ◌≤◌}
 use Prim.Native.Nat.{◌/◌}
 use Rattle.units.specs.Units.{sample, end}
-use Rattle.marks.proofs.Marking.{Marking, marking_start, marking_step, marking_length, marking_end, upto_past}
+use Rattle.marks.proofs.Marking.{marking_start, marking_step, marking_length, marking_end, upto_past}
 use Rattle.marks.proofs.mark.Goals as goal
 
 pub returns-then-rows-base : goal.returns-then-rows-base

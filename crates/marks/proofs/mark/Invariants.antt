@@ -1,10 +1,7 @@
 -- The invariant: the first i blocks are marked. Assumes nothing.
-use native.Mathlib.Omega.{arith}
-use mathlib.Core.Path.{sym}
 use Prim.Native.Nat.{◌-◌, ◌≤◌}
-use Prim.Native.Nat.{◌/◌}
-use Rattle.units.specs.Units.{sample, end}
-use Rattle.marks.proofs.Marking.{Marking, marking_start, marking_step, marking_length, marking_end, upto_past}
+use Rattle.units.specs.Units.{sample}
+use Rattle.marks.proofs.Marking.{Marking}
 use Rattle.marks.proofs.mark.Given as goal
 
 abbrev pub invariant-loop-i : goal.invariant-loop-i

@@ -1,8 +1,7 @@
 -- Five stores in a row. Assumes nothing.
-use borrow.Author.Rules.{rules}
 use native.Mathlib.Omega.{arith}
 use mathlib.Core.Path.{sym, ◌∙◌}
-use Prim.Native.Nat.{◌-◌, ◌*◌}
+use Prim.Native.Nat.{◌*◌}
 use lib.ListN.{length-set}
 use Rattle.words.proofs.Buffers.{put_fits, put_not}
 use Rattle.marks.specs.Marks.{row_of}

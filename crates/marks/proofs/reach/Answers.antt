@@ -1,12 +1,8 @@
 -- The invariant: from here the walk comes to the same state. Assumes nothing.
-use borrow.Author.Rules.{rules}
 use native.Mathlib.Omega.{arith}
-use mathlib.Core.Path.{◌≡◌, refl, sym, ◌∙◌}
-use Prim.Native.Nat.{◌-◌}
+use mathlib.Core.Path.{refl, sym, ◌∙◌}
 use Rattle.units.specs.Units.{sample}
-use Rattle.mark_rules.specs.States.{reach}
 use Rattle.mark_rules.proofs.States.{step_after, reach_here, reach_step}
-use Rattle.marks.specs.Fits.{Fits}
 use Rattle.marks.proofs.Steps.{fits_step}
 use Rattle.marks.proofs.reach.Goals as goal
 

@@ -1,12 +1,9 @@
 -- The invariant: from here the walk comes to the same state. Assumes nothing.
-use native.Mathlib.Omega.{arith}
-use mathlib.Core.Path.{◌≡◌, refl, sym, ◌∙◌}
+use mathlib.Core.Path.{◌≡◌}
 use Prim.Native.Nat.{◌-◌}
 use Rattle.units.specs.Units.{sample}
 use Rattle.mark_rules.specs.States.{reach}
-use Rattle.mark_rules.proofs.States.{step_after, reach_here, reach_step}
 use Rattle.marks.specs.Fits.{Fits}
-use Rattle.marks.proofs.Steps.{fits_step}
 use Rattle.marks.proofs.reach.Given as goal
 
 abbrev pub invariant-loop-s : goal.invariant-loop-s

@@ -1,8 +1,6 @@
 -- Five numbers, each below 2 to the 32nd. Assumes nothing.
-use borrow.Author.Rules.{rules}
 use native.Mathlib.Omega.{arith}
 use mathlib.Core.Path.{sym, ◌∙◌}
-use Prim.Native.Nat.{◌-◌}
 use Rattle.marks.specs.Marks.{state_in}
 use Rattle.marks.proofs.Steps.{fits_front}
 use Rattle.marks.proofs.Rows.{row_past}

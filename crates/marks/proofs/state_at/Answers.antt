@@ -1,7 +1,5 @@
 -- From the front, or from the mark before. Assumes nothing.
-use borrow.Author.Rules.{rules}
 use mathlib.Core.Path.{ap, ◌∙◌}
-use Prim.Native.Nat.{◌-◌}
 use Rattle.units.specs.Units.{sample}
 use Rattle.mark_rules.specs.States.{reach}
 use Rattle.marks.proofs.Steps.{fits_front}

@@ -1,7 +1,6 @@
 -- An aggregator, an extractor, another unit. Assumes nothing.
-use borrow.Author.Rules.{rules}
 use native.Mathlib.Omega.{arith}
-use Prim.Native.Nat.{◌+◌, ◌-◌, ◌≤◌, ◌<◌}
+use Prim.Native.Nat.{◌+◌, ◌≤◌, ◌<◌}
 use lib.ListN.{length}
 use Rattle.marks.proofs.Steps.{step_in, step_extractor, step_plain}
 use Rattle.marks.proofs.step.Goals as goal

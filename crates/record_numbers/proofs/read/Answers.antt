@@ -1,5 +1,4 @@
 -- The reader's refusal, then 29, then the numbers. Assumes nothing.
-use borrow.Author.Rules.{rules}
 use native.Mathlib.Omega.{arith}
 use lib.ListN.{length}
 use Rattle.words.proofs.Buffers.{refuse}

@@ -1,5 +1,4 @@
 -- An unknown kind is refused; a known one goes on. Assumes nothing.
-use borrow.Author.Rules.{rules}
 use mathlib.Core.Path.{refl}
 use Rattle.words.proofs.Buffers.{refuse}
 use Rattle.record_numbers.specs.Numbers.{write_numbers}

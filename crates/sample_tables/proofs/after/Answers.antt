@@ -1,9 +1,6 @@
 -- The loop's invariant: end is the least start of the first j tracks' samples, as far as they come after track k. Assumes nothing.
-use borrow.Author.Rules.{rules}
 use native.Mathlib.Omega.{arith}
 use mathlib.Core.Path.{◌≡◌, sym, ◌∙◌}
-use Prim.Native.Nat.{◌-◌, ◌≤◌}
-use Rattle.tables.specs.Tables.{after_in}
 use Rattle.tables.proofs.Ranges.{after_none, after_more}
 use Rattle.sample_tables.proofs.after.Goals as goal
 

@@ -1,5 +1,4 @@
 -- A number of the sample's row. Assumes nothing.
-use borrow.Author.Rules.{rules}
 use Rattle.sample_tables.proofs.kept_count.Goals as goal
 
 pub returns : goal.returns

@@ -1,5 +1,4 @@
 -- Two tests. Assumes nothing.
-use borrow.Author.Rules.{rules}
 use borrow.Author.Tests.{lt-ltb, le-ltb}
 use Rattle.sample_tables.proofs.lower.Goals as goal
 

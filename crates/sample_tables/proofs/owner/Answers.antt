@@ -1,8 +1,6 @@
 -- The loop's invariant: found is the last of the first k tracks that has fewer than n samples before it. Assumes nothing.
-use borrow.Author.Rules.{rules}
 use native.Mathlib.Omega.{arith}
 use mathlib.Core.Path.{◌≡◌, refl, sym, ◌∙◌}
-use Prim.Native.Nat.{◌-◌, ◌≤◌}
 use Rattle.words.specs.Tests.{◌<?◌}
 use Rattle.words.specs.Lists.{last_that, upto}
 use Rattle.tables.specs.Tables.{before_in}

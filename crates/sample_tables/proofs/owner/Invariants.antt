@@ -1,11 +1,9 @@
 -- The loop's invariant: found is the last of the first k tracks that has fewer than n samples before it. Assumes nothing.
-use native.Mathlib.Omega.{arith}
-use mathlib.Core.Path.{◌≡◌, refl, sym, ◌∙◌}
+use mathlib.Core.Path.{◌≡◌}
 use Prim.Native.Nat.{◌-◌, ◌≤◌}
 use Rattle.words.specs.Tests.{◌<?◌}
 use Rattle.words.specs.Lists.{last_that, upto}
 use Rattle.tables.specs.Tables.{before_in}
-use Rattle.words.proofs.Rows.{last_that_more}
 use Rattle.sample_tables.proofs.owner.Given as goal
 
 abbrev pub invariant-loop-k : goal.invariant-loop-k

@@ -1,6 +1,4 @@
 -- The part that the numbers of the sample's row say. Assumes nothing.
-use borrow.Author.Rules.{rules}
-use mathlib.Core.Path.{sym, ◌∙◌}
 use Rattle.sample_tables.proofs.Cells.{content_cells}
 use Rattle.sample_tables.proofs.sample_bytes.Goals as goal
 

@@ -1,5 +1,4 @@
 -- A sample that there is not, or the number of its row. Assumes nothing.
-use borrow.Author.Rules.{rules}
 use native.Mathlib.Omega.{arith}
 use borrow.Author.Tests.{lt-ltb, le-ltb, eq-eqb, ne_eqb}
 use Rattle.tables.specs.Tables.{sample_total, sample_cell}

@@ -1,5 +1,4 @@
 -- The layout's samples are as many as the table says. Assumes nothing.
-use borrow.Author.Rules.{rules}
 use mathlib.Core.Path.{sym, ◌∙◌}
 use Rattle.tables.proofs.Layouts.{samples_count}
 use Rattle.sample_tables.proofs.sample_count.Goals as goal

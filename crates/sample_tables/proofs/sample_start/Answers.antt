@@ -1,5 +1,4 @@
 -- A number of the sample's row. Assumes nothing.
-use borrow.Author.Rules.{rules}
 use Rattle.sample_tables.proofs.sample_start.Goals as goal
 
 pub returns : goal.returns

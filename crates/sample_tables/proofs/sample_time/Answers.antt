@@ -1,5 +1,4 @@
 -- The time stands in the sample's row. Assumes nothing.
-use borrow.Author.Rules.{rules}
 use mathlib.Core.Path.{sym, ◌∙◌}
 use Rattle.sample_tables.proofs.Cells.{time_cell}
 use Rattle.sample_tables.proofs.sample_time.Goals as goal

@@ -1,5 +1,4 @@
 -- A count of the table. Assumes nothing.
-use borrow.Author.Rules.{rules}
 use Rattle.sample_tables.proofs.sample_total.Goals as goal
 
 pub returns : goal.returns

@@ -1,5 +1,4 @@
 -- A sample that there is not, or its track by the numbers of the tracks' rows. Assumes nothing.
-use borrow.Author.Rules.{rules}
 use native.Mathlib.Omega.{arith}
 use mathlib.Core.Path.{sym, ap, ◌∙◌}
 use native.Mathlib.Nat.{pos_of_ne-zero}

@@ -1,5 +1,4 @@
 -- The kind, then the length size, then the sample. Assumes nothing.
-use borrow.Author.Rules.{rules}
 use Rattle.samples.proofs.check.Goals as goal
 
 pub returns-in-Unknown : goal.returns-in-Unknown

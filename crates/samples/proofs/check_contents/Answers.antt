@@ -3,20 +3,19 @@
 use borrow.Author.Rules.{rules}
 use native.Mathlib.Omega.{arith}
 use mathlib.Core.Path.{ap, ap₂, ◌≡◌, refl, sym, ◌∙◌}
-use Prim.Native.Nat.{ℕ, ◌+◌, ◌-◌, ◌≤◌}
+use Prim.Native.Nat.{ℕ, ◌+◌, ◌≤◌}
 use lib.ListN.{length}
-use mathlib.Core.Logic.{⊎_elim}
 use mathlib.Core.Bool.{true}
 use borrow.Author.Tests.{eq-eqb, ne_eqb}
-use Rattle.words.specs.Refusals.{ok, refused, ◌at_place◌}
+use Rattle.words.specs.Refusals.{◌at_place◌}
 use Rattle.words.proofs.Refusals.{at_none, at_refused}
 use Rattle.units.specs.Units.{Sample, sample, next, is_aggregator, top_units}
 use Rattle.units.specs.Aggregators.{included_start}
 use Rattle.units.specs.Rules.{Whole}
 use Rattle.units.proofs.Units.{whole_end, whole_aggregator, next_after, included_rules}
-use Rattle.units.proofs.Walks.{walk, walk_none, walk_here, walk_on, Reached, reached_start, reached_next, reached_mem}
+use Rattle.units.proofs.Walks.{walk_none, walk_here, walk_on, reached_start, reached_next, reached_mem}
 use Rattle.samples.specs.Check.{content_verdict, contents_verdict}
-use Rattle.samples.proofs.Walks.{included_judge, next_is, top_whole, top_has, content_included, content_cover, content_other}
+use Rattle.samples.proofs.Walks.{next_is, top_whole, top_has, content_included, content_cover, content_other}
 use Rattle.samples.proofs.check_contents.Goals as goal
 use Rattle.samples.proofs.check_contents.Goals.{then-type_at-eq-AGGREGATOR+else-loop-q-test, else-type_at-eq-AGGREGATOR, else-walk-test, then-walk-test+then-type_at-eq-AGGREGATOR+then-loop-q-test+then-number-ne0, then-walk-test+then-number-ne0-2, After-loop-q, After-number, After-struct_known-1, Else-number-ne0, In-walk, Joined-type_at-eq-AGGREGATOR, Left-walk, Then-number-ne0, Then-number-ne0-2, Then-type_at-eq-AGGREGATOR}
 
@@ -81,15 +80,15 @@ X_Joined1 c = sample c.args.k c.args.s.now
 judged : (c : Joined-type_at-eq-AGGREGATOR) → c.if-type_at-eq-AGGREGATOR.number at_place P_Joined1 c ≡ content_verdict (X_Joined1 c) (P_Joined1 c)
 judged c =
     elim c.if-type_at-eq-AGGREGATOR.branch [
-      then-type_at-eq-AGGREGATOR+else-loop-q-test w ↦
-        let a = c.args in
-        let e : P_Joined1 c + c.bytes-n.result + c.number.result ≡ next (X_Joined1 c) (P_Joined1 c) = next_is a.k a.s.now _ _ _ c.bytes-n.ensures.0 c.number.ensures in
-        let t : is_aggregator (X_Joined1 c) (P_Joined1 c) ≡ true = eq-eqb _ _ (sym c.type_at.ensures ∙ w.if-type_at-eq-AGGREGATOR.true) in
-        let i = rw e at (sym w.loop-q.invariant ∙ walk_none _ _ _ _ w.loop-q-test.false) in
-        ap (λ (n : ℕ). n at_place P_Joined1 c) (w.number-is ∙ w.cover_fault-number.ensures) ∙ sym (content_cover _ _ t i)
-    | else-type_at-eq-AGGREGATOR w ↦
-        ap (λ (n : ℕ). n at_place P_Joined1 c) (w.number-is ∙ w.extractor_fault-number.ensures)
-        ∙ sym (content_other _ _ (ne_eqb _ _ (λ e. w.if-type_at-eq-AGGREGATOR.false (c.type_at.ensures ∙ e))))
+      | then-type_at-eq-AGGREGATOR+else-loop-q-test w ↦
+          let a = c.args in
+          let e : P_Joined1 c + c.bytes-n.result + c.number.result ≡ next (X_Joined1 c) (P_Joined1 c) = next_is a.k a.s.now _ _ _ c.bytes-n.ensures.0 c.number.ensures in
+          let t : is_aggregator (X_Joined1 c) (P_Joined1 c) ≡ true = eq-eqb _ _ (sym c.type_at.ensures ∙ w.if-type_at-eq-AGGREGATOR.true) in
+          let i = rw e at (sym w.loop-q.invariant ∙ walk_none _ _ _ _ w.loop-q-test.false) in
+          ap (λ (n : ℕ). n at_place P_Joined1 c) (w.number-is ∙ w.cover_fault-number.ensures) ∙ sym (content_cover _ _ t i)
+      | else-type_at-eq-AGGREGATOR w ↦
+          ap (λ (n : ℕ). n at_place P_Joined1 c) (w.number-is ∙ w.extractor_fault-number.ensures)
+          ∙ sym (content_other _ _ (ne_eqb _ _ (λ e. w.if-type_at-eq-AGGREGATOR.false (c.type_at.ensures ∙ e))))
     ]
 
 -- the ways out meet: the locals hold the answer
@@ -99,27 +98,27 @@ left c =
     let x : Sample = sample a.k a.s.now in
     let p = c.walk.at in
     elim c.walk-test.branch [
-      else-walk-test w ↦ ap (λ (n : ℕ). n at_place c.walk-test.place) (w.number-is ∙ c.walk.invariant.1) ∙ sym (walk_none _ _ _ _ w.walk-test.false) ∙ c.walk.invariant.3
-    | then-walk-test+then-type_at-eq-AGGREGATOR+then-loop-q-test+then-number-ne0 w ↦
-        let e : p + c.bytes-n.result + w.number.result ≡ next x p = next_is a.k a.s.now _ _ _ c.bytes-n.ensures.0 w.number.ensures in
-        let t : is_aggregator x p ≡ true = eq-eqb _ _ (sym w.type_at.ensures ∙ w.if-type_at-eq-AGGREGATOR.true) in
-        let i = rw e at (sym w.loop-q.invariant ∙ walk_here _ _ _ _ w.loop-q-test.true (at_refused _ w.judge_included-u.ensures.0 w.if-number-ne0.true)) in
-        ap₂ (λ (n q : ℕ). n at_place q) w.number-is w.place-is ∙ at_refused _ refl w.if-number-ne0.true
-        ∙ sym (walk_here _ _ _ _ w.walk-test.true (content_included _ _ t i)) ∙ c.walk.invariant.3
-    | then-walk-test+then-number-ne0-2 w ↦
-        let e : p + c.bytes-n.result + w.number.result ≡ next x p = next_is a.k a.s.now _ _ _ c.bytes-n.ensures.0 w.number.ensures in
-        let j : w.if-type_at-eq-AGGREGATOR.number at_place p ≡ content_verdict x p =
-            elim w.if-type_at-eq-AGGREGATOR.branch [
-              then-type_at-eq-AGGREGATOR+else-loop-q-test v ↦
+      | else-walk-test w ↦ ap (λ (n : ℕ). n at_place c.walk-test.place) (w.number-is ∙ c.walk.invariant.1) ∙ sym (walk_none _ _ _ _ w.walk-test.false) ∙ c.walk.invariant.3
+      | then-walk-test+then-type_at-eq-AGGREGATOR+then-loop-q-test+then-number-ne0 w ↦
+          let e : p + c.bytes-n.result + w.number.result ≡ next x p = next_is a.k a.s.now _ _ _ c.bytes-n.ensures.0 w.number.ensures in
+          let t : is_aggregator x p ≡ true = eq-eqb _ _ (sym w.type_at.ensures ∙ w.if-type_at-eq-AGGREGATOR.true) in
+          let i = rw e at (sym w.loop-q.invariant ∙ walk_here _ _ _ _ w.loop-q-test.true (at_refused _ w.judge_included-u.ensures.0 w.if-number-ne0.true)) in
+          ap₂ (λ (n q : ℕ). n at_place q) w.number-is w.place-is ∙ at_refused _ refl w.if-number-ne0.true
+          ∙ sym (walk_here _ _ _ _ w.walk-test.true (content_included _ _ t i)) ∙ c.walk.invariant.3
+      | then-walk-test+then-number-ne0-2 w ↦
+          let e : p + c.bytes-n.result + w.number.result ≡ next x p = next_is a.k a.s.now _ _ _ c.bytes-n.ensures.0 w.number.ensures in
+          let j : w.if-type_at-eq-AGGREGATOR.number at_place p ≡ content_verdict x p =
+          elim w.if-type_at-eq-AGGREGATOR.branch [
+            | then-type_at-eq-AGGREGATOR+else-loop-q-test v ↦
                 let t : is_aggregator x p ≡ true = eq-eqb _ _ (sym w.type_at.ensures ∙ v.if-type_at-eq-AGGREGATOR.true) in
                 let i = rw e at (sym v.loop-q.invariant ∙ walk_none _ _ _ _ v.loop-q-test.false) in
                 ap (λ (n : ℕ). n at_place p) (v.number-is ∙ v.cover_fault-number.ensures) ∙ sym (content_cover _ _ t i)
             | else-type_at-eq-AGGREGATOR v ↦
                 ap (λ (n : ℕ). n at_place p) (v.number-is ∙ v.extractor_fault-number.ensures)
                 ∙ sym (content_other _ _ (ne_eqb _ _ (λ f. v.if-type_at-eq-AGGREGATOR.false (w.type_at.ensures ∙ f))))
-            ] in
-        ap₂ (λ (n q : ℕ). n at_place q) w.number-is w.place-is ∙ at_refused _ refl w.if-number-ne0-2.true
-        ∙ sym (walk_here _ _ _ _ w.walk-test.true (sym j ∙ at_refused _ refl w.if-number-ne0-2.true)) ∙ c.walk.invariant.3
+          ] in
+          ap₂ (λ (n q : ℕ). n at_place q) w.number-is w.place-is ∙ at_refused _ refl w.if-number-ne0-2.true
+          ∙ sym (walk_here _ _ _ _ w.walk-test.true (sym j ∙ at_refused _ refl w.if-number-ne0-2.true)) ∙ c.walk.invariant.3
     ]
 
 pub walk-init : goal.walk-init
@@ -164,11 +163,11 @@ walk-smaller c = let u = whole_end _ _ _ (unit (goal.at.walk-smaller c).In-walk)
 
 pub walk-preserved : goal.walk-preserved
 walk-preserved c = rw (ends (goal.at.walk-preserved c).After-number) (
-      (whole_end _ _ _ (unit (goal.at.walk-preserved c).In-walk)).1,
-      c.if-number-ne0-2.false,
-      reached_next _ _ c.walk-test.true c.walk.invariant.2,
-      sym (walk_on _ _ _ _ c.walk-test.true (sym (judged (goal.at.walk-preserved c).Joined-type_at-eq-AGGREGATOR) ∙ at_none _ c.if-number-ne0-2.false)) ∙ c.walk.invariant.3,
-    )
+  (whole_end _ _ _ (unit (goal.at.walk-preserved c).In-walk)).1,
+  c.if-number-ne0-2.false,
+  reached_next _ _ c.walk-test.true c.walk.invariant.2,
+  sym (walk_on _ _ _ _ c.walk-test.true (sym (judged (goal.at.walk-preserved c).Joined-type_at-eq-AGGREGATOR) ∙ at_none _ c.if-number-ne0-2.false)) ∙ c.walk.invariant.3,
+)
 
 pub returns-then-number-eq0 : goal.returns-then-number-eq0
 returns-then-number-eq0 c = sym (at_none _ c.if-number-eq0.true) ∙ left (goal.at.returns-then-number-eq0 c).Left-walk

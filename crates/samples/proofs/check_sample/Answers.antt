@@ -1,5 +1,4 @@
 -- The first walk's refusal is the answer, else the second walk's. Assumes nothing.
-use borrow.Author.Rules.{rules}
 use mathlib.Core.Path.{sym, ap, ◌∙◌}
 use Rattle.samples.specs.Check.{answer_of, check}
 use Rattle.samples.proofs.check_sample.Goals as goal

@@ -2,15 +2,13 @@
 use borrow.Author.Rules.{rules}
 use native.Mathlib.Omega.{arith}
 use mathlib.Core.Path.{◌≡◌, refl, sym, ◌∙◌}
-use Prim.Native.Nat.{◌+◌, ◌-◌, ◌≤◌}
+use Prim.Native.Nat.{◌+◌}
 use lib.ListN.{length}
 use Rattle.words.proofs.Refusals.{at_none, at_refused}
 use Rattle.units.specs.Units.{sample, next, top_units}
 use Rattle.units.specs.Rules.{Whole}
 use Rattle.units.proofs.Units.{whole, whole_end, next_after}
-use Rattle.units.proofs.Walks.{walk, walk_none, walk_here, walk_on}
-use Rattle.samples.specs.Check.{top_verdict}
-use Rattle.samples.proofs.Walks.{top_judge}
+use Rattle.units.proofs.Walks.{walk_none, walk_here, walk_on}
 use Rattle.samples.proofs.check_top.Goals as goal
 use Rattle.samples.proofs.check_top.Goals.{After-struct_known-in-loop-at-1, Else-u-ne0}
 

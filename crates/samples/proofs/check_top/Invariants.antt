@@ -1,13 +1,9 @@
 -- The loop's invariant: what is left of the walk from here on gives the whole verdict. Assumes nothing.
-use native.Mathlib.Omega.{arith}
-use mathlib.Core.Path.{◌≡◌, refl, sym, ◌∙◌}
-use Prim.Native.Nat.{◌+◌, ◌-◌, ◌≤◌}
+use mathlib.Core.Path.{◌≡◌}
+use Prim.Native.Nat.{◌-◌, ◌≤◌}
 use lib.ListN.{length}
-use Rattle.words.proofs.Refusals.{at_none, at_refused}
-use Rattle.units.specs.Units.{sample, next, top_units}
-use Rattle.units.specs.Rules.{Whole}
-use Rattle.units.proofs.Units.{whole, whole_end, next_after}
-use Rattle.units.proofs.Walks.{walk, walk_none, walk_here, walk_on}
+use Rattle.units.specs.Units.{sample}
+use Rattle.units.proofs.Walks.{walk}
 use Rattle.samples.specs.Check.{top_verdict}
 use Rattle.samples.proofs.Walks.{top_judge}
 use Rattle.samples.proofs.check_top.Given as goal

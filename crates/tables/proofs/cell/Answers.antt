@@ -1,10 +1,8 @@
 -- A number past the table's end reads as 0. Assumes nothing.
-use borrow.Author.Rules.{rules}
-use Prim.Native.Nat.{◌+◌, ◌*◌, ◌≤◌}
 use mathlib.Core.Path.{refl, sym}
 use native.Mathlib.Omega.{arith}
-use lib.ListN.{length, get_or-eq_default}
-use Rattle.tables.specs.Tables.{columns, cell}
+use lib.ListN.{get_or-eq_default}
+use Rattle.tables.specs.Tables.{cell}
 use Rattle.tables.proofs.cell.Goals as goal
 
 pub returns-then-t-row : goal.returns-then-t-row

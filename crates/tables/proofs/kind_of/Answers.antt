@@ -1,5 +1,4 @@
 -- A number beyond a byte says no kind. Assumes nothing.
-use borrow.Author.Rules.{rules}
 use native.Mathlib.Omega.{arith}
 use borrow.Author.Tests.{ne_eqb}
 use Rattle.tables.proofs.kind_of.Goals as goal

@@ -1,8 +1,7 @@
 -- The loop's invariant: count is how many of the first i references come from the track, and the one looked for is not among them. Assumes nothing.
-use borrow.Author.Rules.{rules}
 use native.Mathlib.Omega.{arith}
 use mathlib.Core.Path.{◌≡◌, sym, ap, ◌∙◌}
-use Prim.Native.Nat.{◌+◌, ◌-◌, ◌≤◌, ◌<◌}
+use Prim.Native.Nat.{◌+◌}
 use native.Mathlib.Nat.{pos_of_ne-zero}
 use Rattle.bundles.specs.Recordings.{no_reference, references_from}
 use Rattle.tables.specs.Tables.{layout_in}

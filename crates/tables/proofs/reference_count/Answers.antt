@@ -1,9 +1,7 @@
 -- The loop's invariant: count is how many of the first i references come from the track. Assumes nothing.
-use borrow.Author.Rules.{rules}
 use native.Mathlib.Omega.{arith}
 use mathlib.Core.Path.{◌≡◌, sym, ◌∙◌}
-use Prim.Native.Nat.{◌-◌, ◌≤◌}
-use Rattle.tables.proofs.References.{counted, counted_none, counted_more, counted_all_lem}
+use Rattle.tables.proofs.References.{counted_none, counted_more, counted_all_lem}
 use Rattle.tables.proofs.reference_count.Goals as goal
 
 pub loop-i-init : goal.loop-i-init

@@ -1,8 +1,7 @@
 -- The loop's invariant: count is how many of the first i references come from the track. Assumes nothing.
-use native.Mathlib.Omega.{arith}
-use mathlib.Core.Path.{◌≡◌, sym, ◌∙◌}
+use mathlib.Core.Path.{◌≡◌}
 use Prim.Native.Nat.{◌-◌, ◌≤◌}
-use Rattle.tables.proofs.References.{counted, counted_none, counted_more, counted_all_lem}
+use Rattle.tables.proofs.References.{counted}
 use Rattle.tables.proofs.reference_count.Given as goal
 
 abbrev pub invariant-loop-i : goal.invariant-loop-i

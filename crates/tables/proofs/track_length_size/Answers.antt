@@ -1,5 +1,4 @@
 -- A track that there is not, or the numbers of its row. Assumes nothing.
-use borrow.Author.Rules.{rules}
 use native.Mathlib.Omega.{arith}
 use Rattle.tables.proofs.Layouts.{track_here, track_none, track_past}
 use native.Mathlib.Nat.{pos_of_ne-zero}

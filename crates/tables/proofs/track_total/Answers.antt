@@ -1,5 +1,4 @@
 -- A count of the table. Assumes nothing.
-use borrow.Author.Rules.{rules}
 use Rattle.tables.proofs.track_total.Goals as goal
 
 pub returns : goal.returns

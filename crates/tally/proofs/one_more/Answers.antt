@@ -1,5 +1,4 @@
 -- The largest number stays. Assumes nothing.
-use borrow.Author.Rules.{rules}
 use Rattle.words.proofs.Tests.{tests}
 use Rattle.tally.specs.Tallies.{one_more}
 use Rattle.tally.proofs.one_more.Goals as goal

@@ -1,5 +1,4 @@
 -- By the outcome, the number that it raises. Assumes nothing.
-use borrow.Author.Rules.{rules}
 use Rattle.tally.proofs.raised.Goals as goal
 
 pub returns-in-Passed : goal.returns-in-Passed

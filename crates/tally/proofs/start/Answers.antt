@@ -1,5 +1,4 @@
 -- No outcome is kept of none. Assumes nothing.
-use borrow.Author.Rules.{rules}
 use mathlib.Core.Path.{refl}
 use Rattle.words.specs.Lists.{keep}
 use Rattle.tally.specs.Tallies.{tallied}

@@ -1,5 +1,4 @@
 -- Each return but the last refutes one thing that an extractor without 14 to 18 and 22 has. Assumes nothing.
-use borrow.Author.Rules.{rules}
 use native.Mathlib.Omega.{arith}
 use mathlib.Core.Path.{◌≡◌, sym, ◌∙◌}
 use Prim.Native.Nat.{◌%◌}

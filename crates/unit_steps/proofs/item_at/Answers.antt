@@ -1,5 +1,4 @@
 -- Each return is one test of the definition, over the numbers that were read. Assumes nothing.
-use borrow.Author.Rules.{rules}
 use native.Mathlib.Omega.{arith}
 use mathlib.Core.Path.{◌≡◌, sym, ◌∙◌}
 use Prim.Native.Nat.{◌%◌, ◌≤◌}

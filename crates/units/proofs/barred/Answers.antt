@@ -1,5 +1,4 @@
 -- Types 1 to 5 are barred in an AVC track, none in an SVC track. Assumes nothing.
-use borrow.Author.Rules.{rules}
 use Rattle.words.proofs.Tests.{tests}
 use Rattle.units.proofs.barred.Goals as goal
 

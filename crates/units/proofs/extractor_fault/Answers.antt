@@ -1,5 +1,4 @@
 -- 22 by the type and the size that were read. Assumes nothing.
-use borrow.Author.Rules.{rules}
 use Rattle.units.specs.Units.{size}
 use Rattle.units.proofs.extractor_fault.Goals as goal
 

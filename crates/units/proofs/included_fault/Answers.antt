@@ -1,5 +1,4 @@
 -- The chain of the definition: what each function found is its next part. Assumes nothing.
-use borrow.Author.Rules.{rules}
 use mathlib.Core.Path.{sym, ◌∙◌}
 use Rattle.words.proofs.Tests.{tests}
 use Rattle.words.proofs.Refusals.{or_else_here}

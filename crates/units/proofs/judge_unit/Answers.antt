@@ -1,5 +1,4 @@
 -- The refusal by the size that was read. Assumes nothing.
-use borrow.Author.Rules.{rules}
 use Rattle.units.specs.Units.{size}
 use Rattle.units.proofs.judge_unit.Goals as goal
 

@@ -1,5 +1,4 @@
 -- One test for each type with a header of its own. Assumes nothing.
-use borrow.Author.Rules.{rules}
 use Rattle.words.proofs.Tests.{tests}
 use Rattle.units.proofs.least_size.Goals as goal
 

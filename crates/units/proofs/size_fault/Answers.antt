@@ -1,5 +1,4 @@
 -- One test for the type, one for the size. Assumes nothing.
-use borrow.Author.Rules.{rules}
 use Rattle.words.proofs.Tests.{tests}
 use Rattle.units.proofs.size_fault.Goals as goal
 

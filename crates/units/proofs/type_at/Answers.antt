@@ -1,5 +1,4 @@
 -- Past the end there is no byte, and the type reads as 0. Assumes nothing.
-use borrow.Author.Rules.{rules}
 use native.Mathlib.Omega.{arith}
 use mathlib.Core.Path.{sym}
 use Rattle.units.proofs.Units.{type_past}

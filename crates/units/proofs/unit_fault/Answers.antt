@@ -1,5 +1,4 @@
 -- Each return is one test of the definition, over the size that is given and the byte that was read. Assumes nothing.
-use borrow.Author.Rules.{rules}
 use native.Mathlib.Omega.{arith}
 use Prim.Native.Nat.{◌+◌, ◌≤◌}
 use Rattle.words.proofs.Tests.{tests}

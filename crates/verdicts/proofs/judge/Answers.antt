@@ -1,7 +1,5 @@
 -- The form comes first, then the extractors. Assumes nothing.
-use borrow.Author.Rules.{rules}
 use mathlib.Core.Path.{◌≡◌, sym, ap, ◌∙◌}
-use Prim.Native.Nat.{◌-◌}
 use Rattle.words.specs.Refusals.{ok}
 use Rattle.samples.specs.Check as form
 use Rattle.delivery.proofs.Steps.{sample_from}

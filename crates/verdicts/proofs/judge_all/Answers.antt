@@ -1,8 +1,6 @@
 -- All are marked, then judged. Assumes nothing.
-use borrow.Author.Rules.{rules}
 use native.Mathlib.Omega.{arith}
 use mathlib.Core.Path.{sym, ◌∙◌}
-use Prim.Native.Nat.{◌-◌}
 use Rattle.verdicts.proofs.Known.{zeros, survey_start}
 use Rattle.verdicts.proofs.Keeping.{all_long, all_upto}
 use Rattle.verdicts.proofs.judge_all.Goals as goal

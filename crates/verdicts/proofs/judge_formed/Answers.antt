@@ -1,6 +1,4 @@
-use borrow.Author.Rules.{rules}
 use native.Mathlib.Omega.{arith}
-use Prim.Native.Nat.{◌-◌}
 use Rattle.verdicts.proofs.Known.{zeros, survey_start}
 use Rattle.verdicts.proofs.judge_formed.Goals as goal
 

@@ -1,9 +1,7 @@
 -- Each return is a case of the answer; the samples are marked, then judged. Assumes nothing.
-use borrow.Author.Rules.{rules}
 use native.Mathlib.Omega.{arith}
-use mathlib.Core.Path.{◌≡◌, refl, sym, ap, ◌∙◌}
-use Prim.Native.Nat.{ℕ, zero, suc, ◌+◌, ◌-◌, ◌*◌, ◌≤◌, ◌<◌}
-use lib.ListN.{length, get_or, take, drop}
+use mathlib.Core.Path.{◌≡◌, sym, ap, ◌∙◌}
+use Prim.Native.Nat.{◌≤◌, ◌<◌}
 use mathlib.Core.Logic.{inl, inr}
 use Rattle.words.specs.Refusals.{ok}
 use Rattle.bundles.specs.Recordings.{sample_count}

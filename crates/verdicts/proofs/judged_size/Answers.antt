@@ -1,9 +1,5 @@
 -- A refused sample adds nothing. Assumes nothing.
-use borrow.Author.Rules.{rules}
 use native.Mathlib.Omega.{arith}
-use mathlib.Core.Path.{◌≡◌, refl, sym, ap, ◌∙◌}
-use Prim.Native.Nat.{ℕ, zero, suc, ◌+◌, ◌-◌, ◌*◌, ◌≤◌, ◌<◌}
-use lib.ListN.{length, get_or, take, drop}
 use Rattle.verdicts.proofs.judged_size.Goals as goal
 
 pub overflow_add-result : goal.overflow_add-result

@@ -1,7 +1,5 @@
 -- By what was judged. Assumes nothing.
-use borrow.Author.Rules.{rules}
 use mathlib.Core.Path.{sym, ap, ◌∙◌}
-use Prim.Native.Nat.{◌-◌}
 use Rattle.judging.specs.Steps.{answer_of}
 use Rattle.verdicts.specs.Kept.{judgement_word}
 use Rattle.verdicts.proofs.judgement_word.Goals as goal

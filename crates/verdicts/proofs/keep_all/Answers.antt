@@ -1,5 +1,4 @@
 -- The judgements of samples 1 to the last. Assumes nothing.
-use native.Mathlib.Omega.{arith}
 use mathlib.Core.Path.{ap, sym, ◌∙◌}
 use Rattle.bundles.specs.Recordings.{sample_count}
 use Rattle.tables.specs.Tables.{layout_in}

@@ -1,11 +1,9 @@
 -- The invariant: the judgements up to sample n are kept, and their sizes added. Assumes nothing.
-use borrow.Author.Rules.{rules}
 use native.Mathlib.Omega.{arith}
-use mathlib.Core.Path.{◌≡◌, refl, sym, ap, ◌∙◌}
-use Prim.Native.Nat.{ℕ, zero, suc, ◌+◌, ◌-◌, ◌*◌, ◌≤◌, ◌<◌}
-use lib.ListN.{length, get_or, take, drop}
+use mathlib.Core.Path.{refl}
+use Prim.Native.Nat.{◌-◌}
 use Rattle.verdicts.proofs.Keeping.{judgement_small}
-use Rattle.verdicts.proofs.Ranges.{Keeping, keeping_start, keeping_length, keeping_recording, keeping_most, keeping_fits, keeping_more, keeping_end}
+use Rattle.verdicts.proofs.Ranges.{keeping_start, keeping_length, keeping_recording, keeping_most, keeping_fits, keeping_more, keeping_end}
 use Rattle.verdicts.proofs.keep_range.Goals as goal
 
 pub overflow_sub-n : goal.overflow_sub-n

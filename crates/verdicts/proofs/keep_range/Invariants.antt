@@ -1,10 +1,6 @@
 -- The invariant: the judgements up to sample n are kept, and their sizes added. Assumes nothing.
-use native.Mathlib.Omega.{arith}
-use mathlib.Core.Path.{◌≡◌, refl, sym, ap, ◌∙◌}
-use Prim.Native.Nat.{ℕ, zero, suc, ◌+◌, ◌-◌, ◌*◌, ◌≤◌, ◌<◌}
-use lib.ListN.{length, get_or, take, drop}
-use Rattle.verdicts.proofs.Keeping.{judgement_small}
-use Rattle.verdicts.proofs.Ranges.{Keeping, keeping_start, keeping_length, keeping_recording, keeping_most, keeping_fits, keeping_more, keeping_end}
+use Prim.Native.Nat.{◌-◌}
+use Rattle.verdicts.proofs.Ranges.{Keeping}
 use Rattle.verdicts.proofs.keep_range.Given as goal
 
 abbrev pub invariant-loop-n : goal.invariant-loop-n

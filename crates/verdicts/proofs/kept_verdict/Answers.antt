@@ -1,6 +1,4 @@
 -- By its first part. Assumes nothing.
-use borrow.Author.Rules.{rules}
-use Prim.Native.Nat.{◌-◌}
 use borrow.Author.Tests.{eq-eqb, ne_eqb}
 use Rattle.verdicts.specs.Kept.{verdict_in}
 use Rattle.verdicts.proofs.kept_verdict.Goals as goal

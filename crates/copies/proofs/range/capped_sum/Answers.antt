@@ -1,5 +1,4 @@
 -- No sum goes past the end. Assumes nothing.
-use borrow.Author.Rules.{rules}
 use native.Mathlib.Omega.{arith}
 use mathlib.Core.Path.{sym}
 use Rattle.copies.proofs.Ranges.{capped_in, capped_past}

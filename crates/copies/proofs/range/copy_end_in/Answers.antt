@@ -1,5 +1,4 @@
 -- By data_length, and by what stands at data_offset. An aggregator's length field lies in the sample. Assumes nothing.
-use borrow.Author.Rules.{rules}
 use native.Mathlib.Omega.{arith}
 use mathlib.Core.Path.{◌≡◌, sym, ap, ◌∙◌}
 use mathlib.Core.Bool.{true}

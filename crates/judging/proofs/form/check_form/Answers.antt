@@ -1,5 +1,4 @@
 -- A bundle too long comes first, then 30, then 14 to 22. Assumes nothing.
-use borrow.Author.Rules.{rules}
 use mathlib.Core.Path.{◌≡◌, sym, ap, ◌∙◌}
 use Rattle.bundles.specs.Recordings.{sample_count}
 use Rattle.tables.specs.Tables.{recording_in}

@@ -1,5 +1,4 @@
 -- Number by number. Assumes nothing.
-use borrow.Author.Rules.{rules}
 use Rattle.record_numbers.proofs.Laws.{trailer_cells}
 use Rattle.record_numbers.specs.Numbers.{numbers_of}
 use Rattle.record_numbers.proofs.reading.numbers_of.Goals as goal

@@ -2,9 +2,8 @@
 use borrow.Author.Rules.{rules}
 use native.Mathlib.Omega.{arith}
 use mathlib.Core.Path.{◌≡◌, refl, ◌∙◌}
-use Prim.Native.Nat.{◌-◌, ◌≤◌}
 use lib.ListN.{length, length-set}
-use lib.Seq.{paste, paste-zero}
+use lib.Seq.{paste-zero}
 use Rattle.words.proofs.Buffers.{copy_done, write_first}
 use Rattle.record_numbers.proofs.Laws.{copied}
 use Rattle.record_numbers.proofs.reading.put_numbers.Goals as goal

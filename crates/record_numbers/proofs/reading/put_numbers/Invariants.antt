@@ -1,11 +1,8 @@
 -- The loop's invariant: the first i numbers are copied. Assumes nothing.
-use native.Mathlib.Omega.{arith}
-use mathlib.Core.Path.{◌≡◌, refl, ◌∙◌}
+use mathlib.Core.Path.{◌≡◌}
 use Prim.Native.Nat.{◌-◌, ◌≤◌}
-use lib.ListN.{length, length-set}
-use lib.Seq.{paste, paste-zero}
-use Rattle.words.proofs.Buffers.{copy_done, write_first}
-use Rattle.record_numbers.proofs.Laws.{copied}
+use lib.ListN.{length}
+use lib.Seq.{paste}
 use Rattle.record_numbers.proofs.reading.put_numbers.Given as goal
 
 abbrev pub invariant-loop-i : goal.invariant-loop-i

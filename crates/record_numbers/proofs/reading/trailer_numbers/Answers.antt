@@ -1,5 +1,4 @@
 -- One row each. Assumes nothing.
-use borrow.Author.Rules.{rules}
 use Rattle.record_numbers.proofs.reading.trailer_numbers.Goals as goal
 
 pub returns-in-None : goal.returns-in-None

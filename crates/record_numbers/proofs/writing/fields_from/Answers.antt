@@ -1,5 +1,4 @@
 -- Number by number. Assumes nothing.
-use borrow.Author.Rules.{rules}
 use Rattle.record_numbers.specs.Numbers.{fields_from}
 use Rattle.record_numbers.proofs.writing.fields_from.Goals as goal
 

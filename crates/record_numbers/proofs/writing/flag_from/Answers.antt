@@ -1,6 +1,4 @@
 -- Two tests. Assumes nothing.
-use borrow.Author.Rules.{rules}
-use borrow.Author.Tests.{not-true, not-false}
 use Rattle.words.proofs.Tests.{tests}
 use Rattle.record_numbers.proofs.writing.flag_from.Goals as goal
 

@@ -1,5 +1,4 @@
 -- By the number of flags. Assumes nothing.
-use borrow.Author.Rules.{rules}
 use borrow.Author.Tests.{le-ltb}
 use Rattle.words.proofs.Tests.{tests}
 use Rattle.record_numbers.proofs.writing.flag_most.Goals as goal

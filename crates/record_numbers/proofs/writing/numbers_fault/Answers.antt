@@ -1,5 +1,4 @@
 -- One test after the other. Assumes nothing.
-use borrow.Author.Rules.{rules}
 use Rattle.words.proofs.Tests.{tests}
 use Rattle.record_numbers.specs.Numbers.{numbers_fault}
 use Rattle.record_numbers.proofs.writing.numbers_fault.Goals as goal

@@ -1,5 +1,4 @@
 -- One test after the other. Assumes nothing.
-use borrow.Author.Rules.{rules}
 use Rattle.words.proofs.Tests.{tests}
 use Rattle.record_numbers.proofs.writing.trailer_from.Goals as goal
 

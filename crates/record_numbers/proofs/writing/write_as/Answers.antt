@@ -1,5 +1,4 @@
 -- 31 of the numbers, or the writer by their fields. Assumes nothing.
-use borrow.Author.Rules.{rules}
 use mathlib.Core.Path.{sym, ap, ◌∙◌}
 use lib.ListN.{length}
 use Rattle.words.specs.Buffers.{within}

@@ -1,7 +1,5 @@
 -- By what stands there. Assumes nothing.
-use borrow.Author.Rules.{rules}
 use mathlib.Core.Path.{sym, ap, ◌∙◌}
-use Prim.Native.Nat.{◌-◌}
 use Rattle.tables.specs.Tables.{recording_in}
 use Rattle.verdicts.specs.Amounts.{amount_by}
 use Rattle.verdicts.proofs.measuring.amount_at.Goals as goal

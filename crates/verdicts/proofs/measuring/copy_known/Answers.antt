@@ -1,8 +1,5 @@
 -- Nothing known; 25; by the marks. Assumes nothing.
-use borrow.Author.Rules.{rules}
 use mathlib.Core.Path.{◌∙◌}
-use Prim.Native.Nat.{◌-◌}
-use lib.ListN.{length}
 use Prim.Native.Nat.{◌/◌}
 use Rattle.units.specs.Units.{sample}
 use Rattle.marks.proofs.Copying.{marked_copy}

@@ -1,8 +1,6 @@
 -- 25, or a copy from the front. Assumes nothing.
-use borrow.Author.Rules.{rules}
 use native.Mathlib.Omega.{arith}
 use mathlib.Core.Path.{sym, ap, ◌∙◌}
-use Prim.Native.Nat.{◌-◌}
 use lib.ListN.{length}
 use Rattle.units.specs.Units.{sample}
 use Rattle.samples.specs.Check.{answer_of}

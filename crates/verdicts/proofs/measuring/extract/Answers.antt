@@ -1,7 +1,5 @@
 -- 23, 24, or a copy of the sample named. Assumes nothing.
-use borrow.Author.Rules.{rules}
 use mathlib.Core.Path.{sym, ◌∙◌}
-use Prim.Native.Nat.{◌-◌}
 use Rattle.tables.specs.Tables.{recording_in}
 use Rattle.delivery.proofs.Steps.{sample_from}
 use Rattle.verdicts.proofs.Copied.{extract_refused, extract_named}

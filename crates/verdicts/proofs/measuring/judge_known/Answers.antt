@@ -1,7 +1,6 @@
 -- By what is known of its form. Assumes nothing.
-use borrow.Author.Rules.{rules}
 use mathlib.Core.Path.{◌≡◌, sym, ap, ◌∙◌, subst}
-use Prim.Native.Nat.{ℕ, ◌-◌}
+use Prim.Native.Nat.{ℕ}
 use Rattle.words.specs.Refusals.{refused}
 use Rattle.units.specs.Units.{sample}
 use Rattle.samples.specs.Check.{check}

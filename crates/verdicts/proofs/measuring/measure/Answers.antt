@@ -1,9 +1,7 @@
 -- The invariant: what the units before p deliver is counted. Assumes nothing.
-use borrow.Author.Rules.{rules}
 use native.Mathlib.Omega.{arith}
 use mathlib.Core.Path.{◌≡◌, sym, ap, ◌∙◌}
-use Prim.Native.Nat.{ℕ, ◌+◌, ◌-◌, ◌*◌, ◌≤◌, ◌<◌}
-use lib.ListN.{length}
+use Prim.Native.Nat.{ℕ, ◌+◌, ◌*◌, ◌≤◌, ◌<◌}
 use mathlib.Core.Bool.{true, false}
 use Rattle.numbers.proofs.Laws.{L_some}
 use Rattle.units.specs.Units.{Sample, sample, end, size, next, is_aggregator, is_extractor}
@@ -22,7 +20,7 @@ use Rattle.resolution_rules.proofs.Good.{own_length}
 use Rattle.delivery.proofs.Folds.{content_most}
 use Rattle.mark_rules.specs.declared.CopyAmount.{CopyAmount}
 use Rattle.mark_rules.specs.declared.CopyCounted.TheVariants as counted
-use Rattle.verdicts.proofs.Counting.{Counting, counting_start, counting_skip, unit_fits, counting_unit, counting_refused, copy_fits, counting_copy, counting_end}
+use Rattle.verdicts.proofs.Counting.{counting_start, counting_skip, unit_fits, counting_unit, counting_refused, copy_fits, counting_copy, counting_end}
 use Rattle.verdicts.proofs.measuring.measure.Goals as goal
 use Rattle.verdicts.proofs.measuring.measure.Goals.{After-amount_at-copy, After-item_at-item, In-Aggregator, In-Extractor, In-Unit}
 

@@ -1,7 +1,5 @@
 -- A number past the end reads as 0. Assumes nothing.
-use borrow.Author.Rules.{rules}
 use mathlib.Core.Path.{refl, sym}
-use Prim.Native.Nat.{◌-◌}
 use lib.ListN.{get_or-eq_default}
 use Rattle.verdicts.proofs.surveys.known.Goals as goal
 

@@ -1,10 +1,6 @@
 -- The invariant: what is known is right. Assumes nothing.
-use borrow.Author.Rules.{rules}
 use native.Mathlib.Omega.{arith}
-use mathlib.Core.Path.{◌≡◌, refl, ◌∙◌}
-use Prim.Native.Nat.{◌-◌}
-use lib.ListN.{length}
-use Rattle.verdicts.specs.Surveys.{Survey}
+use mathlib.Core.Path.{refl, ◌∙◌}
 use Rattle.verdicts.proofs.surveys.mark_all.Goals as goal
 
 pub loop-n-init : goal.loop-n-init

@@ -1,15 +1,12 @@
 -- The invariant: what is known is right. Assumes nothing.
-use borrow.Author.Rules.{rules}
 use native.Mathlib.Omega.{arith}
-use mathlib.Core.Path.{◌≡◌, refl, sym, ap, ◌∙◌}
-use Prim.Native.Nat.{ℕ, ◌-◌}
-use lib.ListN.{length}
+use mathlib.Core.Path.{refl, sym, ap, ◌∙◌}
+use Prim.Native.Nat.{ℕ}
 use Rattle.numbers.proofs.Laws.{L_some}
 use Rattle.units.specs.Units.{Sample, sample}
 use Rattle.units.specs.declared.NalUnit.{NalUnit}
 use Rattle.units.proofs.Units.{next_after}
 use Rattle.unit_steps.proofs.Items.{aggregator_is, extractor_is, unit_is}
-use Rattle.verdicts.specs.Surveys.{Survey}
 use Rattle.verdicts.proofs.surveys.mark_named.Goals as goal
 use Rattle.verdicts.proofs.surveys.mark_named.Goals.{After-item_at-item}
 

@@ -1,8 +1,6 @@
 -- Refused; no room; marked. Assumes nothing.
-use borrow.Author.Rules.{rules}
 use native.Mathlib.Omega.{arith}
 use mathlib.Core.Path.{sym, ap, ◌∙◌}
-use Prim.Native.Nat.{◌-◌}
 use Rattle.units.specs.Units.{sample}
 use Rattle.samples.specs.Check.{answer_of}
 use Rattle.verdicts.proofs.Known.{form_small, told_none, told_refused, told_marked}

@@ -1,10 +1,6 @@
 -- The invariant: what is known is right. Assumes nothing.
-use borrow.Author.Rules.{rules}
 use native.Mathlib.Omega.{arith}
-use mathlib.Core.Path.{◌≡◌, refl, sym, ap, ◌∙◌}
-use Prim.Native.Nat.{ℕ, zero, suc, ◌+◌, ◌-◌, ◌*◌, ◌≤◌, ◌<◌}
-use lib.ListN.{length, get_or, take, drop}
-use Rattle.verdicts.specs.Surveys.{Survey}
+use mathlib.Core.Path.{refl, ◌∙◌}
 use Rattle.verdicts.proofs.surveys.mark_range.Goals as goal
 
 pub overflow_sub-n : goal.overflow_sub-n

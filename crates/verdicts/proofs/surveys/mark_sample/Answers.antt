@@ -1,7 +1,5 @@
 -- One sample more is known. Assumes nothing.
-use borrow.Author.Rules.{rules}
 use native.Mathlib.Omega.{arith}
-use Prim.Native.Nat.{◌-◌}
 use Rattle.delivery.proofs.Folds.{content_most}
 use Rattle.delivery.proofs.Steps.{sample_from}
 use Rattle.verdicts.proofs.Known.{survey_formed, survey_other}
