@@ -4,7 +4,7 @@
 --   says_gone, says_there                  a line that is not there, and one that is
 --   from_passed, from_empty, from_refused  the three lines that an audit writes
 --   there_none, there_past, there_is       no line 0; a line that is not there whole; one that is
-use Prim.Native.Nat.{ℕ, ◌+◌, ◌-◌, ◌*◌, ◌≤◌, ◌<◌}
+use Prim.Native.Nat.{ℕ, ◌+◌, ◌*◌, ◌≤◌, ◌<◌}
 use mathlib.Core.Path.{◌≡◌, refl}
 use mathlib.Core.List.{List, []}
 use native.Mathlib.Nat.{zero-add}

@@ -1,5 +1,6 @@
 // The lines of an audit: their sizes, and what a line says.
 #![tactic(auto)]
+
 ghost use Rattle.std.specs.Prelude.{◌≡◌};
 ghost use Rattle.words.specs.RefusalNumbers.{sample_refusals};
 ghost use Rattle.audit_lines.specs.Lines.{line_there, line_from, line_says};

@@ -1,5 +1,6 @@
 // What a bundle holds: how many tracks, references and samples, and what its sections say of each.
 #![tactic(auto)]
+
 mod tracks;
 
 ghost use Rattle.std.specs.Prelude.{◌≡◌};

@@ -1,5 +1,6 @@
 // One unit that a sample delivers: where it stands, and its bytes.
 #![tactic(auto)]
+
 mod finding;
 
 ghost use Rattle.std.specs.Prelude.{◌≡◌};

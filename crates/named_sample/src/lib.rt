@@ -1,5 +1,6 @@
 // Which sample the extractor at a place of a sample names.
 #![tactic(auto)]
+
 ghost use Rattle.std.specs.Prelude.{◌≡◌};
 ghost use Rattle.words.specs.Refusals.{refused, ok};
 ghost use Rattle.units.specs.Units.{sample};

@@ -1,5 +1,5 @@
 -- An entry that was written is read back. Assumes that its numbers fit their bytes, as in every bundle that is accepted (naming_list_rules).
-use mathlib.Core.Path.{◌≡◌, ap, sym}
+use mathlib.Core.Path.{◌≡◌}
 use mathlib.Core.List.{[], append-nil}
 use Rattle.naming_list_rules.specs.Naming.{Namer, entry_bytes}
 use Rattle.naming_list_rules.proofs.Entries.{EntryFits, entry_read}

@@ -6,7 +6,7 @@
 --   namers_formed, namers_not                                            in a well-formed sample they are those of the naming list; in another there are none
 --   list_none, list_append                                               entries one after the other
 --   Looking, looking_start, -skip, -pass, -take, -few, -count, -written  a loop that looks for them, counts them and writes their entries
-use Prim.Native.Nat.{ℕ, suc, ◌+◌, ◌-◌, ◌*◌, ◌≤◌, ◌<◌}
+use Prim.Native.Nat.{ℕ, suc, ◌+◌, ◌*◌, ◌≤◌, ◌<◌}
 use mathlib.Core.Path.{◌≡◌, refl, ap, sym, ◌∙◌}
 use mathlib.Core.List.{List, [], ◌∷◌, ◌++◌, map, append_assoc, append-nil, Memᴰ}
 use mathlib.Core.Bool.{true, false, ◌&&◌}

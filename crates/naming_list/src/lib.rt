@@ -1,5 +1,6 @@
 // The naming list: the extractors that name a sample.
 #![tactic(auto)]
+
 ghost use Rattle.std.specs.Prelude.{◌≡◌, map, ℕ, ◌+◌, ◌*◌, ◌≤◌, ◌<◌, length};
 ghost use Rattle.words.specs.Tests.{pick};
 ghost use Rattle.words.specs.Refusals.{refused, ok};

@@ -14,7 +14,7 @@ use native.Mathlib.Omega.{arith}
 use borrow.Author.Tests.{ltb-true, ltb-false}
 use lib.ListN.{length}
 use Rattle.words.specs.Tests.{◌<?◌}
-use Rattle.words.specs.Refusals.{Answer, refused, ok}
+use Rattle.words.specs.Refusals.{refused, ok}
 use Rattle.words.specs.RefusalNumbers.{output_too_long}
 use Rattle.words.specs.Lists.{each, ◌∈◌}
 use Rattle.words.specs.Buffers.{overwrite, put, within, counted, leaves, Wrote, within_all, WroteAll}

@@ -1,5 +1,6 @@
 // Samples first to last of a bundle in one call: resolved into one buffer, with a line of the audit for each.
 #![tactic(auto)]
+
 ghost use Rattle.std.specs.Prelude.{◌≡◌, [], ◌∷◌, ◌≤◌, length};
 ghost use Rattle.words.specs.Refusals.{refused};
 ghost use Rattle.words.specs.Buffers.{within_all, WroteAll};

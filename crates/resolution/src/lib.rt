@@ -1,5 +1,6 @@
 // Samples resolved to plain NAL units: each after its length, or as a byte stream; several one after the other.
 #![tactic(auto)]
+
 mod joining;
 mod streaming;
 mod writing;

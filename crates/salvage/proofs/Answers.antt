@@ -7,11 +7,10 @@
 --   alone_kind, alone_size, alone_known                                     a sample outside a bundle
 --   numbered_bad, numbered_short, names_refused, names_done, numbered_done  a sample of a recording
 --   call_bundle, call_filled                                                the call on a bundle
-use Prim.Native.Nat.{ℕ, zero, suc, ◌+◌, ◌*◌, ◌-◌, ◌≤◌, ◌<◌}
+use Prim.Native.Nat.{ℕ, ◌+◌, ◌≤◌, ◌<◌}
 use mathlib.Core.Path.{◌≡◌, refl, ap, ap₂, sym, ◌∙◌, subst}
 use mathlib.Core.List.{List, [], ◌∷◌, ◌++◌, append-nil}
 use mathlib.Core.Logic.{◌⊎◌, inl, inr}
-use mathlib.Core.Bool.{Bool, true, false, ◌||◌}
 use native.Mathlib.Omega.{arith}
 use borrow.Author.Tests.{lt-ltb, le-ltb, ltb-true, ltb-false}
 use lib.ListN.{length, take, length-append}
@@ -20,7 +19,7 @@ use Rattle.words.specs.Tests.{pick, ◌<?◌, ◌when◌else◌}
 use Rattle.words.specs.RefusalNumbers.{output_too_long, unknown_kind, bad_length_size}
 use Rattle.words.specs.Refusals.{Answer, ok, refused}
 use Rattle.words.specs.Lists.{each}
-use Rattle.words.specs.Buffers.{put, overwrite, within, lacks_room, within_all, Wrote, WroteAll}
+use Rattle.words.specs.Buffers.{put, overwrite, within, within_all, Wrote, WroteAll}
 use Rattle.words.proofs.Tests.{by_bool}
 use Rattle.words.proofs.Refusals.{at_refused, ok_same, ok_refused, refused_same}
 use Rattle.words.proofs.Lists.{each_append}

@@ -4,12 +4,12 @@
 --   put_none                                            nothing written
 --   put_kept, put_zeroed                                a unit written in one part, and with additional_bytes 0 in three
 --   change_put                                          a change, written as two numbers
-use Prim.Native.Nat.{ℕ, zero, suc, ◌+◌, ◌-◌, ◌≤◌, ◌<◌}
-use mathlib.Core.Path.{◌≡◌, refl, ap, ap₂, sym, ◌∙◌}
-use mathlib.Core.List.{List, [], ◌∷◌, ◌++◌, append_assoc, append-nil}
-use mathlib.Core.Bool.{true, false}
+use Prim.Native.Nat.{ℕ, ◌+◌, ◌-◌, ◌≤◌}
+use mathlib.Core.Path.{◌≡◌, ap, ap₂, sym, ◌∙◌}
+use mathlib.Core.List.{List, [], ◌++◌, append_assoc, append-nil}
+use mathlib.Core.Bool.{true}
 use native.Mathlib.Omega.{arith}
-use lib.ListN.{length, take, drop, length-append}
+use lib.ListN.{length, drop, length-append}
 use lib.Seq.{take-take}
 use Rattle.words.specs.Tests.{◌≤?◌}
 use Rattle.words.specs.Bytes.{bytes, part}
@@ -22,7 +22,7 @@ use Rattle.words.proofs.Numbered.{put_after, put_put}
 use Rattle.words.proofs.Buffers.{write_none, write_first, write_length}
 use Rattle.numbers.specs.Places.{place_size}
 use Rattle.numbers.specs.Sizes.{header_size}
-use Rattle.units.specs.Units.{Sample, L, end, size, next, is_aggregator}
+use Rattle.units.specs.Units.{Sample, L, end, next, is_aggregator}
 use Rattle.units.specs.Rules.{Whole}
 use Rattle.units.proofs.Units.{whole_end, whole_aggregator}
 use Rattle.salvage_rules.specs.Salvage.{unit_bytes, zeroed_bytes, change, change_size, change_bytes}

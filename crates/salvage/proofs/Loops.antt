@@ -6,25 +6,25 @@
 --   Walking, walking_start, -whole, -has, -next             a loop that has come to a place
 --   Measuring, measuring_start, -next, -end                 the loop that judges
 --   Writing, writing_start, -room, -list-room, -next, -end  the loop that writes
-use Prim.Native.Nat.{ℕ, zero, suc, ◌+◌, ◌-◌, ◌*◌, ◌≤◌, ◌<◌}
-use mathlib.Core.Path.{◌≡◌, refl, ap, sym, ◌∙◌, subst}
-use mathlib.Core.List.{List, [], ◌∷◌, ◌++◌}
-use mathlib.Core.Bool.{Bool, true, false}
+use Prim.Native.Nat.{ℕ, ◌+◌, ◌-◌, ◌*◌, ◌≤◌, ◌<◌}
+use mathlib.Core.Path.{◌≡◌, refl, ap, sym, ◌∙◌}
+use mathlib.Core.List.{List, [], ◌++◌}
+use mathlib.Core.Bool.{true}
 use native.Mathlib.Omega.{arith}
 use lib.ListN.{length, length-append}
 use Rattle.words.specs.Refusals.{ok}
 use Rattle.words.specs.Lists.{has, each}
 use Rattle.words.specs.Buffers.{put, overwrite}
 use Rattle.words.proofs.Lists.{each_append}
-use Rattle.units.specs.Units.{Sample, L, end, size, next, places, top_units}
-use Rattle.units.specs.Rules.{Whole, TopUnitsWhole}
+use Rattle.units.specs.Units.{Sample, end, next, places, top_units}
+use Rattle.units.specs.Rules.{Whole}
 use Rattle.units.proofs.Units.{next_after, whole_end}
 use Rattle.units.proofs.Walks.{places_end, places_step, Reached, reached_start, reached_next, reached_mem}
 use Rattle.samples.specs.Check.{top_verdict}
 use Rattle.samples.proofs.Walks.{top_whole, top_has}
 use Rattle.salvage_rules.specs.declared.Fate.{Fate}
 use Rattle.salvage_rules.specs.declared.Fate.TheVariants.{Kept, Dropped, Zeroed}
-use Rattle.salvage_rules.specs.Salvage.{fate, new_bytes, new_content, Change, change_at, change_size, change_bytes, change_list_bytes}
+use Rattle.salvage_rules.specs.Salvage.{fate, new_bytes, new_content, change_at, change_size, change_bytes, change_list_bytes}
 use Rattle.salvage_rules.proofs.Units.{by_fate, new_by, change_by, inside_ok, unit_length, zeroed_length}
 use Rattle.salvage_rules.proofs.Reasons.{loses_aggregator}
 use Rattle.salvage_rules.proofs.Reading.{list_length}

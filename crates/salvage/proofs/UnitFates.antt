@@ -6,18 +6,17 @@
 --   inside_dropped, loses_zeroed, stays_kept           the fate of an aggregator
 --   loses_fault, loses_past                            an aggregator with a 21; whose additional_bytes go past the end
 --   Losing, losing_start, -next, -found, -fault, -end  the walk over what an aggregator covers
-use Prim.Native.Nat.{ℕ, zero, suc, ◌+◌, ◌-◌, ◌≤◌, ◌<◌}
-use mathlib.Core.Path.{◌≡◌, refl, ap, sym, ◌∙◌}
+use Prim.Native.Nat.{ℕ, ◌≤◌, ◌<◌}
+use mathlib.Core.Path.{◌≡◌, refl, sym, ◌∙◌}
 use mathlib.Core.List.Memᴰ
-use mathlib.Core.List.{List, Memᴰ}
 use mathlib.Core.Logic.{⊎_elim}
-use mathlib.Core.Bool.{Bool, true, false, not, ◌&&◌, ◌||◌}
+use mathlib.Core.Bool.{Bool, true, false, not}
 use native.Mathlib.Omega.{arith}
-use borrow.Author.Tests.{leb-true, le-leb, lt-ltb, ltb-true, eq-eqb, ne_eqb, eqb-true, eqb-false}
+use borrow.Author.Tests.{leb-true, le-leb, lt-ltb, ltb-true, eqb-true, eqb-false}
 use Rattle.words.specs.Tests.{◌<?◌, ◌≤?◌, ◌≡?◌}
 use Rattle.words.specs.RefusalNumbers.{bad_additional_bytes}
-use Rattle.words.specs.Refusals.{ok, refused, ◌at_place◌, first, passed}
-use Rattle.words.specs.Lists.{keep, some, ◌∈◌}
+use Rattle.words.specs.Refusals.{◌at_place◌, first, passed}
+use Rattle.words.specs.Lists.{some, ◌∈◌}
 use Rattle.words.proofs.Tests.{by_bool, and_both}
 use Rattle.words.proofs.Refusals.{at_none, at_refused}
 use Rattle.words.proofs.Lists.{keep_mem, keep_from, some_mem, some_none}

@@ -1,5 +1,6 @@
 // A damaged sample salvaged: the new sample and the list of changes, over lent buffers.
 #![tactic(auto)]
+
 mod fates;
 mod writing;
 

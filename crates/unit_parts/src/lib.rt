@@ -1,5 +1,6 @@
 // Where in the bundle all units stand that a sample delivers.
 #![tactic(auto)]
+
 mod writing;
 
 ghost use Rattle.std.specs.Prelude.{length};

@@ -1,6 +1,7 @@
 // Samples judged by a bundle and any table beside it: 30, 14 to 28, or how much they deliver. A sample's form is checked once, and no sample
 // that an extractor names is gone over for the extractor: what it copies is counted from marks (the crate marks).
 #![tactic(auto)]
+
 mod measuring;
 mod surveys;
 

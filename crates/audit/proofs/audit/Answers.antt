@@ -1,5 +1,4 @@
 -- A bundle that is refused is so by its own refusal; the table has room for any. Assumes nothing.
-use borrow.Author.Rules.{rules}
 use native.Mathlib.Omega.{arith}
 use mathlib.Core.Path.{sym, ◌∙◌}
 use lib.ListN.{length}

@@ -1,5 +1,4 @@
 -- Line and outcome come from the judgement that is kept. Assumes nothing.
-use borrow.Author.Rules.{rules}
 use Prim.Native.Nat.{◌+◌}
 use native.Mathlib.Omega.{arith}
 use Rattle.tables.specs.Tables.{recording_in}
@@ -10,8 +9,7 @@ pub returns : goal.returns
 unfolding recording_in
 returns c = let a = c.args in
     let p = c.requires in
-    let n = a.done + 1 in
-    (
+    let n = a.done + 1 in (
       rw (c.outcome.ensures, c.sample_bytes-x.ensures, outcome_judged a.b.now a.t.now p.0 n (omega arith) (omega (arith, p.2)) c.kept_verdict-judged.result c.kept_verdict-judged.ensures),
       rw (c.put_line.ensures, line_judged a.b.now a.t.now p.0 n (omega arith) (omega (arith, p.2)) c.kept_verdict-judged.result c.kept_verdict-judged.ensures),
     )

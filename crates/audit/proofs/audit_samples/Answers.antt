@@ -1,7 +1,6 @@
 -- The laws of a loop over the samples, at the calls' answers. Assumes nothing.
 use mathlib.Core.Path.{ap, ◌∙◌}
 use Prim.Native.Nat.{◌<◌, ◌≤◌}
-use native.Mathlib.Omega.{arith}
 use Rattle.tally.specs.Tallies.{raised_by}
 use Rattle.tally.specs.declared.Outcome.{Outcome}
 use Rattle.tables.specs.Tables.{recording_in}

@@ -1,5 +1,4 @@
 -- By the judgement, then by the length. Assumes nothing.
-use borrow.Author.Rules.{rules}
 use Rattle.words.proofs.Tests.{tests}
 use Rattle.audit.proofs.outcome.Goals as goal
 

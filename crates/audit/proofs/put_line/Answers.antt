@@ -1,5 +1,4 @@
 -- The line of a sample that is refused, and of one that is good. Assumes nothing.
-use borrow.Author.Rules.{rules}
 use Rattle.audit_rules.specs.Auditing.{line_bytes}
 use Rattle.audit.proofs.put_line.Goals as goal
 

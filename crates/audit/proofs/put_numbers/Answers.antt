@@ -1,5 +1,4 @@
 -- Three writes, one after the other. Assumes nothing.
-use borrow.Author.Rules.{rules}
 use Rattle.audit.proofs.Steps.{put_three}
 use Rattle.audit.proofs.put_numbers.Goals as goal
 

@@ -1,11 +1,8 @@
 -- The invariant: the lines of the samples up to n are written. Assumes nothing.
-use borrow.Author.Rules.{rules}
 use native.Mathlib.Omega.{arith}
-use mathlib.Core.Path.{◌≡◌, refl, sym, ap, ◌∙◌}
-use Prim.Native.Nat.{ℕ, zero, suc, ◌+◌, ◌-◌, ◌*◌, ◌≤◌, ◌<◌}
-use lib.ListN.{length, get_or, take, drop}
+use mathlib.Core.Path.{ap, ◌∙◌}
 use Rattle.words.specs.Buffers.{put}
-use Rattle.audit.proofs.Lining.{line_for_lem, kept_none, kept_short, Lining, lining_start, lining_length, lining_room, lining_more, lining_end}
+use Rattle.audit.proofs.Lining.{line_for_lem, kept_none, kept_short, lining_start, lining_length, lining_room, lining_more, lining_end}
 use Rattle.audit.proofs.write_lines.Goals as goal
 
 pub returns-then-last-skipped : goal.returns-then-last-skipped

@@ -1,10 +1,6 @@
 -- The invariant: the lines of the samples up to n are written. Assumes nothing.
-use native.Mathlib.Omega.{arith}
-use mathlib.Core.Path.{◌≡◌, refl, sym, ap, ◌∙◌}
-use Prim.Native.Nat.{ℕ, zero, suc, ◌+◌, ◌-◌, ◌*◌, ◌≤◌, ◌<◌}
-use lib.ListN.{length, get_or, take, drop}
-use Rattle.words.specs.Buffers.{put}
-use Rattle.audit.proofs.Lining.{line_for_lem, kept_none, kept_short, Lining, lining_start, lining_length, lining_room, lining_more, lining_end}
+use Prim.Native.Nat.{◌-◌}
+use Rattle.audit.proofs.Lining.{Lining}
 use Rattle.audit.proofs.write_lines.Given as goal
 
 abbrev pub invariant-loop-n : goal.invariant-loop-n

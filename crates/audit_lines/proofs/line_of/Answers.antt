@@ -1,6 +1,5 @@
 -- By whether the line is there, then by its three numbers. Assumes nothing.
-use borrow.Author.Rules.{rules}
-use mathlib.Core.Path.{◌≡◌, sym, ◌∙◌}
+use mathlib.Core.Path.{sym}
 use Rattle.audit_lines.proofs.Reading.{first_byte, says_gone, says_there}
 use Rattle.audit_lines.proofs.line_of.Goals as goal
 

@@ -1,5 +1,4 @@
 -- A bundle that is refused gives no bytes; the table has room for any. Assumes nothing.
-use borrow.Author.Rules.{rules}
 use native.Mathlib.Omega.{arith}
 use mathlib.Core.Path.{sym, ap, ◌∙◌}
 use Rattle.bundles.specs.Readers.{first_layout}

@@ -1,15 +1,14 @@
 -- The loop's invariant: the walk has come to p, and has not passed an extractor at the place. Assumes nothing.
-use borrow.Author.Rules.{rules}
 use native.Mathlib.Omega.{arith}
 use mathlib.Core.Path.{◌≡◌, ap, sym, ◌∙◌}
 use mathlib.Core.Bool.{true, false}
-use Prim.Native.Nat.{ℕ, ◌-◌}
+use Prim.Native.Nat.{ℕ}
 use Rattle.units.specs.Units.{Sample, sample, next, is_aggregator}
 use Rattle.units.specs.Aggregators.{included_start}
 use Rattle.units.proofs.Units.{next_after}
 use Rattle.unit_steps.proofs.Items.{aggregator_is, extractor_is, unit_is}
 use Rattle.copies.proofs.Rest.{walking_never}
-use Rattle.named_sample.proofs.Seeks.{none_past, Seeking, seeking_start, seeking_passed, seeking_here, seeking_skip, seeking_next}
+use Rattle.named_sample.proofs.Seeks.{none_past, seeking_start, seeking_passed, seeking_here, seeking_skip, seeking_next}
 use Rattle.units.specs.declared.NalUnit.{NalUnit}
 use Rattle.named_sample.proofs.extractor_in.Goals as goal
 use Rattle.named_sample.proofs.extractor_in.Goals.{After-item_at-item, In-Aggregator, In-Extractor, In-Unit}

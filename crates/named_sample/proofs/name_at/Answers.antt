@@ -1,5 +1,4 @@
 -- Each return is a case of the answer. Assumes nothing.
-use borrow.Author.Rules.{rules}
 use mathlib.Core.Path.{◌≡◌, sym, ap, ◌∙◌}
 use Rattle.words.specs.Refusals.{ok}
 use Rattle.units.specs.Units.{sample}

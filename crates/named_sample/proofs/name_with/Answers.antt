@@ -1,5 +1,4 @@
 -- By what the extractor names. Assumes nothing.
-use borrow.Author.Rules.{rules}
 use mathlib.Core.Path.{sym, ◌∙◌}
 use Rattle.tables.specs.Tables.{layout_in}
 use Rattle.links.proofs.Naming.{naming_refused, naming_sample}

@@ -1,12 +1,11 @@
 -- The loop's invariant: the extractors of the samples so far are counted, and the count kept beside each sample tells how many stand in it. Assumes nothing.
-use borrow.Author.Rules.{rules}
 use native.Mathlib.Omega.{arith}
-use Prim.Native.Nat.{◌-◌, ◌≤◌, ◌<◌}
+use Prim.Native.Nat.{◌≤◌, ◌<◌}
 use Rattle.bundles.specs.Recordings.{sample_count}
 use Rattle.tables.specs.Tables.{layout_in}
 use Rattle.tables.proofs.Layouts.{samples_most}
 use Rattle.bundles.specs.Limits.{sample_most}
-use Rattle.naming_list.proofs.Listings.{Counting, counting_start, counting_fits, counting_more, counting_end}
+use Rattle.naming_list.proofs.Listings.{counting_start, counting_fits, counting_more, counting_end}
 use Rattle.naming_list.proofs.count_all.Goals as goal
 use Rattle.naming_list.proofs.count_all.Goals.{In-loop-n}
 

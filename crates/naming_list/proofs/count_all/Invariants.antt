@@ -1,11 +1,6 @@
 -- The loop's invariant: the extractors of the samples so far are counted, and the count kept beside each sample tells how many stand in it. Assumes nothing.
-use native.Mathlib.Omega.{arith}
-use Prim.Native.Nat.{◌-◌, ◌≤◌, ◌<◌}
-use Rattle.bundles.specs.Recordings.{sample_count}
-use Rattle.tables.specs.Tables.{layout_in}
-use Rattle.tables.proofs.Layouts.{samples_most}
-use Rattle.bundles.specs.Limits.{sample_most}
-use Rattle.naming_list.proofs.Listings.{Counting, counting_start, counting_fits, counting_more, counting_end}
+use Prim.Native.Nat.{◌-◌}
+use Rattle.naming_list.proofs.Listings.{Counting}
 use Rattle.naming_list.proofs.count_all.Given as goal
 
 abbrev pub invariant-loop-n : goal.invariant-loop-n

@@ -1,5 +1,4 @@
 -- An extractor by its fields; no other unit names a sample. Assumes nothing.
-use borrow.Author.Rules.{rules}
 use Rattle.naming_list.specs.Steps.{names_at}
 use Rattle.naming_list.proofs.names_at.Goals as goal
 

@@ -1,6 +1,5 @@
 -- A bundle too long and a table too short come first. Assumes nothing.
-use borrow.Author.Rules.{rules}
-use mathlib.Core.Path.{◌≡◌, sym, ◌∙◌}
+use mathlib.Core.Path.{sym, ◌∙◌}
 use mathlib.Core.Logic.{inl, inr}
 use lib.ListN.{length}
 use Rattle.words.proofs.Buffers.{refuse}

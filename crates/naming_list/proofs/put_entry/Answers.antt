@@ -1,5 +1,4 @@
 -- Two numbers, one after the other. Assumes nothing.
-use borrow.Author.Rules.{rules}
 use Rattle.naming_list.proofs.put_entry.Goals as goal
 
 pub returns : goal.returns

@@ -1,8 +1,7 @@
 -- The loop's invariant: the entries of the samples so far are written. Assumes nothing.
-use borrow.Author.Rules.{rules}
 use native.Mathlib.Omega.{arith}
 use mathlib.Core.Path.{◌≡◌, sym, ap, ◌∙◌}
-use Prim.Native.Nat.{◌+◌, ◌-◌, ◌*◌, ◌≤◌, ◌<◌}
+use Prim.Native.Nat.{◌+◌, ◌*◌, ◌≤◌, ◌<◌}
 use lib.ListN.{length}
 use Rattle.units.specs.Units.{sample}
 use Rattle.samples.specs.Check.{check}
@@ -17,7 +16,7 @@ use Rattle.delivery.proofs.Folds.{content_most}
 use Rattle.naming_list_rules.specs.Naming.{namers_in, list_entry_size}
 use Rattle.naming_list.specs.Steps.{namers_from}
 use Rattle.naming_list.proofs.Namers.{namers_formed}
-use Rattle.naming_list.proofs.Listings.{namers_few, some_formed, Putting, putting_start, putting_length, putting_most, putting_none, putting_room, putting_some, putting_end}
+use Rattle.naming_list.proofs.Listings.{namers_few, some_formed, putting_start, putting_length, putting_most, putting_none, putting_room, putting_some, putting_end}
 use Rattle.naming_list.proofs.put_list.Goals as goal
 use Rattle.naming_list.proofs.put_list.Goals.{After-kept_count, After-put_namers-arg-1, After-slice_known-then-kept_count-ne0-1, In-loop-n}
 

@@ -1,5 +1,4 @@
 -- By whether the unit names the sample. Assumes nothing.
-use borrow.Author.Rules.{rules}
 use mathlib.Core.Path.{refl}
 use Rattle.naming_list.proofs.put_namer.Goals as goal
 

@@ -1,8 +1,7 @@
 -- The loop's invariant: entries of the units so far are counted, and written where there is room for all. Assumes nothing.
-use borrow.Author.Rules.{rules}
 use native.Mathlib.Omega.{arith}
 use mathlib.Core.Path.{◌≡◌, sym, ◌∙◌}
-use Prim.Native.Nat.{ℕ, ◌-◌, ◌≤◌}
+use Prim.Native.Nat.{ℕ, ◌≤◌}
 use lib.ListN.{length}
 use mathlib.Core.Bool.{true, false}
 use Rattle.words.proofs.Tests.{by_bool}
@@ -15,7 +14,7 @@ use Rattle.bundles.specs.Limits.{bundle_most}
 use Rattle.tables.specs.Tables.{layout_in}
 use Rattle.copies.proofs.Rest.{walking_never}
 use Rattle.naming_list.specs.Steps.{names_at}
-use Rattle.naming_list.proofs.Namers.{Looking, looking_start, looking_skip, looking_pass, looking_few, looking_take, looking_count, looking_written}
+use Rattle.naming_list.proofs.Namers.{looking_start, looking_skip, looking_pass, looking_few, looking_take, looking_count, looking_written}
 use Rattle.naming_list.proofs.put_namers.Goals as goal
 use Rattle.naming_list.proofs.put_namers.Goals.{After-item_at-item, After-put_namer-found, In-Aggregator, In-Extractor, In-Unit}
 

@@ -1,9 +1,7 @@
 -- A bundle that is refused is so by its own refusal; the table has room for any. Assumes nothing.
-use borrow.Author.Rules.{rules}
 use native.Mathlib.Omega.{arith}
-use mathlib.Core.Path.{◌≡◌, refl, sym, ap, ◌∙◌}
-use Prim.Native.Nat.{ℕ, zero, suc, ◌+◌, ◌-◌, ◌*◌, ◌≤◌, ◌<◌}
-use lib.ListN.{length, get_or, take, drop}
+use mathlib.Core.Path.{sym, ◌∙◌}
+use lib.ListN.{length}
 use Rattle.words.proofs.Buffers.{refuse_all}
 use Rattle.bundles.specs.Readers.{first_layout}
 use Rattle.filling.proofs.Promises.{table_refuses, table_short}

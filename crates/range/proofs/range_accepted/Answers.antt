@@ -1,9 +1,8 @@
 -- Each return is a case of the answer; nothing is written before both rooms are judged. Assumes nothing.
-use borrow.Author.Rules.{rules}
 use native.Mathlib.Omega.{arith}
-use mathlib.Core.Path.{◌≡◌, refl, sym, ap, ◌∙◌}
-use Prim.Native.Nat.{ℕ, zero, suc, ◌+◌, ◌-◌, ◌*◌, ◌≤◌, ◌<◌}
-use lib.ListN.{length, get_or, take, drop}
+use mathlib.Core.Path.{◌≡◌, refl, sym, ◌∙◌}
+use Prim.Native.Nat.{◌≤◌, ◌<◌}
+use lib.ListN.{length}
 use Rattle.words.proofs.Buffers.{refuse_all}
 use Rattle.bundles.specs.Recordings.{sample_count}
 use Rattle.tables.specs.Tables.{layout_in, recording_in}

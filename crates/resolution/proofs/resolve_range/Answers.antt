@@ -1,9 +1,6 @@
 -- Each return is a case of the answer; nothing is written before all samples are judged and the room is. Assumes nothing.
-use borrow.Author.Rules.{rules}
-use native.Mathlib.Omega.{arith}
-use mathlib.Core.Path.{◌≡◌, refl, sym, ap, ◌∙◌}
-use Prim.Native.Nat.{ℕ, zero, suc, ◌+◌, ◌-◌, ◌*◌, ◌≤◌, ◌<◌}
-use lib.ListN.{length, get_or, take, drop}
+use mathlib.Core.Path.{◌≡◌, sym, ap, ◌∙◌}
+use lib.ListN.{length}
 use Rattle.words.specs.Refusals.{ok}
 use Rattle.words.specs.Buffers.{overwrite}
 use Rattle.words.proofs.Buffers.{refuse, accept}

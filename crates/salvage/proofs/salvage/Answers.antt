@@ -1,7 +1,6 @@
 -- A bundle that is refused is so by its own refusal; the table has room for any. Assumes nothing.
-use borrow.Author.Rules.{rules}
 use native.Mathlib.Omega.{arith}
-use mathlib.Core.Path.{◌≡◌, sym, ◌∙◌}
+use mathlib.Core.Path.{sym, ◌∙◌}
 use lib.ListN.{length}
 use Rattle.words.proofs.Buffers.{refuse_all}
 use Rattle.bundles.specs.Readers.{first_layout}

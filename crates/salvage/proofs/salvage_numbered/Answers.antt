@@ -1,12 +1,10 @@
 -- Each return is a case of the answer; nothing is written before the rooms of the new sample and of the list are judged, and these only after
 -- the naming list's own call. Assumes nothing.
-use borrow.Author.Rules.{rules}
 use native.Mathlib.Omega.{arith}
 use mathlib.Core.Path.{◌≡◌, ap, sym, ◌∙◌}
 use mathlib.Core.Logic.{inl, inr}
-use Prim.Native.Nat.{ℕ, ◌≤◌, ◌<◌}
+use Prim.Native.Nat.{◌≤◌}
 use lib.ListN.{length}
-use Rattle.words.specs.Buffers.{within, Wrote}
 use Rattle.words.proofs.Buffers.{refuse_all}
 use Rattle.numbers.specs.Answers.{answer_of}
 use Rattle.units.specs.Units.{sample}
@@ -16,7 +14,6 @@ use Rattle.resolution_rules.specs.Resolving.{sample_of}
 use Rattle.resolution_rules.specs.Calls.{number_fault}
 use Rattle.delivery.proofs.Steps.{sample_from}
 use Rattle.delivery.proofs.Folds.{content_most}
-use Rattle.naming_list_rules.specs.Naming.{names}
 use Rattle.naming_list.proofs.Listings.{names_beside}
 use Rattle.salvage.proofs.Answers.{numbered_bad, numbered_short, names_refused, names_done, numbered_done}
 use Rattle.salvage.proofs.salvage_numbered.Goals as goal

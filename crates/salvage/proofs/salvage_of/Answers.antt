@@ -1,10 +1,6 @@
 -- Each return is a case of the answer; nothing is written before both rooms are judged. Assumes nothing.
-use borrow.Author.Rules.{rules}
 use native.Mathlib.Omega.{arith}
-use mathlib.Core.Path.{◌≡◌, sym, ◌∙◌}
 use mathlib.Core.Logic.{inl, inr}
-use Prim.Native.Nat.{ℕ, ◌≤◌, ◌<◌}
-use lib.ListN.{length}
 use Rattle.words.proofs.Buffers.{refuse_all}
 use Rattle.units.specs.Units.{sample}
 use Rattle.salvage.proofs.Answers.{of_long, of_short, of_done}

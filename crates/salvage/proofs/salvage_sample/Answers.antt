@@ -1,6 +1,5 @@
 -- 4, then 11, then the sample of a track. Assumes nothing.
-use borrow.Author.Rules.{rules}
-use mathlib.Core.Path.{◌≡◌, sym, ◌∙◌}
+use mathlib.Core.Path.{sym, ◌∙◌}
 use Rattle.words.proofs.Buffers.{refuse_all}
 use Rattle.salvage.proofs.Answers.{alone_kind, alone_size, alone_known}
 use Rattle.salvage.proofs.salvage_sample.Goals as goal

@@ -1,8 +1,7 @@
 -- The loop's invariant: p is the place of the track entry i. Assumes nothing.
-use borrow.Author.Rules.{rules}
 use native.Mathlib.Omega.{arith}
 use mathlib.Core.Path.{◌≡◌, refl, sym, ap, ◌∙◌}
-use Prim.Native.Nat.{◌+◌, ◌-◌, ◌≤◌, ◌<◌}
+use Prim.Native.Nat.{◌+◌, ◌-◌}
 use Rattle.words.specs.Walks.{skip}
 use Rattle.words.proofs.Entries.{skip_snoc}
 use Rattle.bundles.specs.Tracks.{tracks_at, track_end, track_fault}

@@ -1,13 +1,8 @@
 -- The loop's invariant: p is the place of the track entry i. Assumes nothing.
-use native.Mathlib.Omega.{arith}
-use mathlib.Core.Path.{◌≡◌, refl, sym, ap, ◌∙◌}
-use Prim.Native.Nat.{◌+◌, ◌-◌, ◌≤◌, ◌<◌}
+use mathlib.Core.Path.{◌≡◌}
+use Prim.Native.Nat.{◌-◌, ◌≤◌, ◌<◌}
 use Rattle.words.specs.Walks.{skip}
-use Rattle.words.proofs.Entries.{skip_snoc}
-use Rattle.bundles.specs.Tracks.{tracks_at, track_end, track_fault}
-use Rattle.bundles.proofs.Sections.{TrackGood, track_good, accepted}
-use Rattle.filling.proofs.Rows.{track_sound}
-use Rattle.contents.proofs.Places.{place_at}
+use Rattle.bundles.specs.Tracks.{tracks_at, track_end}
 use Rattle.contents.proofs.tracks.place.Given as goal
 
 abbrev pub invariant-loop-i : goal.invariant-loop-i

@@ -1,5 +1,4 @@
 -- The field lies in the entry's head. Assumes nothing.
-use borrow.Author.Rules.{rules}
 use native.Mathlib.Omega.{arith}
 use Rattle.bundles.proofs.Sections.{track_good}
 use Rattle.contents.proofs.tracks.record_length.Goals as goal

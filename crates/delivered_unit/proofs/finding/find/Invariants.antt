@@ -1,12 +1,9 @@
 -- The loop's invariant: the units passed are not yet i. The steps fall by what is left. Assumes nothing.
-use native.Mathlib.Omega.{arith}
-use mathlib.Core.Path.{sym, ◌∙◌}
 use Rattle.units.specs.Units.{sample}
 use Rattle.tables.specs.Tables.{recording_in}
 use Rattle.delivery.proofs.Falling.{bound}
-use Rattle.delivery.proofs.Rests.{moved_less, unit_less}
-use Rattle.delivery.proofs.Folds.{Folded, folded_moved}
-use Rattle.delivered_unit.proofs.Seeks.{Seeks, seeks_start, seeks_take, seeks_none, seeks_found}
+use Rattle.delivery.proofs.Folds.{Folded}
+use Rattle.delivered_unit.proofs.Seeks.{Seeks}
 use Rattle.delivered_unit.proofs.finding.find.Given as goal
 
 abbrev pub invariant-loop-d : goal.invariant-loop-d

@@ -1,5 +1,4 @@
 -- The unit alone. Assumes nothing.
-use borrow.Author.Rules.{rules}
 use Rattle.delivered_unit.proofs.Answered.{span_answer_lem}
 use Rattle.delivered_unit.proofs.finding.find_unit.Goals as goal
 

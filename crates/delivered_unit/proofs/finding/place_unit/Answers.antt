@@ -1,5 +1,4 @@
 -- A refusal is passed on; a unit that was found lies in its sample, and its sample in the bundle. Assumes nothing.
-use borrow.Author.Rules.{rules}
 use native.Mathlib.Omega.{arith}
 use mathlib.Core.Path.{◌≡◌, sym, ap, ◌∙◌}
 use Rattle.words.specs.Refusals.{ok}

@@ -1,5 +1,4 @@
 -- A sample that delivers the unit is good. Assumes nothing.
-use borrow.Author.Rules.{rules}
 use mathlib.Core.Path.{◌≡◌, sym, ap, ◌∙◌}
 use Rattle.words.specs.Refusals.{ok}
 use Rattle.tables.specs.Tables.{recording_in}

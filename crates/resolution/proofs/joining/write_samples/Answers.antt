@@ -1,11 +1,9 @@
 -- The invariant: what the samples up to n give is written. Assumes nothing.
-use borrow.Author.Rules.{rules}
 use native.Mathlib.Omega.{arith}
-use mathlib.Core.Path.{◌≡◌, refl, sym, ap, ◌∙◌}
-use Prim.Native.Nat.{ℕ, zero, suc, ◌+◌, ◌-◌, ◌*◌, ◌≤◌, ◌<◌}
-use lib.ListN.{length, get_or, take, drop}
+use mathlib.Core.Path.{refl}
+use Prim.Native.Nat.{◌+◌, ◌-◌}
 use Rattle.tables.specs.Tables.{recording_in}
-use Rattle.resolution.proofs.Ranges.{Joining, joining_start, joining_length, joining_room, joining_more, joining_end}
+use Rattle.resolution.proofs.Ranges.{joining_start, joining_length, joining_room, joining_more, joining_end}
 use Rattle.resolution.proofs.joining.write_samples.Goals as goal
 
 pub overflow_sub-n : goal.overflow_sub-n

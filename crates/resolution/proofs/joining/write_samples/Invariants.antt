@@ -1,10 +1,7 @@
 -- The invariant: what the samples up to n give is written. Assumes nothing.
-use native.Mathlib.Omega.{arith}
-use mathlib.Core.Path.{◌≡◌, refl, sym, ap, ◌∙◌}
-use Prim.Native.Nat.{ℕ, zero, suc, ◌+◌, ◌-◌, ◌*◌, ◌≤◌, ◌<◌}
-use lib.ListN.{length, get_or, take, drop}
+use Prim.Native.Nat.{◌-◌}
 use Rattle.tables.specs.Tables.{recording_in}
-use Rattle.resolution.proofs.Ranges.{Joining, joining_start, joining_length, joining_room, joining_more, joining_end}
+use Rattle.resolution.proofs.Ranges.{Joining}
 use Rattle.resolution.proofs.joining.write_samples.Given as goal
 
 abbrev pub invariant-loop-n : goal.invariant-loop-n

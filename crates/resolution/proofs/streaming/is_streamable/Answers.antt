@@ -1,5 +1,4 @@
 -- The unit lies in its sample. Assumes nothing.
-use borrow.Author.Rules.{rules}
 use native.Mathlib.Omega.{arith}
 use native.Mathlib.Nat.{add-sub_cancel_left}
 use mathlib.Core.Path.{◌≡◌, ap, ◌∙◌}

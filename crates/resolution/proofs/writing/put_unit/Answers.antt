@@ -1,5 +1,4 @@
 -- The 4 bytes in front, then the unit: two writes, one after the other. Assumes nothing.
-use borrow.Author.Rules.{rules}
 use native.Mathlib.Omega.{arith}
 use mathlib.Core.Path.{◌≡◌, sym, ap}
 use lib.ListN.{length}

@@ -1,8 +1,7 @@
 -- The loop's invariant: what is left of the walk over the included units gives their verdict. Assumes nothing.
-use borrow.Author.Rules.{rules}
 use native.Mathlib.Omega.{arith}
 use mathlib.Core.Path.{◌≡◌, sym, ◌∙◌}
-use Prim.Native.Nat.{ℕ, ◌+◌, ◌-◌, ◌≤◌}
+use Prim.Native.Nat.{◌+◌, ◌≤◌}
 use lib.ListN.{length}
 use Rattle.words.proofs.Lists.{has_from}
 use Rattle.words.proofs.Refusals.{at_none, at_refused}
@@ -10,8 +9,8 @@ use Rattle.units.specs.Units.{Sample, sample, next}
 use Rattle.units.specs.Aggregators.{included_start}
 use Rattle.units.specs.Rules.{Whole}
 use Rattle.units.proofs.Units.{whole_end, whole_aggregator, next_after, included_rules}
-use Rattle.units.proofs.Walks.{walk, walk_none, walk_here, walk_on}
-use Rattle.samples.proofs.Walks.{included_judge, next_is, top_whole}
+use Rattle.units.proofs.Walks.{walk_none, walk_here, walk_on}
+use Rattle.samples.proofs.Walks.{next_is, top_whole}
 use Rattle.salvage.proofs.fates.has_fault_inside.Goals as goal
 use Rattle.salvage.proofs.fates.has_fault_inside.Goals.{After-number, Else-u-ne0, Start}
 

@@ -1,16 +1,10 @@
 -- The loop's invariant: what is left of the walk over the included units gives their verdict. Assumes nothing.
-use native.Mathlib.Omega.{arith}
-use mathlib.Core.Path.{◌≡◌, sym, ◌∙◌}
-use Prim.Native.Nat.{ℕ, ◌+◌, ◌-◌, ◌≤◌}
-use lib.ListN.{length}
-use Rattle.words.proofs.Lists.{has_from}
-use Rattle.words.proofs.Refusals.{at_none, at_refused}
-use Rattle.units.specs.Units.{Sample, sample, next}
+use mathlib.Core.Path.{◌≡◌}
+use Prim.Native.Nat.{◌-◌}
+use Rattle.units.specs.Units.{sample}
 use Rattle.units.specs.Aggregators.{included_start}
-use Rattle.units.specs.Rules.{Whole}
-use Rattle.units.proofs.Units.{whole_end, whole_aggregator, next_after, included_rules}
-use Rattle.units.proofs.Walks.{walk, walk_none, walk_here, walk_on}
-use Rattle.samples.proofs.Walks.{included_judge, next_is, top_whole}
+use Rattle.units.proofs.Walks.{walk}
+use Rattle.samples.proofs.Walks.{included_judge}
 use Rattle.salvage.proofs.fates.has_fault_inside.Given as goal
 
 abbrev pub invariant-loop-q : goal.invariant-loop-q

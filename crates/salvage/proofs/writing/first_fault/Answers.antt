@@ -1,7 +1,5 @@
 -- The place of the first walk's refusal. Assumes nothing.
-use borrow.Author.Rules.{rules}
-use mathlib.Core.Path.{◌≡◌, sym, ap, ◌∙◌}
-use Rattle.units.specs.Units.{sample}
+use mathlib.Core.Path.{sym, ap, ◌∙◌}
 use Rattle.samples.specs.Check.{answer_of}
 use Rattle.salvage_rules.proofs.Cut.{fault_none, fault_some}
 use Rattle.salvage.proofs.writing.first_fault.Goals as goal

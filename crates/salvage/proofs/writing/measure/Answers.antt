@@ -1,8 +1,7 @@
 -- The loop's invariant: what is counted so far, and what is left, are all. Assumes nothing.
-use borrow.Author.Rules.{rules}
 use native.Mathlib.Omega.{arith}
-use mathlib.Core.Path.{◌≡◌, sym, ◌∙◌}
-use Prim.Native.Nat.{ℕ, ◌+◌, ◌-◌, ◌*◌, ◌≤◌, ◌<◌}
+use mathlib.Core.Path.{◌≡◌}
+use Prim.Native.Nat.{◌+◌, ◌-◌, ◌*◌, ◌≤◌}
 use lib.ListN.{length}
 use Rattle.units.specs.Units.{Sample, sample, next}
 use Rattle.units.specs.Rules.{Whole}
@@ -10,7 +9,7 @@ use Rattle.units.proofs.Units.{whole_end, next_after}
 use Rattle.samples.proofs.Walks.{next_is}
 use Rattle.salvage_rules.specs.Salvage.{change_size}
 use Rattle.salvage.specs.Steps.{left_size, list_size}
-use Rattle.salvage.proofs.Loops.{Measuring, measuring_start, measuring_fits, measuring_next, measuring_end, walking_whole, walking_has}
+use Rattle.salvage.proofs.Loops.{measuring_start, measuring_fits, measuring_next, measuring_end, walking_whole, walking_has}
 use Rattle.salvage.proofs.writing.measure.Goals as goal
 use Rattle.salvage.proofs.writing.measure.Goals.{After-fate_of-f, After-left_size-left, After-number, In-loop-at}
 

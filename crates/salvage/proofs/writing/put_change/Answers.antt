@@ -1,6 +1,4 @@
 -- Two numbers, one after the other. Assumes nothing.
-use borrow.Author.Rules.{rules}
-use native.Mathlib.Omega.{arith}
 use Rattle.salvage.proofs.Filled.{change_put}
 use Rattle.salvage.proofs.writing.put_change.Goals as goal
 

@@ -1,10 +1,8 @@
 -- By what becomes of the unit. Assumes nothing.
-use borrow.Author.Rules.{rules}
 use native.Mathlib.Omega.{arith}
 use Prim.Native.Nat.{ℕ, ◌+◌, ◌≤◌}
 use mathlib.Core.Path.{◌≡◌, refl, sym, ◌∙◌}
-use mathlib.Core.List.{List, [], ◌∷◌, ◌++◌, append-nil}
-use lib.ListN.{length}
+use mathlib.Core.List.{List, [], ◌∷◌, append-nil}
 use Rattle.words.specs.Lists.{each}
 use Rattle.words.specs.Buffers.{put}
 use Rattle.units.specs.Units.{Sample}

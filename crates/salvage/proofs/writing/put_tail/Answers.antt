@@ -1,5 +1,4 @@
 -- By one test. Assumes nothing.
-use borrow.Author.Rules.{rules}
 use borrow.Author.Tests.{lt-ltb, le-ltb}
 use Rattle.salvage.proofs.writing.put_tail.Goals as goal
 

@@ -1,13 +1,11 @@
 -- Nothing where the unit is dropped, three parts where additional_bytes are set to 0, else one. Assumes nothing.
-use borrow.Author.Rules.{rules}
 use native.Mathlib.Omega.{arith}
 use mathlib.Core.Path.{◌≡◌, refl, sym, ◌∙◌}
-use mathlib.Core.Bool.{true, false}
-use Prim.Native.Nat.{ℕ, ◌+◌, ◌-◌, ◌≤◌}
+use mathlib.Core.Bool.{true}
+use Prim.Native.Nat.{◌+◌, ◌≤◌}
 use lib.ListN.{length}
 use Rattle.words.proofs.Lists.{has_from}
-use Rattle.units.specs.Units.{Sample, sample, next, is_aggregator}
-use Rattle.units.specs.Aggregators.{included_start}
+use Rattle.units.specs.Units.{Sample, sample, is_aggregator}
 use Rattle.units.specs.Rules.{Whole}
 use Rattle.units.proofs.Units.{whole_end, whole_aggregator}
 use Rattle.samples.proofs.Walks.{top_whole}

@@ -1,9 +1,6 @@
 -- The units before the first top-level fault, and the drop of the tail. Assumes nothing.
-use borrow.Author.Rules.{rules}
 use native.Mathlib.Omega.{arith}
-use mathlib.Core.Path.{◌≡◌, ap, sym, ◌∙◌}
-use Prim.Native.Nat.{ℕ, ◌+◌, ◌≤◌, ◌<◌}
-use lib.ListN.{length}
+use mathlib.Core.Path.{ap, sym, ◌∙◌}
 use Rattle.words.specs.Buffers.{overwrite}
 use Rattle.salvage.proofs.Answers.{cut_top, cut_length, new_is, list_fits, tail_fits, list_written}
 use Rattle.salvage.proofs.writing.write.Goals as goal

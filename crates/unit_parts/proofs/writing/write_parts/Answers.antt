@@ -1,15 +1,11 @@
 -- The loop's invariant: where the units passed stand is written. The steps fall by what is left. Assumes nothing.
-use borrow.Author.Rules.{rules}
 use native.Mathlib.Omega.{arith}
 use mathlib.Core.Path.{sym, ◌∙◌}
 use Prim.Native.Nat.{◌+◌, ◌≤◌}
 use lib.ListN.{length}
-use Rattle.units.specs.Units.{sample}
-use Rattle.tables.specs.Tables.{recording_in}
-use Rattle.delivery.proofs.Falling.{bound}
 use Rattle.delivery.proofs.Rests.{moved_less, unit_less}
-use Rattle.delivery.proofs.Folds.{Folded, folded_moved}
-use Rattle.unit_parts.proofs.Puts.{Puts, puts_start, puts_length, puts_end, puts_inside, puts_room, puts_take}
+use Rattle.delivery.proofs.Folds.{folded_moved}
+use Rattle.unit_parts.proofs.Puts.{puts_start, puts_length, puts_end, puts_inside, puts_room, puts_take}
 use Rattle.unit_parts.proofs.writing.write_parts.Goals as goal
 use Rattle.unit_parts.proofs.writing.write_parts.Goals.{In-Unit}
 

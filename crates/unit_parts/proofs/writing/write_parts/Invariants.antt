@@ -1,14 +1,9 @@
 -- The loop's invariant: where the units passed stand is written. The steps fall by what is left. Assumes nothing.
-use native.Mathlib.Omega.{arith}
-use mathlib.Core.Path.{sym, ◌∙◌}
-use Prim.Native.Nat.{◌+◌, ◌≤◌}
-use lib.ListN.{length}
 use Rattle.units.specs.Units.{sample}
 use Rattle.tables.specs.Tables.{recording_in}
 use Rattle.delivery.proofs.Falling.{bound}
-use Rattle.delivery.proofs.Rests.{moved_less, unit_less}
-use Rattle.delivery.proofs.Folds.{Folded, folded_moved}
-use Rattle.unit_parts.proofs.Puts.{Puts, puts_start, puts_length, puts_end, puts_inside, puts_room, puts_take}
+use Rattle.delivery.proofs.Folds.{Folded}
+use Rattle.unit_parts.proofs.Puts.{Puts}
 use Rattle.unit_parts.proofs.writing.write_parts.Given as goal
 
 abbrev pub invariant-loop-d : goal.invariant-loop-d
