@@ -3,7 +3,7 @@
 --   table_whole    a table of the most numbers, filled from an accepted bundle, gives its recording
 --   lines_whole    an audit into a buffer for the most lines goes by the bundle alone
 use Prim.Native.Nat.{ℕ, ◌*◌, ◌≤◌}
-use mathlib.Core.Path.{◌≡◌, refl, sym, ap, ◌∙◌}
+use mathlib.Core.Path.{◌≡◌, ◌∙◌}
 use mathlib.Core.List.{List}
 use native.Mathlib.Omega.{arith}
 use lib.ListN.{length}

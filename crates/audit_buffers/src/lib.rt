@@ -1,5 +1,6 @@
 // Buffers that are enough for the table and the audit of any bundle.
 #![tactic(auto)]
+
 ghost use Rattle.std.specs.Prelude.{◌≡◌, length};
 ghost use Rattle.words.specs.Refusals.{ok};
 ghost use Rattle.words.specs.Buffers.{Wrote};

@@ -1,14 +1,19 @@
 // Audits the bundle on standard input, of at most 65,536 bytes.
 #![tactic(auto)]
-use libc::STDIN_FILENO;
-use program_input::limit;
 
-fn main() {
+use program_input::{filled, limit};
+use std::io;
+use std::io::{BufWriter, Write};
+
+fn main(rt: HostRuntime) -> io::Result<()> {
+    let mut reader = rt.reader();
+    let mut to = BufWriter::new(rt.alloc(), io::writer(&rt))?;
     let mut buffer = [0u8; limit::MOST];
-    let n = io::read_full(STDIN_FILENO, &mut buffer);
-    if limit::is_too_big(n) {
-        report::print_too_big();
-        return;
+    let n = filled::read_full(&mut reader, &mut buffer)?;
+    if limit::is_too_big(&mut reader, n)? {
+        report::print_too_big(&mut to)?;
+        return to.flush();
     }
-    report::print_audit(&buffer[..n]);
+    report::print_audit(&mut to, &buffer[..n])?;
+    to.flush()
 }

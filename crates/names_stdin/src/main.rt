@@ -1,34 +1,41 @@
 // Prints which extractors name a sample: the number of the sample is the argument, the bundle is on standard input, of at most 65,536 bytes.
 #![tactic(auto)]
-use libc::{STDERR_FILENO, STDIN_FILENO};
+
 use numbers::SampleNumber;
 use program_input::decimal::MaybeNumber;
-use program_input::{decimal, limit};
+use program_input::{decimal, filled, limit};
+use std::env::Env;
+use std::io;
+use std::io::{BufWriter, Write};
 
 // The first argument. One that is missing or longer than 4,096 bytes is no number.
-fn argument() -> MaybeNumber {
-    let mut word = io::buffer();
-    let n = os::arg(1, &mut word);
-    decimal::number_of(&word[..n])
+fn argument(rt: &impl Env) -> MaybeNumber {
+    let mut word = [0u8; 4096];
+    match rt.arg(1, &mut word) {
+        Ok(n) => decimal::number_of(&word[..n]),
+        Err(_) => MaybeNumber::Nothing,
+    }
 }
 
 // The naming list of sample s of the bundle on standard input.
-fn print_names(s: SampleNumber) {
+fn print_names<W: Write>(rt: &impl Input, to: &mut W, s: SampleNumber) -> io::Result<()> {
+    let mut reader = rt.reader();
     let mut buffer = [0u8; limit::MOST];
-    let n = io::read_full(STDIN_FILENO, &mut buffer);
-    if limit::is_too_big(n) {
-        report::print_too_big();
-        return;
+    let n = filled::read_full(&mut reader, &mut buffer)?;
+    if limit::is_too_big(&mut reader, n)? {
+        return report::print_too_big(to);
     }
-    report::print_names(&buffer[..n], s);
+    report::print_names(to, &buffer[..n], s)
 }
 
-fn main() {
-    let asked = argument();
+fn main(rt: HostRuntime) -> io::Result<()> {
+    let asked = argument(&rt);
     match asked {
-        MaybeNumber::Number(n) => print_names(SampleNumber(n)),
-        MaybeNumber::Nothing => {
-            io::write_all(STDERR_FILENO, b"usage: names NUMBER < BUNDLE\n");
+        MaybeNumber::Number(n) => {
+            let mut to = BufWriter::new(rt.alloc(), io::writer(&rt))?;
+            print_names(&rt, &mut to, SampleNumber(n))?;
+            to.flush()
         }
+        MaybeNumber::Nothing => rt.eprintln("usage: names NUMBER < BUNDLE"),
     }
 }

@@ -4,18 +4,16 @@
 --   read_start, read_digit      nothing is read; one digit more
 --   read_low, read_high         a byte that is no digit
 --   read_nothing, read_end      there is no digit; all is read
-use Prim.Native.Nat.{ℕ, suc, ◌+◌, ◌-◌, ◌*◌, ◌≤◌, ◌<◌}
-use mathlib.Core.Path.{◌≡◌, refl, ap, sym, ◌∙◌}
-use mathlib.Core.Bool.{Bool, true, false, ◌||◌, ◌&&◌, not}
-use mathlib.Core.List.{List, [], ◌∷◌}
+use Prim.Native.Nat.{ℕ, ◌+◌, ◌≤◌, ◌<◌}
+use mathlib.Core.Path.{◌≡◌, refl, ◌∙◌}
+use mathlib.Core.Bool.{true, false, not}
+use mathlib.Core.List.{List}
 use native.Mathlib.Omega.{arith}
 use native.Mathlib.Numerals.{add-one}
 use borrow.Author.Tests.{le-leb, lt-leb, eq-eqb, ne_eqb}
 use lib.ListN.{length, get_or, drop}
 use lib.Seq.{drop-cons, drop-length}
-use Rattle.words.specs.Tests.{◌≤?◌}
 use Rattle.words.specs.Lists.{some}
-use Rattle.words.proofs.Tests.{tests}
 use Rattle.program_input.specs.Decimal.{is_digit, with_digit, number_from, number_in}
 use Rattle.program_input.specs.declared.decimal.MaybeNumber.TheVariants.{Number, Nothing}
 

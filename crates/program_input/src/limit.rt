@@ -1,8 +1,10 @@
 // The limit of the programs' input.
-ghost use Rattle.std.specs.Prelude.{◌≡◌, false, ◌<◌};
+ghost use Rattle.std.specs.Prelude.{◌≡◌, false, ◌<◌, Ok, IfSome, IfOk, length};
 ghost use Rattle.program_input.specs.Input.{input_most, too_big};
 
-use libc::STDIN_FILENO;
+use crate::filled;
+use std::io;
+use std::io::Read;
 
 // How many bytes the programs take.
 pub const MOST: usize = 65536;
@@ -17,15 +19,16 @@ pub fn too_big(n: usize, more: usize) -> bool
     0 < more
 }
 
-// Whether standard input, of which n bytes were read, has more than the programs take. It has not where n is smaller; where n is not,
-// that goes by whether one byte more can be read, of which no contract can speak.
-pub fn is_too_big(n: usize) -> bool
-    ensures { n < input_most → result ≡ false }
+// Whether the reader's input, of which n bytes were read, has more than the programs take. It has not where n is smaller, and no read is
+// tried then; where n is not, that goes by whether one byte more can be read, which is known of a reader whose bytes are known.
+pub fn is_too_big<R: Read>(reader: &mut R, n: usize) -> io::Result<bool>
+    ensures small { n < input_most → result ≡ Ok false }
+    ensures known { IfSome (R.remaining reader.old) (λ s. IfOk result (λ r. r ≡ too_big n (length s))) }
 {
     let mut more: usize = 0;
     if MOST <= n {
         let mut next = [0u8; 1];
-        more = io::read_full(STDIN_FILENO, &mut next);
+        more = filled::read_full(reader, &mut next)?;
     }
-    too_big(n, more)
+    Ok(too_big(n, more))
 }

@@ -1,5 +1,6 @@
-// The text of the two programs, on standard output. The libraries find what is said; no contract can speak of what is written.
+// The text of the two programs, to the writer that is lent. The libraries find what is said; no contract speaks of what is written.
 #![tactic(auto)]
+
 mod audit_text;
 mod names_text;
 mod text;

@@ -3,21 +3,23 @@
 use crate::{print, request};
 use filling::Filled;
 use numbers::{SampleNumber, TrackNumber};
+use std::io;
+use std::io::Write;
 
-pub(crate) fn answer(fields: &[u8]) {
+pub(crate) fn answer<W: Write>(to: &mut W, fields: &[u8]) -> io::Result<()> {
     let b = request::bytes(fields);
     let rest = request::skip_bytes(fields);
     let n = request::number(rest, 0);
     let k = request::number(rest, 1);
     let mut t = [0u64; tables::TABLE_SIZE];
     match filling::fill_table(b, &mut t) {
-        Filled::Refused(r) => print::refusal(r),
+        Filled::Refused(r) => print::refusal(to, r)?,
         Filled::Done => {
             let search = links::find_base(&t, SampleNumber(n), TrackNumber(k));
-            print::text(b"OK");
-            print::number(search.found);
-            print::number(search.rounds);
+            print::text(to, b"OK")?;
+            print::number(to, search.found)?;
+            print::number(to, search.rounds)?;
         }
     }
-    print::end();
+    print::end(to)
 }

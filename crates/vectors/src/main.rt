@@ -1,5 +1,6 @@
 // Answers requests from standard input, one line each. The form of a request is in tests/vectors/README.md.
 #![tactic(auto)]
+
 mod audited;
 mod base;
 mod bundle;
@@ -19,76 +20,82 @@ mod salvaged;
 mod unit;
 mod writerec;
 
-use libc::STDIN_FILENO;
+use program_input::filled;
+use std::io;
+use std::io::{BufWriter, Read, Write};
 
 // At most this many requests are answered: a proved loop has to end, and nothing says that the input does.
 const REQUESTS: usize = 1000000;
 
 // Answers the request of n bytes at the start of the buffer: its kind, then its fields.
-fn answer(buffer: &[u8; 65536], n: usize) {
+fn answer<W: Write>(to: &mut W, buffer: &[u8; 65536], n: usize) -> io::Result<()> {
     let s = request::part(buffer, 0, n);
     let kind = numbers::byte(s, 0);
     let fields = request::skip(s, 1);
     match kind {
-        1 => record::answer(fields),
-        2 => writerec::answer(fields),
-        3 => check::answer(fields),
-        4 => bundle::answer(fields),
-        5 => resolve::resolve(fields),
-        6 => unit::answer(fields),
-        7 => names::answer(fields),
-        8 => replace::answer(fields),
-        9 => audited::answer(fields),
-        10 => report::print_audit(request::bytes(fields)),
-        11 => entries::counts(fields),
-        12 => entries::track(fields),
-        13 => entries::reference(fields),
-        14 => entries::sample(fields),
-        15 => parts::answer(fields),
-        16 => named::answer(fields),
-        17 => resolve::stream(fields),
-        18 => from_stream::answer(fields),
-        19 => base::answer(fields),
-        20 => salvaged::sample(fields),
-        21 => salvaged::bundle(fields),
-        22 => ranged::answer(fields),
-        _ => print::line(b"unknown request"),
+        1 => record::answer(to, fields),
+        2 => writerec::answer(to, fields),
+        3 => check::answer(to, fields),
+        4 => bundle::answer(to, fields),
+        5 => resolve::resolve(to, fields),
+        6 => unit::answer(to, fields),
+        7 => names::answer(to, fields),
+        8 => replace::answer(to, fields),
+        9 => audited::answer(to, fields),
+        10 => report::print_audit(to, request::bytes(fields)),
+        11 => entries::counts(to, fields),
+        12 => entries::track(to, fields),
+        13 => entries::reference(to, fields),
+        14 => entries::sample(to, fields),
+        15 => parts::answer(to, fields),
+        16 => named::answer(to, fields),
+        17 => resolve::stream(to, fields),
+        18 => from_stream::answer(to, fields),
+        19 => base::answer(to, fields),
+        20 => salvaged::sample(to, fields),
+        21 => salvaged::bundle(to, fields),
+        22 => ranged::answer(to, fields),
+        _ => print::line(to, b"unknown request"),
     }
 }
 
-// Answers the next request, and says whether there may be one more.
-fn answer_next() -> bool {
+// Answers the next request, and says whether there may be one more. Each answer is out before the next request is read.
+fn answer_next<R: Read, W: Write>(reader: &mut R, to: &mut W) -> io::Result<bool> {
     let mut head = [0u8; 4];
-    let got = io::read_full(STDIN_FILENO, &mut head);
+    let got = filled::read_full(reader, &mut head)?;
     if got == 0 {
-        return false;
+        return Ok(false);
     }
     if got < 4 {
-        print::line(b"request cut");
-        return false;
+        print::line(to, b"request cut")?;
+        return Ok(false);
     }
     let n = numbers::number(&head, 0, 4);
     let mut buffer = [0u8; 65536];
     if buffer.len() < n {
-        print::line(b"request too long");
-        return false;
+        print::line(to, b"request too long")?;
+        return Ok(false);
     }
-    let there = io::read_full(STDIN_FILENO, &mut buffer[0..n]);
+    let there = filled::read_full(reader, &mut buffer[0..n])?;
     if there < n {
-        print::line(b"request cut");
-        return false;
+        print::line(to, b"request cut")?;
+        return Ok(false);
     }
-    answer(&buffer, n);
-    true
+    answer(to, &buffer, n)?;
+    to.flush()?;
+    Ok(true)
 }
 
-fn main() {
+fn main(rt: HostRuntime) -> io::Result<()> {
+    let mut reader = rt.reader();
+    let mut to = BufWriter::new(rt.alloc(), io::writer(&rt))?;
     let mut left = REQUESTS;
     while 0 < left {
-        if !answer_next() {
-            return;
+        if !answer_next(&mut reader, &mut to)? {
+            return to.flush();
         }
         left -= 1;
     }
-    print::line(b"too many requests");
+    print::line(&mut to, b"too many requests")?;
+    to.flush()
 }

@@ -2,18 +2,20 @@
 use crate::{print, request};
 use named_sample::NamedSample;
 use numbers::{ByteOffset, SampleNumber};
+use std::io;
+use std::io::Write;
 
-pub(crate) fn answer(fields: &[u8]) {
+pub(crate) fn answer<W: Write>(to: &mut W, fields: &[u8]) -> io::Result<()> {
     let b = request::bytes(fields);
     let rest = request::skip_bytes(fields);
     let n = request::number(rest, 0);
     let at = request::number(rest, 1);
     match named_sample::named_sample(b, SampleNumber(n), ByteOffset(at)) {
-        NamedSample::Refused(r) => print::refusal(r),
+        NamedSample::Refused(r) => print::refusal(to, r)?,
         NamedSample::Sample(s) => {
-            print::text(b"OK");
-            print::number(s.0);
+            print::text(to, b"OK")?;
+            print::number(to, s.0)?;
         }
     }
-    print::end();
+    print::end(to)
 }

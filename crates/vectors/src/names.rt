@@ -1,17 +1,18 @@
 // The request `names`: the bytes of a bundle, a sample number, and the room for the naming list.
 use crate::{print, request};
 use numbers::SampleNumber;
+use std::io;
+use std::io::Write;
 
-pub(crate) fn answer(fields: &[u8]) {
+pub(crate) fn answer<W: Write>(to: &mut W, fields: &[u8]) -> io::Result<()> {
     let b = request::bytes(fields);
     let rest = request::skip_bytes(fields);
     let n = request::number(rest, 0);
     let room = request::number(rest, 1);
     let mut out = [print::FILL; 100000];
     if out.len() < room {
-        print::line(b"room too large");
-        return;
+        return print::line(to, b"room too large");
     }
     let listed = naming_list::names(b, SampleNumber(n), &mut out[0..room]);
-    print::answered(listed, &out);
+    print::answered(to, listed, &out)
 }

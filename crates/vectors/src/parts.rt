@@ -1,20 +1,23 @@
 // The request `units`: the bytes of a bundle, a sample number, and the room for where its delivered units stand, in numbers.
 use crate::{print, request};
 use numbers::{SampleNumber, Written};
+use std::io;
+use std::io::Write;
 
 // What the numbers are before they are lent.
 const FILL: u64 = 0xEEEEEEEEEEEEEEEE;
 
 // The first n numbers.
-fn print_first(s: &[u64], n: usize) {
+fn print_first<W: Write>(to: &mut W, s: &[u64], n: usize) -> io::Result<()> {
     let mut i: usize = 0;
     while i < s.len() {
         if i == n {
-            return;
+            return Ok(());
         }
-        print::number(s[i] as usize);
+        print::number(to, s[i] as usize)?;
         i += 1;
     }
+    Ok(())
 }
 
 // Whether the numbers from a place on are as they were before the call.
@@ -30,38 +33,37 @@ fn is_kept(s: &[u64], from: usize) -> bool {
 }
 
 // A word where numbers changed from a place on, and the end of the line.
-fn end(s: &[u64], from: usize) {
+fn end<W: Write>(to: &mut W, s: &[u64], from: usize) -> io::Result<()> {
     if !is_kept(s, from) {
-        print::text(b" CHANGED");
+        print::text(to, b" CHANGED")?;
     }
-    print::end();
+    print::end(to)
 }
 
 // What was answered, and whether the rest of the numbers is as it was.
-fn print_placed(placed: Written, out: &[u64; 1024]) {
+fn print_placed<W: Write>(to: &mut W, placed: Written, out: &[u64; 1024]) -> io::Result<()> {
     match placed {
         Written::Refused(r) => {
-            print::refusal(r);
-            end(out, 0);
+            print::refusal(to, r)?;
+            end(to, out, 0)
         }
         Written::Count(n) => {
-            print::text(b"OK");
-            print_first(out, n);
-            end(out, n);
+            print::text(to, b"OK")?;
+            print_first(to, out, n)?;
+            end(to, out, n)
         }
     }
 }
 
-pub(crate) fn answer(fields: &[u8]) {
+pub(crate) fn answer<W: Write>(to: &mut W, fields: &[u8]) -> io::Result<()> {
     let b = request::bytes(fields);
     let rest = request::skip_bytes(fields);
     let n = request::number(rest, 0);
     let room = request::number(rest, 1);
     let mut out = [FILL; 1024];
     if out.len() < room {
-        print::line(b"room too large");
-        return;
+        return print::line(to, b"room too large");
     }
     let placed = unit_parts::unit_parts(b, SampleNumber(n), &mut out[0..room]);
-    print_placed(placed, &out);
+    print_placed(to, placed, &out)
 }

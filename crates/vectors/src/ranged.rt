@@ -2,27 +2,34 @@
 use crate::{print, request};
 use numbers::SampleNumber;
 use range::Ranged;
+use std::io;
+use std::io::Write;
 
 // What was answered, and whether the rest of each buffer is as it was.
-fn print_ranged(ranged: Ranged, out: &[u8; 100000], lines: &[u8; 100000]) {
+fn print_ranged<W: Write>(
+    to: &mut W,
+    ranged: Ranged,
+    out: &[u8; 100000],
+    lines: &[u8; 100000],
+) -> io::Result<()> {
     match ranged {
         Ranged::Refused(r) => {
-            print::refusal(r);
-            print::changed(out, 0);
-            print::changed(lines, 0);
+            print::refusal(to, r)?;
+            print::changed(to, out, 0)?;
+            print::changed(to, lines, 0)?;
         }
         Ranged::Done(c) => {
-            print::text(b"OK");
-            print::bytes(request::part(out, 0, c.output));
-            print::bytes(request::part(lines, 0, c.lines));
-            print::changed(out, c.output);
-            print::changed(lines, c.lines);
+            print::text(to, b"OK")?;
+            print::bytes(to, request::part(out, 0, c.output))?;
+            print::bytes(to, request::part(lines, 0, c.lines))?;
+            print::changed(to, out, c.output)?;
+            print::changed(to, lines, c.lines)?;
         }
     }
-    print::end();
+    print::end(to)
 }
 
-pub(crate) fn answer(fields: &[u8]) {
+pub(crate) fn answer<W: Write>(to: &mut W, fields: &[u8]) -> io::Result<()> {
     let b = request::bytes(fields);
     let rest = request::skip_bytes(fields);
     let first = request::number(rest, 0);
@@ -32,8 +39,7 @@ pub(crate) fn answer(fields: &[u8]) {
     let mut out = [print::FILL; 100000];
     let mut lines = [print::FILL; 100000];
     if out.len() < room || lines.len() < lines_room {
-        print::line(b"room too large");
-        return;
+        return print::line(to, b"room too large");
     }
     let ranged = range::range(
         b,
@@ -42,5 +48,5 @@ pub(crate) fn answer(fields: &[u8]) {
         &mut out[0..room],
         &mut lines[0..lines_room],
     );
-    print_ranged(ranged, &out, &lines);
+    print_ranged(to, ranged, &out, &lines)
 }

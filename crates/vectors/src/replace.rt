@@ -3,6 +3,8 @@
 use crate::{print, request};
 use bundles::Checked;
 use numbers::{SampleNumber, Written};
+use std::io;
+use std::io::Write;
 
 // The size of an entry of the naming list, and of the sample number in it.
 const ENTRY_SIZE: usize = 6;
@@ -67,7 +69,14 @@ fn is_listed(list: &[u8], n: usize) -> bool {
 }
 
 // The samples of two bundles compared, all but sample s and those that its naming list has.
-fn compare(b: &[u8], c: &[u8], total: usize, s: usize, list: &[u8]) {
+fn compare<W: Write>(
+    to: &mut W,
+    b: &[u8],
+    c: &[u8],
+    total: usize,
+    s: usize,
+    list: &[u8],
+) -> io::Result<()> {
     let mut compared: usize = 0;
     let mut listed: usize = 0;
     let mut n: usize = 0;
@@ -77,16 +86,15 @@ fn compare(b: &[u8], c: &[u8], total: usize, s: usize, list: &[u8]) {
             listed += 1;
         } else if n != s {
             if !resolves_alike(b, c, SampleNumber(n)) {
-                print::text(b"DIFFERS");
-                print::number(n);
-                return;
+                print::text(to, b"DIFFERS")?;
+                return print::number(to, n);
             }
             compared += 1;
         }
     }
-    print::text(b"OK");
-    print::number(compared);
-    print::number(listed);
+    print::text(to, b"OK")?;
+    print::number(to, compared)?;
+    print::number(to, listed)
 }
 
 // A byte of the copy: one of those given, over and over, in the n bytes from a place on, and the bundle's own elsewhere. Where none are given,
@@ -114,43 +122,56 @@ fn copy(b: &[u8], at: usize, n: usize, given: &[u8], out: &mut [u8]) {
 }
 
 // The copy c of an accepted bundle with other bytes in place of sample s, against the bundle and its naming list of s.
-fn print_compared(b: &[u8], c: &[u8], total: usize, s: usize, list: &[u8]) {
+fn print_compared<W: Write>(
+    to: &mut W,
+    b: &[u8],
+    c: &[u8],
+    total: usize,
+    s: usize,
+    list: &[u8],
+) -> io::Result<()> {
     let mut other = [print::FILL; 100000];
     match bundles::check_bundle(c) {
         Checked::Refused(_) => {
-            print::text(b"COPY REFUSED");
-            return;
+            return print::text(to, b"COPY REFUSED");
         }
         Checked::Accepted => (),
     }
     match naming_list::names(c, SampleNumber(s), &mut other) {
-        Written::Refused(_) => print::text(b"LIST REFUSED"),
+        Written::Refused(_) => print::text(to, b"LIST REFUSED"),
         Written::Count(n) => {
             if !same(list, request::part(&other, 0, n)) {
-                print::text(b"LIST DIFFERS");
-                return;
+                return print::text(to, b"LIST DIFFERS");
             }
-            compare(b, c, total, s, list);
+            compare(to, b, c, total, s, list)
         }
     }
 }
 
 // Puts the given bytes in place of sample s in a copy of the bundle, which the table t was filled from, and compares.
-fn replace(b: &[u8], t: &[u64], s: usize, given: &[u8], list: &[u8]) {
+fn replace<W: Write>(
+    to: &mut W,
+    b: &[u8],
+    t: &[u64],
+    s: usize,
+    given: &[u8],
+    list: &[u8],
+) -> io::Result<()> {
     let mut buffer = [0u8; 65536];
     let start = sample_tables::sample_start(t, SampleNumber(s));
     let x = sample_tables::sample_bytes(b, t, SampleNumber(s));
     copy(b, start.0, x.len(), given, &mut buffer);
     print_compared(
+        to,
         b,
         request::part(&buffer, 0, b.len()),
         sample_tables::sample_count(t),
         s,
         list,
-    );
+    )
 }
 
-pub(crate) fn answer(fields: &[u8]) {
+pub(crate) fn answer<W: Write>(to: &mut W, fields: &[u8]) -> io::Result<()> {
     let b = request::bytes(fields);
     let rest = request::skip_bytes(fields);
     let s = request::number(rest, 0);
@@ -159,8 +180,8 @@ pub(crate) fn answer(fields: &[u8]) {
     let mut t = [0u64; tables::TABLE_SIZE];
     filling::fill_table(b, &mut t);
     match naming_list::names(b, SampleNumber(s), &mut list) {
-        Written::Refused(r) => print::refusal(r),
-        Written::Count(n) => replace(b, &t, s, given, request::part(&list, 0, n)),
+        Written::Refused(r) => print::refusal(to, r)?,
+        Written::Count(n) => replace(to, b, &t, s, given, request::part(&list, 0, n))?,
     }
-    print::end();
+    print::end(to)
 }

@@ -3,48 +3,61 @@
 use crate::{print, request};
 use numbers::SampleNumber;
 use salvage::{Salvaged, SalvagedSample};
+use std::io;
+use std::io::Write;
 
 // What was answered, and whether the rest of each buffer is as it was.
-fn print_sample(salvaged: SalvagedSample, out: &[u8; 100000], changes: &[u8; 100000]) {
+fn print_sample<W: Write>(
+    to: &mut W,
+    salvaged: SalvagedSample,
+    out: &[u8; 100000],
+    changes: &[u8; 100000],
+) -> io::Result<()> {
     match salvaged {
         SalvagedSample::Refused(r) => {
-            print::refusal(r);
-            print::changed(out, 0);
-            print::changed(changes, 0);
+            print::refusal(to, r)?;
+            print::changed(to, out, 0)?;
+            print::changed(to, changes, 0)?;
         }
         SalvagedSample::Done(c) => {
-            print::text(b"OK");
-            print::bytes(request::part(out, 0, c.sample));
-            print::bytes(request::part(changes, 0, c.changes));
-            print::changed(out, c.sample);
-            print::changed(changes, c.changes);
+            print::text(to, b"OK")?;
+            print::bytes(to, request::part(out, 0, c.sample))?;
+            print::bytes(to, request::part(changes, 0, c.changes))?;
+            print::changed(to, out, c.sample)?;
+            print::changed(to, changes, c.changes)?;
         }
     }
-    print::end();
+    print::end(to)
 }
 
-fn print_all(salvaged: Salvaged, out: &[u8; 100000], changes: &[u8; 100000], names: &[u8; 100000]) {
+fn print_all<W: Write>(
+    to: &mut W,
+    salvaged: Salvaged,
+    out: &[u8; 100000],
+    changes: &[u8; 100000],
+    names: &[u8; 100000],
+) -> io::Result<()> {
     match salvaged {
         Salvaged::Refused(r) => {
-            print::refusal(r);
-            print::changed(out, 0);
-            print::changed(changes, 0);
-            print::changed(names, 0);
+            print::refusal(to, r)?;
+            print::changed(to, out, 0)?;
+            print::changed(to, changes, 0)?;
+            print::changed(to, names, 0)?;
         }
         Salvaged::Done(c) => {
-            print::text(b"OK");
-            print::bytes(request::part(out, 0, c.sample));
-            print::bytes(request::part(changes, 0, c.changes));
-            print::bytes(request::part(names, 0, c.names));
-            print::changed(out, c.sample);
-            print::changed(changes, c.changes);
-            print::changed(names, c.names);
+            print::text(to, b"OK")?;
+            print::bytes(to, request::part(out, 0, c.sample))?;
+            print::bytes(to, request::part(changes, 0, c.changes))?;
+            print::bytes(to, request::part(names, 0, c.names))?;
+            print::changed(to, out, c.sample)?;
+            print::changed(to, changes, c.changes)?;
+            print::changed(to, names, c.names)?;
         }
     }
-    print::end();
+    print::end(to)
 }
 
-pub(crate) fn sample(fields: &[u8]) {
+pub(crate) fn sample<W: Write>(to: &mut W, fields: &[u8]) -> io::Result<()> {
     let kind = request::as_u32(request::number(fields, 0));
     let length_size = request::as_u32(request::number(fields, 1));
     let rest = request::skip_numbers(fields, 2);
@@ -55,8 +68,7 @@ pub(crate) fn sample(fields: &[u8]) {
     let mut out = [print::FILL; 100000];
     let mut changes = [print::FILL; 100000];
     if out.len() < room || changes.len() < list_room {
-        print::line(b"room too large");
-        return;
+        return print::line(to, b"room too large");
     }
     let salvaged = salvage::salvage_sample(
         kind,
@@ -65,10 +77,10 @@ pub(crate) fn sample(fields: &[u8]) {
         &mut out[0..room],
         &mut changes[0..list_room],
     );
-    print_sample(salvaged, &out, &changes);
+    print_sample(to, salvaged, &out, &changes)
 }
 
-pub(crate) fn bundle(fields: &[u8]) {
+pub(crate) fn bundle<W: Write>(to: &mut W, fields: &[u8]) -> io::Result<()> {
     let b = request::bytes(fields);
     let rest = request::skip_bytes(fields);
     let n = request::number(rest, 0);
@@ -79,8 +91,7 @@ pub(crate) fn bundle(fields: &[u8]) {
     let mut changes = [print::FILL; 100000];
     let mut names = [print::FILL; 100000];
     if out.len() < room || changes.len() < list_room || names.len() < names_room {
-        print::line(b"room too large");
-        return;
+        return print::line(to, b"room too large");
     }
     let salvaged = salvage::salvage(
         b,
@@ -89,5 +100,5 @@ pub(crate) fn bundle(fields: &[u8]) {
         &mut changes[0..list_room],
         &mut names[0..names_room],
     );
-    print_all(salvaged, &out, &changes, &names);
+    print_all(to, salvaged, &out, &changes, &names)
 }

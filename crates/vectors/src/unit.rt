@@ -2,18 +2,20 @@
 use crate::{print, request};
 use delivered_unit::UnitFound;
 use numbers::SampleNumber;
+use std::io;
+use std::io::Write;
 
-pub(crate) fn answer(fields: &[u8]) {
+pub(crate) fn answer<W: Write>(to: &mut W, fields: &[u8]) -> io::Result<()> {
     let b = request::bytes(fields);
     let rest = request::skip_bytes(fields);
     let n = request::number(rest, 0);
     let k = request::number(rest, 1);
     match delivered_unit::unit_answer(b, SampleNumber(n), k) {
-        UnitFound::Refused(r) => print::refusal(r),
+        UnitFound::Refused(r) => print::refusal(to, r)?,
         UnitFound::Span(_) => {
-            print::text(b"OK");
-            print::bytes(delivered_unit::unit_bytes(b, SampleNumber(n), k));
+            print::text(to, b"OK")?;
+            print::bytes(to, delivered_unit::unit_bytes(b, SampleNumber(n), k))?;
         }
     }
-    print::end();
+    print::end(to)
 }

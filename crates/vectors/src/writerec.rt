@@ -2,6 +2,8 @@
 use crate::{print, request};
 use numbers::Written;
 use record_rules::{Fields, Flag, High, Trailer};
+use std::io;
+use std::io::Write;
 
 // complete_representation: 0 in an AVC record is none.
 fn flag(kind: u32, complete: usize) -> Flag {
@@ -54,14 +56,14 @@ fn fields_of(kind: u32, front: &[u8], pictures: &[u8], last: &[u8]) -> Fields {
 }
 
 // What was answered.
-fn print_written(written: Written, out: &[u8; 1024]) {
+fn print_written<W: Write>(to: &mut W, written: Written, out: &[u8; 1024]) -> io::Result<()> {
     match written {
-        Written::Refused(r) => print::refused(r, out),
-        Written::Count(n) => print::written(out, n),
+        Written::Refused(r) => print::refused(to, r, out),
+        Written::Count(n) => print::written(to, out, n),
     }
 }
 
-pub(crate) fn answer(fields: &[u8]) {
+pub(crate) fn answer<W: Write>(to: &mut W, fields: &[u8]) -> io::Result<()> {
     let kind = request::as_u32(request::number(fields, 0));
     let room = request::number(fields, 1);
     let front = request::skip_numbers(fields, 2);
@@ -76,9 +78,8 @@ pub(crate) fn answer(fields: &[u8]) {
     let x = request::bytes(extension_sets);
     let mut out = [print::FILL; 1024];
     if out.len() < room {
-        print::line(b"room too large");
-        return;
+        return print::line(to, b"room too large");
     }
     let written = record_writer::write(kind, f, a, b, x, &mut out[0..room]);
-    print_written(written, &out);
+    print_written(to, written, &out)
 }

@@ -1,5 +1,4 @@
 -- `program_input::buffers::first` follows its definition. Assumes nothing.
-use borrow.Author.Rules.{rules}
 use borrow.Author.Tests.{le-ltb}
 use lib.ListN.{length}
 use native.Mathlib.Omega.{arith}

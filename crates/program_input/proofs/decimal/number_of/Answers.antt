@@ -1,10 +1,9 @@
 -- The loop's invariant: the digits before i are read (Reading). Assumes nothing.
-use borrow.Author.Rules.{rules}
 use native.Mathlib.Omega.{arith}
 use mathlib.Core.Path.{◌≡◌, sym}
-use Prim.Native.Nat.{◌-◌, ◌<◌}
+use Prim.Native.Nat.{◌<◌}
 use lib.ListN.{length}
-use Rattle.program_input.proofs.Reading.{Read, read_start, read_digit, read_low, read_high, read_nothing, read_end}
+use Rattle.program_input.proofs.Reading.{read_start, read_digit, read_low, read_high, read_nothing, read_end}
 use Rattle.program_input.proofs.decimal.number_of.Goals as goal
 
 pub returns-then-s-eq0 : goal.returns-then-s-eq0

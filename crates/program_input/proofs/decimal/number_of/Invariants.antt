@@ -1,9 +1,7 @@
 -- The loop's invariant: the digits before i are read (Reading). Assumes nothing.
-use native.Mathlib.Omega.{arith}
-use mathlib.Core.Path.{◌≡◌, sym}
-use Prim.Native.Nat.{◌-◌, ◌<◌}
+use Prim.Native.Nat.{◌-◌}
 use lib.ListN.{length}
-use Rattle.program_input.proofs.Reading.{Read, read_start, read_digit, read_low, read_high, read_nothing, read_end}
+use Rattle.program_input.proofs.Reading.{Read}
 use Rattle.program_input.proofs.decimal.number_of.Given as goal
 
 abbrev pub invariant-loop-i : goal.invariant-loop-i

@@ -1,5 +1,4 @@
 -- `program_input::limit::too_big` follows its definition. Assumes nothing.
-use borrow.Author.Rules.{rules}
 use Rattle.words.proofs.Tests.{tests}
 use Rattle.program_input.specs.Input.{too_big}
 use Rattle.program_input.proofs.limit.too_big.Goals as goal
