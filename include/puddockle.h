@@ -8,8 +8,7 @@
  * docs/FORMAT.md has all rules: the bundle, records, units, resolving, and what to do about each refusal.
  *
  * Link with libpuddockle.a:  cc -Iinclude program.c -Ltarget/staticlib -lpuddockle
- * The library is code for x86-64 Linux and for no other machine; elsewhere the programs ./audit and ./names run by the
- * Rattle kit's emulator. Of the C library it needs memcpy and memset.
+ * The library is code for x86-64 Linux and for no other machine. Of the C library it needs memcpy and memset.
  *
  * How every function behaves
  *

@@ -15,7 +15,7 @@ fn main() {
     if !library.is_file() {
         eprintln!("{} is not there.", library.display());
         eprintln!(
-            "Build it with `rt staticlib puddockle` at the repository's root, which leaves it in target/staticlib,"
+            "Build it with `tools/build library` at the repository's root, which leaves it in target/staticlib,"
         );
         eprintln!("or set PUDDOCKLE_LIB_DIR to the directory that has it (an absolute path).");
         std::process::exit(1);

@@ -1,7 +1,7 @@
 /*
  * Calls every function of puddockle.h on the bench bundle B0 of document 01, and on inputs that are refused.
  *
- *   rt staticlib puddockle
+ *   tools/build library
  *   cc -std=c99 -Wall -Wextra -Werror -Iinclude tests/c/calls.c -Ltarget/staticlib -lpuddockle -o target/calls
  *   target/calls
  *

@@ -9,7 +9,6 @@
 use Prim.Native.Nat.{ℕ}
 use mathlib.Core.Path.{◌≡◌, refl, ap, ◌∙◌}
 use mathlib.Core.List.{List, map}
-use lib.ListN.{length}
 use Rattle.words.specs.Refusals.{Answer, refused, ok, number_of, place_of, count_of}
 use Rattle.words.specs.Buffers.{counted, Wrote, counted_all, WroteAll}
 use Rattle.numbers.specs.Kinds.{number_of_kind}

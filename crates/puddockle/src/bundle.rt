@@ -5,8 +5,7 @@ ghost use Rattle.puddockle.specs.Returns.{Returned};
 use crate::answer;
 use bundles::Checked;
 
-#[unsafe(no_mangle)]
-pub extern "C" fn puddockle_check_bundle(bundle: &[u8], place: &mut u64) -> u32
+pub fn puddockle_check_bundle(bundle: &[u8], place: &mut u64) -> u32
     ensures { Returned result place.new (bundle_verdict bundle.now) }
 {
     *place = 0;

@@ -19,8 +19,7 @@ fn kind_number(kind: Kind) -> u64
     }
 }
 
-#[unsafe(no_mangle)]
-pub extern "C" fn puddockle_counts(
+pub fn puddockle_counts(
     bundle: &[u8],
     place: &mut u64,
     tracks: &mut u64,
@@ -45,8 +44,7 @@ pub extern "C" fn puddockle_counts(
     }
 }
 
-#[unsafe(no_mangle)]
-pub extern "C" fn puddockle_track(
+pub fn puddockle_track(
     bundle: &[u8],
     track: u64,
     place: &mut u64,
@@ -74,8 +72,7 @@ pub extern "C" fn puddockle_track(
     }
 }
 
-#[unsafe(no_mangle)]
-pub extern "C" fn puddockle_reference(
+pub fn puddockle_reference(
     bundle: &[u8],
     reference: u64,
     place: &mut u64,
@@ -100,8 +97,7 @@ pub extern "C" fn puddockle_reference(
     }
 }
 
-#[unsafe(no_mangle)]
-pub extern "C" fn puddockle_sample(
+pub fn puddockle_sample(
     bundle: &[u8],
     sample: u64,
     place: &mut u64,

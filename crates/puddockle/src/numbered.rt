@@ -10,8 +10,7 @@ use delivered_unit::UnitPlaced;
 use named_sample::NamedSample;
 use numbers::{ByteOffset, SampleNumber};
 
-#[unsafe(no_mangle)]
-pub extern "C" fn puddockle_resolve(
+pub fn puddockle_resolve(
     bundle: &[u8],
     sample: u64,
     out: &mut [u8],
@@ -25,8 +24,7 @@ pub extern "C" fn puddockle_resolve(
     answer::written(resolved, place, count)
 }
 
-#[unsafe(no_mangle)]
-pub extern "C" fn puddockle_stream(
+pub fn puddockle_stream(
     bundle: &[u8],
     sample: u64,
     out: &mut [u8],
@@ -40,8 +38,7 @@ pub extern "C" fn puddockle_stream(
     answer::written(streamed, place, count)
 }
 
-#[unsafe(no_mangle)]
-pub extern "C" fn puddockle_unit(
+pub fn puddockle_unit(
     bundle: &[u8],
     sample: u64,
     unit: u64,
@@ -66,8 +63,7 @@ pub extern "C" fn puddockle_unit(
     }
 }
 
-#[unsafe(no_mangle)]
-pub extern "C" fn puddockle_names(
+pub fn puddockle_names(
     bundle: &[u8],
     sample: u64,
     out: &mut [u8],
@@ -81,8 +77,7 @@ pub extern "C" fn puddockle_names(
     answer::written(listed, place, count)
 }
 
-#[unsafe(no_mangle)]
-pub extern "C" fn puddockle_units(
+pub fn puddockle_units(
     bundle: &[u8],
     sample: u64,
     spans: &mut [u64],
@@ -96,8 +91,7 @@ pub extern "C" fn puddockle_units(
     answer::written(parts, place, count)
 }
 
-#[unsafe(no_mangle)]
-pub extern "C" fn puddockle_named(
+pub fn puddockle_named(
     bundle: &[u8],
     sample: u64,
     extractor: u64,

@@ -8,8 +8,7 @@ use crate::answer;
 use numbers::SampleNumber;
 use range::Ranged;
 
-#[unsafe(no_mangle)]
-pub extern "C" fn puddockle_range(
+pub fn puddockle_range(
     bundle: &[u8],
     first: u64,
     last: u64,

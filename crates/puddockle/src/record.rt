@@ -6,13 +6,7 @@ ghost use Rattle.puddockle.specs.Returns.{Returned, ReturnedOutput};
 
 use crate::answer;
 
-#[unsafe(no_mangle)]
-pub extern "C" fn puddockle_read_record(
-    kind: u32,
-    record: &[u8],
-    fields: &mut [u64],
-    place: &mut u64,
-) -> u32
+pub fn puddockle_read_record(kind: u32, record: &[u8], fields: &mut [u64], place: &mut u64) -> u32
     ensures { Returned result place.new (read_numbers kind «record».now (length fields.old))
         × (fields.new ≡ leaves fields.old (read_numbers kind «record».now (length fields.old))) }
 {
@@ -21,8 +15,7 @@ pub extern "C" fn puddockle_read_record(
     answer::written(numbered, place, &mut count)
 }
 
-#[unsafe(no_mangle)]
-pub extern "C" fn puddockle_write_record(
+pub fn puddockle_write_record(
     kind: u32,
     fields: &[u64],
     sequence: &[u8],

@@ -7,8 +7,7 @@ ghost use Rattle.puddockle.specs.Returns.{ReturnedOutput, ReturnedTally};
 use crate::answer;
 use audit::Audited;
 
-#[unsafe(no_mangle)]
-pub extern "C" fn puddockle_audit(
+pub fn puddockle_audit(
     bundle: &[u8],
     lines: &mut [u8],
     place: &mut u64,

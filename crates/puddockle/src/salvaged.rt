@@ -8,8 +8,7 @@ use crate::answer;
 use numbers::SampleNumber;
 use salvage::{Salvaged, SalvagedSample};
 
-#[unsafe(no_mangle)]
-pub extern "C" fn puddockle_salvage(
+pub fn puddockle_salvage(
     bundle: &[u8],
     sample: u64,
     out: &mut [u8],
@@ -40,8 +39,7 @@ pub extern "C" fn puddockle_salvage(
     }
 }
 
-#[unsafe(no_mangle)]
-pub extern "C" fn puddockle_salvage_sample(
+pub fn puddockle_salvage_sample(
     kind: u32,
     length_size: u32,
     sample: &[u8],

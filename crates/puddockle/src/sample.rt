@@ -7,13 +7,7 @@ ghost use Rattle.puddockle.specs.Returns.{Returned, ReturnedOutput};
 use crate::answer;
 use samples::Checked;
 
-#[unsafe(no_mangle)]
-pub extern "C" fn puddockle_check_sample(
-    kind: u32,
-    length_size: u32,
-    sample: &[u8],
-    place: &mut u64,
-) -> u32
+pub fn puddockle_check_sample(kind: u32, length_size: u32, sample: &[u8], place: &mut u64) -> u32
     ensures { Returned result place.new (check_alone kind length_size sample.now) }
 {
     *place = 0;
@@ -24,8 +18,7 @@ pub extern "C" fn puddockle_check_sample(
     }
 }
 
-#[unsafe(no_mangle)]
-pub extern "C" fn puddockle_from_stream(
+pub fn puddockle_from_stream(
     length_size: u32,
     stream: &[u8],
     out: &mut [u8],

@@ -48,10 +48,10 @@ fn main() {
 }
 
 /// Prints how both sides were compiled. The library's level is what `rattle build --help` says of static libraries;
-/// `rt staticlib` gives it no other.
+/// `rt lib`, by which tools/build builds it, gives it no other.
 fn settings() {
     println!(
-        "peer: {}, opt-level {}, debug {}, {}; library: libpuddockle.a as `rt staticlib` builds it, clang -O3",
+        "peer: {}, opt-level {}, debug {}, {}; library: libpuddockle.a as `rt lib` builds it, clang -O3",
         env!("BENCH_COMPILER"),
         env!("BENCH_OPT_LEVEL"),
         env!("BENCH_DEBUG"),

@@ -1,5 +1,4 @@
 -- A refusal or a count. Assumes nothing.
-use borrow.Author.Rules.{rules}
 use mathlib.Core.Path.{refl}
 use Rattle.puddockle.proofs.answer.written.Goals as goal
 

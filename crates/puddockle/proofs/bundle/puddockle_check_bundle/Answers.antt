@@ -1,5 +1,4 @@
 -- The answer of the function below, given back. Assumes nothing.
-use borrow.Author.Rules.{rules}
 use mathlib.Core.Path.{refl}
 use Rattle.puddockle.proofs.Returned.{returned}
 use Rattle.puddockle.proofs.bundle.puddockle_check_bundle.Goals as goal

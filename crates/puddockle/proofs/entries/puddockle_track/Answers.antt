@@ -1,5 +1,4 @@
 -- The answer of the function below, given back. Assumes nothing.
-use borrow.Author.Rules.{rules}
 use mathlib.Core.Path.{refl}
 use Rattle.puddockle.proofs.Returned.{track}
 use Rattle.puddockle.proofs.entries.puddockle_track.Goals as goal

@@ -1,5 +1,4 @@
 -- The answer of the function below, given back. Assumes nothing.
-use borrow.Author.Rules.{rules}
 use Rattle.puddockle.proofs.Returned.{output}
 use Rattle.puddockle.proofs.numbered.puddockle_stream.Goals as goal
 
