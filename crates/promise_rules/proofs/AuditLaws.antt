@@ -8,7 +8,7 @@ use native.Mathlib.Omega.{arith}
 use native.Mathlib.Nat.{add-zero, add_assoc}
 use lib.ListN.{length}
 use Rattle.words.specs.Tests.{◌≡?◌, pick}
-use Rattle.words.specs.Refusals.{Answer, refused, ok}
+use Rattle.words.specs.Refusals.{Answer, ok}
 use Rattle.words.specs.Lists.{◌∈◌, upto}
 use Rattle.words.specs.Bytes.{Bytes, byte_at, big, part, splice}
 use Rattle.words.specs.Buffers.{Wrote}

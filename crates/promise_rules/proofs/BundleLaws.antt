@@ -11,7 +11,6 @@ use lib.ListN.{length, length-map}
 use Rattle.words.specs.Tests.{◌≡?◌}
 use Rattle.words.specs.Refusals.{◌at_place◌, ok}
 use Rattle.words.specs.Lists.{◌∈◌, nth, upto}
-use Rattle.words.specs.Walks.{entries}
 use Rattle.words.specs.Bytes.{Bytes, byte_at, big}
 use Rattle.words.proofs.Tests.{by_bool, within_count}
 use Rattle.words.proofs.Refusals.{if_none, and_ok, at_ok, at_none, first_all, ok_refused}

@@ -11,13 +11,13 @@ use lib.ListN.{length, get_or, length-take, get_or-eq_default}
 use Rattle.words.specs.Tests.{◌<?◌, ◌≡?◌}
 use Rattle.words.specs.Refusals.{ok}
 use Rattle.words.specs.Lists.{◌∈◌, each, keep, nth}
-use Rattle.words.specs.Bytes.{Bytes, byte_at, bytes, part}
+use Rattle.words.specs.Bytes.{Bytes, byte_at, part}
 use Rattle.words.proofs.Tests.{by_bool}
 use Rattle.words.proofs.Refusals.{ok_same}
 use Rattle.words.proofs.Lists.{nth_mem, keep_mem, keep_from, Rising}
 use Rattle.words.proofs.Rows.{get_d_mem}
 use Rattle.words.proofs.Joined.{part_byte, part_part}
-use Rattle.units.specs.Units.{L, size, type, next, is_aggregator, is_extractor, top_units, top_between}
+use Rattle.units.specs.Units.{L, type, next, is_aggregator, is_extractor, top_units, top_between}
 use Rattle.units.specs.Extractors.{track_ref_index, sample_offset}
 use Rattle.units.specs.Aggregators.{additional_bytes, units, extractors}
 use Rattle.bundles.specs.Recordings.{Recording, sample_count, content_of}

@@ -6,24 +6,22 @@
 --   becomes                      what becomes of a unit
 --   dropped_faulty, zeroed_only  a unit that is dropped, and one whose additional_bytes become 0
 use Prim.Native.Nat.{ℕ, ◌+◌, ◌*◌, ◌≤◌, ◌<◌}
-use mathlib.Core.Path.{◌≡◌, refl, ap, sym, ◌∙◌, subst}
-use mathlib.Core.Bool.{Bool, true, false, ◌&&◌, not}
-use mathlib.Core.List.{List, [], ◌∷◌}
+use mathlib.Core.Path.{◌≡◌, sym, ◌∙◌, subst}
+use mathlib.Core.Bool.{true, false, ◌&&◌, not}
 use mathlib.Core.Logic.{◌⊎◌, inl, inr, ⊎_elim}
 use native.Mathlib.Omega.{arith}
-use native.Mathlib.Nat.{pos_of_ne-zero}
 use borrow.Author.Tests.{eqb-true, eqb-false, eq-eqb, lt-ltb, ltb-true, le-leb, not-true}
-use Rattle.words.specs.Tests.{◌<?◌, ◌≤?◌, ◌≡?◌}
-use Rattle.words.specs.Refusals.{refused, ok, ◌at_place◌, first, passed}
+use Rattle.words.specs.Tests.{◌<?◌, ◌≡?◌}
+use Rattle.words.specs.Refusals.{refused, ok, ◌at_place◌, first}
 use lib.ListN.{length}
 use Rattle.words.specs.Bytes.{byte_at}
-use Rattle.words.specs.Lists.{◌∈◌, keep, some}
+use Rattle.words.specs.Lists.{◌∈◌, some}
 use Rattle.words.proofs.Tests.{by_bool, true_false, and_both}
-use Rattle.words.proofs.Refusals.{at_from, at_ok, by_verdict, ok_refused}
+use Rattle.words.proofs.Refusals.{at_from, at_ok, by_verdict}
 use Rattle.words.proofs.Lists.{keep_from, keep_mem}
 use Rattle.words.proofs.Kept.{some_false}
 use Rattle.numbers.specs.Sizes.{extractor_size}
-use Rattle.units.specs.Units.{Sample, L, end, size, type, next, is_aggregator, is_extractor, unit_fault, top_units, border, top_between}
+use Rattle.units.specs.Units.{Sample, L, end, size, type, next, is_aggregator, is_extractor, unit_fault, top_units, top_between}
 use Rattle.units.specs.Extractors.{extractor_fault}
 use Rattle.units.specs.Aggregators.{included, included_fault, additional_bytes, cover_end, cover_fault}
 use Rattle.units.proofs.Units.{extractor_size_lem}
@@ -35,8 +33,7 @@ use Rattle.salvage_rules.proofs.Units.{by_fate, dropped_from, zeroed_from, insid
 use Rattle.salvage_rules.proofs.Cut.{fault_some, fault_none, cut_end, cut_wholes, cut_units, cut_next, cut_type, cut_additional, cut_inside}
 use Rattle.salvage_rules.proofs.Reasons.{loses_aggregator, Uncovered, uncovered, zeroed_some}
 use Rattle.salvage_rules.proofs.Promises.{zeroed_size, zeroed_same}
-use Rattle.promise_rules.specs.First.{FirstIn}
-use Rattle.promise_rules.specs.Samples.{UnitAt, IncludedAt, BorderAt, CoverAt}
+use Rattle.promise_rules.specs.Samples.{UnitAt, IncludedAt, CoverAt}
 use Rattle.promise_rules.specs.SampleFaults.{UnitFault, IncludedFault}
 use Rattle.promise_rules.specs.Salvaging.{StopsAt, InsideFault, SoundAt, Covered, CoverBefore, Becomes}
 use Rattle.promise_rules.proofs.FirstLaws.{first_fault_lem}

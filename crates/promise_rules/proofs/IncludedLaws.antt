@@ -4,7 +4,7 @@ use mathlib.Core.Path.{◌≡◌, refl, ap, sym, ◌∙◌, subst}
 use mathlib.Core.Bool.{true, ◌&&◌}
 use mathlib.Core.List.Memᴰ
 use mathlib.Core.List.{List, [], ◌∷◌}
-use mathlib.Core.Logic.{◌⊎◌, inl, inr, ⊎_elim, ◌↔◌}
+use mathlib.Core.Logic.{inl, inr, ⊎_elim, ◌↔◌}
 use native.Mathlib.Omega.{arith}
 use native.Mathlib.Nat.{pos_of_ne-zero}
 use borrow.Author.Tests.{eqb-true, eqb-false, eq-eqb}
@@ -14,7 +14,7 @@ use Rattle.words.specs.Bytes.{Bytes}
 use Rattle.words.specs.Lists.{◌∈◌, keep, some}
 use Rattle.words.proofs.Tests.{by_bool}
 use Rattle.words.proofs.Lists.{keep_from}
-use Rattle.units.specs.Units.{Sample, end, type, next, is_aggregator, top_units}
+use Rattle.units.specs.Units.{Sample, type, next, is_aggregator, top_units}
 use Rattle.units.specs.Extractors.{track_ref_index, sample_offset, data_offset, data_length}
 use Rattle.units.specs.Aggregators.{included, units}
 use Rattle.units.proofs.Walks.{units_included}

@@ -18,7 +18,7 @@ use native.Mathlib.Omega.{arith}
 use borrow.Author.Tests.{ltb-true, ltb-false, eqb-true, eqb-false, ne_eqb, eq-eqb, not-true}
 use lib.ListN.{length, drop}
 use Rattle.words.specs.Tests.{◌<?◌, ◌≡?◌, all}
-use Rattle.words.specs.Refusals.{◌or_else◌, first_of, Answer, refused, ok}
+use Rattle.words.specs.Refusals.{first_of, Answer, refused, ok}
 use Rattle.words.specs.Lists.{◌∈◌}
 use Rattle.words.specs.Walks.{entries, skip}
 use Rattle.words.specs.Bytes.{Bytes, big}

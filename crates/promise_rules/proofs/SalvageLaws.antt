@@ -10,27 +10,24 @@
 --   list_back, five_bytes                        the list is read back, and gives the new sample; a change in bytes
 --   outputs_returned                             what the C functions give back
 --   in_bytes                                     samples in bytes
-use Prim.Native.Nat.{ℕ, ◌+◌, ◌*◌, ◌≤◌, ◌<◌}
+use Prim.Native.Nat.{ℕ, ◌*◌, ◌≤◌, ◌<◌}
 use mathlib.Core.Path.{◌≡◌, refl, ap, ap₂, sym, ◌∙◌, subst}
-use mathlib.Core.Bool.{true, false}
-use mathlib.Core.List.{List, [], ◌∷◌, ◌++◌, map}
-use mathlib.Core.Logic.{◌⊎◌, inl, inr, ⊎_elim, ◌↔◌}
+use mathlib.Core.List.{List, [], ◌∷◌, ◌++◌}
+use mathlib.Core.Logic.{◌⊎◌, inl, inr, ◌↔◌}
 use native.Mathlib.Omega.{arith}
 use borrow.Author.Tests.{lt-ltb, le-ltb, ltb-true, ltb-false}
 use lib.ListN.{length, drop, get_or}
 use Rattle.words.specs.Tests.{◌<?◌}
 use Rattle.words.specs.RefusalNumbers.{output_too_long, refusal_numbers}
-use Rattle.words.specs.Refusals.{Answer, refused, ok, passed, first}
+use Rattle.words.specs.Refusals.{Answer, refused, ok, first}
 use Rattle.words.specs.Lists.{◌∈◌, some, keep, each}
 use Rattle.words.specs.Bytes.{Bytes, big, bytes}
 use Rattle.words.specs.Buffers.{overwrite, within, within_all, WroteAll}
 use Rattle.words.proofs.Tests.{by_bool}
 use Rattle.words.proofs.Refusals.{by_answer, ok_same, ok_refused, refused_along}
-use Rattle.words.proofs.Lists.{has_from}
 use Rattle.words.proofs.Buffers.{fit_all, lacks_here, lacks_later, within_room, within_all_room, within_all_not}
 use Rattle.numbers.specs.declared.Kind.{Kind}
-use Rattle.numbers.specs.declared.LengthSize.{LengthSize}
-use Rattle.units.specs.Units.{Sample, L, end, size, type, unit_fault, places_from, top_units, border, top_between}
+use Rattle.units.specs.Units.{Sample, end, size, type, unit_fault, places_from, top_units, border, top_between}
 use Rattle.units.specs.Aggregators.{included_fault, cover_fault}
 use Rattle.samples.specs.Check.{inside_verdict, check_alone}
 use Rattle.bundles.specs.Recordings.{Recording, sample_count}

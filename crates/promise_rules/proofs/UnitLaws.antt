@@ -23,7 +23,7 @@ use Rattle.units.proofs.Walks.{places_end, places_step, units_top, units_include
 use Rattle.samples.proofs.Laws.{top_tile, check_top, included_tile}
 use Rattle.bundles.specs.Recordings.{Recording, Entry, no_track, no_entry, sample_count, track_of, content_of}
 use Rattle.bundles.specs.Readers.{first_layout}
-use Rattle.bundles.specs.Tracks.{tracks, references_at}
+use Rattle.bundles.specs.Tracks.{references_at}
 use Rattle.bundles.specs.References.{samples_at}
 use Rattle.bundles.specs.Samples.{lengths, byte_count_at}
 use Rattle.bundles.specs.Bundles.{content_at}
