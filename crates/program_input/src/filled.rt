@@ -7,6 +7,7 @@ use std::io;
 use std::io::Read;
 
 // Reads until the buffer is full or the input ends, and says how many bytes were read to the front of the buffer.
+// The only error is that of a read; the buffer has then what the reads before it gave, and keeps its length.
 pub fn read_full<R: Read>(reader: &mut R, buffer: &mut [u8]) -> io::Result<usize>
     ensures bound { ReadsAtMost result buffer.new }
     ensures bytes { IfOk result (λ n. Consumes (R.remaining reader.old) (R.remaining reader.new) (take n buffer.new)) }

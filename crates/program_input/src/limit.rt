@@ -21,6 +21,7 @@ pub fn too_big(n: usize, more: usize) -> bool
 
 // Whether the reader's input, of which n bytes were read, has more than the programs take. It has not where n is smaller, and no read is
 // tried then; where n is not, that goes by whether one byte more can be read, which is known of a reader whose bytes are known.
+// The only error is that of the read; what it leaves of the reader's bytes is the reader's own affair, and nothing else is lent.
 pub fn is_too_big<R: Read>(reader: &mut R, n: usize) -> io::Result<bool>
     ensures small { n < input_most → result ≡ Ok false }
     ensures known { IfSome (R.remaining reader.old) (λ s. IfOk result (λ r. r ≡ too_big n (length s))) }
