@@ -24,6 +24,7 @@ pub mod AbsentLaws
 pub mod ContentLaws
 pub mod StandLaws
 pub mod NamedLaws
+pub mod StreamRoom
 pub mod StreamLaws
 pub mod FromStreamLaws
 pub mod FateLaws

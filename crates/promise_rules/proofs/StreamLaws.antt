@@ -39,6 +39,7 @@ use Rattle.audit_rules.proofs.Reading.{read_at}
 use Rattle.promise_rules.specs.Resolving.{Resolved, unit_bytes, after_length}
 use Rattle.promise_rules.specs.Streams.{InStream, StreamRefused}
 use Rattle.promise_rules.proofs.CallLaws.{output_is, resolved_exactly, delivered_one}
+use Rattle.promise_rules.proofs.StreamRoom.{room_case}
 use Rattle.promise_rules.proofs.RefusedLaws.{bundle_refused, refused_bundle, sample_refused, refused_sample, resolved, unresolved}
 pub use Rattle.byte_streams.proofs.Streams.{stream_unique as one_reading, stream_joined as joined}
 pub use Rattle.promise_rules.proofs.OtherLaws.{others_stream}
@@ -226,7 +227,7 @@ module _ (b : List ℕ) (g : Bytes b) where
         (λ q w a.
         refused_along (StreamRefused b n room) (sym a ∙ e)
         (rw w.place (StreamRefused.unit r w.before w.unit w.after f (subst (Resolved r n) w.split d) w.good w.bad)))
-        (λ w k a. refused_along (StreamRefused b n room) (sym a ∙ e) (StreamRefused.room r (delivered r n) f d w k))
+        (λ w k a. refused_along (StreamRefused b n room) (sym a ∙ e) (room_case b n room r (delivered r n) f d w k))
         (λ w k a. ok_refused (sym e ∙ a))))
 
     refuses : {m p : ℕ} → StreamRefused b n room m p → stream_call first_layout b n room ≡ refused m p

@@ -4,7 +4,7 @@
 --
 --   two, three, track_places,
 --   reference_places, entry                    where sections and entries start (promise_rules/specs/Bundles)
---   TrackAt b p                                the track entry at p follows the rules: its record lies in the bundle and is valid (the same)
+--   TrackAt b p                                the track entry at p follows the rules: its record lies in the bundle, valid (the same)
 --   sample_start b n                           where the bytes of sample n start (promise_rules/specs/Units)
 --   NumberRefused, UnitsRefused, NamedRefused  with which number, and where (promise_rules/specs/Contents)
 --   stand_numbers b u, joined b ns             where a unit stands, in numbers; units joined by such numbers (the same)
