@@ -8,7 +8,7 @@ ghost use Rattle.resolution_rules.specs.Ranges.{between, given, joined};
 ghost use Rattle.judging.specs.Steps.{judgement};
 ghost use Rattle.verdicts.specs.Kept.{judgement_word, JudgedBetween};
 
-use crate::writing::{Framing, write_units};
+use crate::writing::{Framing, write_units_from};
 use numbers::SampleNumber;
 use verdicts::KeptVerdict;
 
@@ -27,7 +27,7 @@ fn write_sample(out: &mut [u8], from: usize, b: &[u8], t: &[u64], n: SampleNumbe
         KeptVerdict::Units(_) => {
             let k = delivery::track_of(t, n);
             let x = sample_tables::sample_bytes(b, t, n);
-            write_units(out, from, b, t, Framing::Lengths, n, k, x)
+            write_units_from(out, from, b, t, Framing::Lengths, n, k, x)
         }
     }
 }

@@ -79,7 +79,7 @@ pub(crate) fn stream_sample(b: &[u8], t: &[u64], n: SampleNumber, out: &mut [u8]
                     if out.len() < size {
                         return refused(refusals::OUTPUT_TOO_LONG);
                     }
-                    write_units(out, 0, b, t, Framing::StartCodes, n, k, x);
+                    write_units(out, b, t, Framing::StartCodes, n, k, x);
                     Written::Count(size)
                 }
             }

@@ -1,7 +1,7 @@
 // What a sample delivers written over a buffer, by a bundle and any table beside it.
 ghost use Rattle.std.specs.Prelude.{◌≡◌, ◌+◌, ◌≤◌, length};
 ghost use Rattle.words.specs.Refusals.{refused, ok};
-ghost use Rattle.words.specs.Buffers.{write_at, put, within, Wrote};
+ghost use Rattle.words.specs.Buffers.{write_at, overwrite, put, within, Wrote};
 ghost use Rattle.numbers.specs.Answers.{answer_of};
 ghost use Rattle.units.specs.Units.{sample};
 ghost use Rattle.bundles.specs.Limits.{bundle_most};
@@ -50,7 +50,7 @@ fn put_unit(out: &mut [u8], at: usize, b: &[u8], t: &[u64], f: Framing, u: Span)
 }
 
 // What sample n delivers, which is x and good, over a buffer that has room, from a place on; the place after it.
-pub(crate) fn write_units(
+pub(crate) fn write_units_from(
     out: &mut [u8],
     from: usize,
     b: &[u8],
@@ -84,6 +84,23 @@ pub(crate) fn write_units(
     }
 }
 
+// What sample n delivers, which is x and good, over the start of a buffer that has room.
+pub(crate) fn write_units(
+    out: &mut [u8],
+    b: &[u8],
+    t: &[u64],
+    f: Framing,
+    n: SampleNumber,
+    k: Track,
+    x: &[u8],
+)
+    requires { (sample k x.now ≡ sample_of (recording_in b.now t.now) n.0) × (judged (recording_in b.now t.now) n.0 ≡ ok tt)
+        × (length (framed f (recording_in b.now t.now) (delivered (recording_in b.now t.now) n.0)) ≤ length out.old) }
+    ensures { out.new ≡ overwrite out.old (framed f (recording_in b.now t.now) (delivered (recording_in b.now t.now) n.0)) }
+{
+    write_units_from(out, 0, b, t, f, n, k, x);
+}
+
 // A refusal at 0.
 pub(crate) fn refused(number: u8) -> Written
     ensures { answer_of result ≡ refused number 0 }
@@ -110,7 +127,7 @@ pub(crate) fn resolve_sample(b: &[u8], t: &[u64], n: SampleNumber, out: &mut [u8
             }
             let k = delivery::track_of(t, n);
             let x = sample_tables::sample_bytes(b, t, n);
-            write_units(out, 0, b, t, Framing::Lengths, n, k, x);
+            write_units(out, b, t, Framing::Lengths, n, k, x);
             Written::Count(size)
         }
     }

@@ -1,16 +1,17 @@
 -- Judgements kept in a table. Assumes nothing.
 --
---   judgement_small                     a judgement fits in one number, its refusal below 256
---   word_verdict                        it is read back
---   between_none                        no sample
---   between_layout, -recording, -length with judgements kept, the table says the same
---   more                           one judgement more
---   upto_between                   the first n samples are samples 1 to n
---   all_upto, all_long, all_short  of a bundle too long, and of another
---   all_layout, all_recording      the table says the same
---   between_kept, kept_judgement   what is kept beside a sample is its judgement
---   units_refused, units_good      what a judgement says of a sample
---   refused_kept, units_kept       what is kept, read back
+--   judgement_small                          a judgement fits in one number, its refusal below 256
+--   word_verdict                             it is read back
+--   between_none                             no sample
+--   between_layout, -recording, -length      with judgements kept, the table says the same
+--   more_between                             one judgement more
+--   upto_between                             the first n samples are samples 1 to n
+--   upto_layout, -recording, -length, more   the same of the first n samples
+--   all_long, all_short, all_between         of a bundle too long, and of another
+--   all_layout, all_recording                the table says the same
+--   between_kept, upto_kept, kept_judgement  what is kept beside a sample is its judgement
+--   units_refused, units_good                what a judgement says of a sample
+--   refused_kept, units_kept                 what is kept, read back
 use Prim.Native.Nat.{ℕ, zero, suc, ◌+◌, ◌≤◌, ◌<◌}
 use mathlib.Core.Path.{◌≡◌, refl, ap, sym, ◌∙◌}
 use mathlib.Core.List.{List}
@@ -108,8 +109,8 @@ module _ (b t : List ℕ) where
     between_length = keeps (λ x. length x ≡ length t) refl (λ x n e. kept_count_case x (suc n) (judgement_word (judgement R (suc n))) (λ y. length y ≡ length t) e (length-set x _ _ ∙ e))
 
     -- a loop that has kept the judgements up to n
-    pub more : (n : ℕ) → first ≤ n + 1 → (now : List ℕ) → now ≡ judgements_between b t first n → {a : Answer Amount} → a ≡ judgement (recording_in b now) (n + 1) → {w : ℕ} → w ≡ judgement_word a → with_kept_count now (n + 1) w ≡ judgements_between b t first (n + 1)
-    more n h now e f g =
+    pub more_between : (n : ℕ) → first ≤ n + 1 → (now : List ℕ) → now ≡ judgements_between b t first n → {a : Answer Amount} → a ≡ judgement (recording_in b now) (n + 1) → {w : ℕ} → w ≡ judgement_word a → with_kept_count now (n + 1) w ≡ judgements_between b t first (n + 1)
+    more_between n h now e f g =
         let s : recording_in b now ≡ R = ap (recording_in b) e ∙ between_recording n in
         rw (g, f, s, e, add-one n) (sym (next n (omega arith)))
 
@@ -119,27 +120,41 @@ module _ (b t : List ℕ) where
   upto_between (suc n) =
       ap (λ (x : List ℕ). with_kept_count x (suc n) (judgement_word (judgement R (suc n)))) (upto_between n) ∙ sym (next 1 n (omega arith))
 
+  pub upto_layout : (n : ℕ) → layout_in (judgements_upto b t n) ≡ layout_in t
+  upto_layout n = ap layout_in (upto_between n) ∙ between_layout 1 n
+
+  pub upto_recording : (n : ℕ) → recording_in b (judgements_upto b t n) ≡ recording_in b t
+  upto_recording n = ap (recording_in b) (upto_between n) ∙ between_recording 1 n
+
+  pub upto_length : (n : ℕ) → length (judgements_upto b t n) ≡ length t
+  upto_length n = ap length (upto_between n) ∙ between_length 1 n
+
+  -- a loop that has kept n judgements
+  pub more :
+      (n : ℕ) (now : List ℕ) → now ≡ judgements_upto b t n → {a : Answer Amount} → a ≡ judgement (recording_in b now) (n + 1) →
+      {w : ℕ} → w ≡ judgement_word a → with_kept_count now (n + 1) w ≡ judgements_upto b t (n + 1)
+  more n now e f g = more_between 1 n (omega arith) now (e ∙ upto_between n) f g ∙ sym (upto_between (n + 1))
+
   pub all_long : bundle_most < length b → with_judgements b t ≡ t
   unfolding with_judgements
   all_long h = rw (lt-ltb bundle_most (length b) h)
 
-  pub all_short : length b ≤ bundle_most → with_judgements b t ≡ judgements_between b t 1 (sample_count (layout_in t))
+  pub all_short : length b ≤ bundle_most → with_judgements b t ≡ judgements_upto b t (sample_count (layout_in t))
   unfolding with_judgements
-  all_short h = rw (le-ltb bundle_most (length b) h, upto_between (sample_count (layout_in t)))
+  all_short h = rw (le-ltb bundle_most (length b) h)
 
-  pub all_upto : length b ≤ bundle_most → with_judgements b t ≡ judgements_upto b t (sample_count (layout_in t))
-  unfolding with_judgements
-  all_upto h = rw (le-ltb bundle_most (length b) h)
+  pub all_between : length b ≤ bundle_most → with_judgements b t ≡ judgements_between b t 1 (sample_count (layout_in t))
+  all_between h = all_short h ∙ upto_between (sample_count (layout_in t))
 
   pub all_recording : recording_in b (with_judgements b t) ≡ recording_in b t
   all_recording = by_bool (bundle_most <? length b)
       (λ l. ap (recording_in b) (all_long (ltb-true bundle_most (length b) l)))
-      (λ l. ap (recording_in b) (all_short (ltb-false bundle_most (length b) l)) ∙ between_recording 1 (sample_count (layout_in t)))
+      (λ l. ap (recording_in b) (all_between (ltb-false bundle_most (length b) l)) ∙ between_recording 1 (sample_count (layout_in t)))
 
   pub all_layout : layout_in (with_judgements b t) ≡ layout_in t
   all_layout = by_bool (bundle_most <? length b)
       (λ l. ap layout_in (all_long (ltb-true bundle_most (length b) l)))
-      (λ l. ap layout_in (all_short (ltb-false bundle_most (length b) l)) ∙ between_layout 1 (sample_count (layout_in t)))
+      (λ l. ap layout_in (all_between (ltb-false bundle_most (length b) l)) ∙ between_layout 1 (sample_count (layout_in t)))
 
   -- what is kept beside sample n
   pub between_kept : (first k : ℕ) → k ≤ sample_count (layout_in t) → table_most ≤ length t → (n : ℕ) → 0 < n → first ≤ n → n ≤ k → kept_count_in (judgements_between b t first k) n ≡ judgement_word (judgement (recording_in b t) n)
@@ -154,8 +169,14 @@ module _ (b t : List ℕ) where
       (λ e. rw (eqb-true n (suc k) e) (kept_count_set (judgements_between b t first k) (suc k) _ (omega arith) (omega arith) (omega arith)))
       (λ e. let q = eqb-false n (suc k) e in kept_count_other (judgements_between b t first k) (suc k) n _ q ∙ below (omega arith) r n h f (omega arith)))
 
+  upto_kept :
+      (k : ℕ) → k ≤ sample_total t → table_most ≤ length t → (n : ℕ) → 0 < n → n ≤ k →
+      kept_count_in (judgements_upto b t k) n ≡ judgement_word (judgement (recording_in b t) n)
+  upto_kept k l r n h i =
+      let c = samples_count t in ap (λ (x : List ℕ). kept_count_in x n) (upto_between k) ∙ between_kept 1 k (omega arith) r n h h i
+
   pub kept_judgement : length b ≤ bundle_most → table_most ≤ length t → (n : ℕ) → 0 < n → n ≤ sample_count (layout_in t) → kept_count_in (with_judgements b t) n ≡ judgement_word (judgement (recording_in b t) n)
-  kept_judgement few r n h i = ap (λ (x : List ℕ). kept_count_in x n) (all_short few) ∙ between_kept 1 (sample_count (layout_in t)) (omega arith) r n h h i
+  kept_judgement few r n h i = ap (λ (x : List ℕ). kept_count_in x n) (all_between few) ∙ between_kept 1 (sample_count (layout_in t)) (omega arith) r n h h i
 
 -- what a judgement says of a sample
 module _ (r : Recording) (n : ℕ) where

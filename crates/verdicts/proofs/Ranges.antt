@@ -34,7 +34,7 @@ use Rattle.delivery.proofs.Folds.{content_most}
 use Rattle.judging.specs.Steps.{amount_for, judgement, unfit, on_range_in}
 use Rattle.judging.specs.declared.Amount.{Amount}
 use Rattle.verdicts.specs.Kept.{judgement_word, judged_size, sample_output_most, judgements_between, range_size_in, with_range}
-use Rattle.verdicts.proofs.Keeping.{between_none, between_recording, between_length, between_kept, more}
+use Rattle.verdicts.proofs.Keeping.{between_none, between_recording, between_length, between_kept, more_between}
 
 module _ (b t : List ℕ) where
   abbrev R : Recording
@@ -106,7 +106,7 @@ module _ (b t : List ℕ) (first last : ℕ) where
           let j : a ≡ judgement (recording_in b t) (n + 1) = e ∙ ap (λ (r : Recording). judgement r (n + 1)) keeping_recording in
           let d : judged_size a ≡ length (given (resolve (recording_in b t) (n + 1))) = ap judged_size j ∙ size_given (recording_in b t) (n + 1) (omega arith) (omega arith) in
           record {
-            kept = more b t first n f now w.kept e g;
+            kept = more_between b t first n f now w.kept e g;
             adds = rw (ranges.between_more first n f, ranges.joined_more (recording_in b t) (between first n) (n + 1), length-append (joined (recording_in b t) (between first n)) (given (resolve (recording_in b t) (n + 1)))) (let z = w.adds in omega arith);
             most = omega arith;
             from = omega arith;

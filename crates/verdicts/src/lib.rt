@@ -38,7 +38,7 @@ fn judge_formed(b: &[u8], t: &[u64], n: SampleNumber, k: Track, x: &[u8]) -> Jud
 {
     let mut forms = [0u64; surveys::FORMS_SIZE];
     let mut rows = [0u32; surveys::ROWS_SIZE];
-    surveys::mark_named(b, t, n, k, x, &mut forms, &mut rows, 0);
+    surveys::mark_named(b, t, n, k, x, &mut forms, &mut rows);
     measuring::measure(b, t, &forms, &rows, n, k, x)
 }
 

@@ -132,7 +132,7 @@ fn mark_linked(
 }
 
 // The samples checked and marked that the extractors of sample n name, which is x, each once; how many rows are used then.
-pub(crate) fn mark_named(
+fn mark_named_from(
     b: &[u8],
     t: &[u64],
     n: SampleNumber,
@@ -168,6 +168,22 @@ pub(crate) fn mark_named(
     used
 }
 
+// The samples checked and marked that the extractors of sample n name, which is x, each once.
+pub(crate) fn mark_named(
+    b: &[u8],
+    t: &[u64],
+    n: SampleNumber,
+    k: Track,
+    x: &[u8],
+    forms: &mut [u64],
+    rows: &mut [u32],
+)
+    requires { (length b.now ≤ bundle_most) × (length rows.old ≤ rows_most) × Survey b.now t.now forms.old rows.old 0 }
+    ensures { Ready b.now t.now forms.new rows.new }
+{
+    mark_named_from(b, t, n, k, x, forms, rows, 0);
+}
+
 // Sample n checked and marked and, if it is well formed, those that its extractors name; how many rows are used then.
 fn mark_with_named(
     b: &[u8],
@@ -186,7 +202,7 @@ fn mark_with_named(
     }
     let k = delivery::track_of(t, n);
     let x = sample_tables::sample_bytes(b, t, n);
-    mark_named(b, t, n, k, x, forms, rows, more)
+    mark_named_from(b, t, n, k, x, forms, rows, more)
 }
 
 // Samples first to last and those that their extractors name, checked and marked, each once.

@@ -2,7 +2,7 @@
 use native.Mathlib.Omega.{arith}
 use mathlib.Core.Path.{sym, ◌∙◌}
 use Rattle.verdicts.proofs.Known.{zeros, survey_start}
-use Rattle.verdicts.proofs.Keeping.{all_long, all_upto}
+use Rattle.verdicts.proofs.Keeping.{all_long, all_short}
 use Rattle.verdicts.proofs.judge_all.Goals as goal
 
 pub returns-then-b-gt-BUNDLE_MOST : goal.returns-then-b-gt-BUNDLE_MOST
@@ -15,4 +15,4 @@ pub keep_all-requires : goal.keep_all-requires
 keep_all-requires c = (c.if-b-gt-BUNDLE_MOST.false, c.mark_all.ensures)
 
 pub returns : goal.returns
-returns c = let a = c.args in c.keep_all.ensures ∙ sym (all_upto a.b.now a.t.now c.if-b-gt-BUNDLE_MOST.false)
+returns c = let a = c.args in c.keep_all.ensures ∙ sym (all_short a.b.now a.t.now c.if-b-gt-BUNDLE_MOST.false)

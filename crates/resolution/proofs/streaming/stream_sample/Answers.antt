@@ -4,7 +4,7 @@ use mathlib.Core.Path.{◌≡◌, sym, ap, ◌∙◌}
 use Prim.Native.Nat.{ℕ}
 use Rattle.words.specs.Refusals.{ok}
 use Rattle.words.specs.Buffers.{overwrite}
-use Rattle.words.proofs.Buffers.{refuse, accept, write_first}
+use Rattle.words.proofs.Buffers.{refuse, accept}
 use Rattle.numbers.specs.Answers.{answer_of}
 use Rattle.bundles.specs.Recordings.{Recording, sample_count}
 use Rattle.tables.specs.Tables.{recording_in}
@@ -60,4 +60,4 @@ pub returns-in-Refused-length : goal.returns-in-Refused-length
 returns-in-Refused-length c = refuse (size_refused _ _ _ (number (goal.at.returns-in-Refused-length c).In-Good) (good (goal.at.returns-in-Refused-length c).In-Good) (sym c.judge_units-length.ensures ∙ ap answer_of c.in-Refused-length.is))
 
 pub returns-else-out-size : goal.returns-else-out-size
-returns-else-out-size c = rw (size_good _ _ (size (goal.at.returns-else-out-size c).In-Count)).1 (accept (size_written _ _ _ (number (goal.at.returns-else-out-size c).In-Good) (good (goal.at.returns-else-out-size c).In-Good) (size (goal.at.returns-else-out-size c).In-Count) c.if-out-size.false) (c.write_units.ensures.1 ∙ write_first _ _ ∙ ap (overwrite _) (framed_codes _ _)))
+returns-else-out-size c = rw (size_good _ _ (size (goal.at.returns-else-out-size c).In-Count)).1 (accept (size_written _ _ _ (number (goal.at.returns-else-out-size c).In-Good) (good (goal.at.returns-else-out-size c).In-Good) (size (goal.at.returns-else-out-size c).In-Count) c.if-out-size.false) (c.write_units.ensures ∙ ap (overwrite _) (framed_codes _ _)))

@@ -6,7 +6,7 @@ use mathlib.Core.List.{List}
 use lib.ListN.{length}
 use Rattle.words.specs.Refusals.{ok}
 use Rattle.words.specs.Buffers.{overwrite}
-use Rattle.words.proofs.Buffers.{refuse, accept, write_first}
+use Rattle.words.proofs.Buffers.{refuse, accept}
 use Rattle.tables.specs.Tables.{recording_in}
 use Rattle.bundles.specs.Recordings.{Recording, sample_count}
 use Rattle.resolution_rules.specs.Resolving.{delivered, judged}
@@ -89,4 +89,4 @@ pub returns-in-Refused : goal.returns-in-Refused
 returns-in-Refused c = refuse (sample_refused _ _ _ c.requires (sym c.judge-judged.ensures ∙ ap answer_of c.in-Refused.is) _)
 
 pub returns-else-out-size : goal.returns-else-out-size
-returns-else-out-size c = rw (size (goal.at.returns-else-out-size c).In-Good) (accept (sample_resolved _ _ _ (sound (goal.at.returns-else-out-size c).In-Good) (good (goal.at.returns-else-out-size c).In-Good) (fits (goal.at.returns-else-out-size c).Else-out-size)) (c.write_units.ensures.1 ∙ write_first _ _ ∙ ap (overwrite _) (framed_lengths _ _)))
+returns-else-out-size c = rw (size (goal.at.returns-else-out-size c).In-Good) (accept (sample_resolved _ _ _ (sound (goal.at.returns-else-out-size c).In-Good) (good (goal.at.returns-else-out-size c).In-Good) (fits (goal.at.returns-else-out-size c).Else-out-size)) (c.write_units.ensures ∙ ap (overwrite _) (framed_lengths _ _)))

@@ -7,8 +7,8 @@ use Rattle.units.specs.Units.{Sample, sample}
 use Rattle.units.specs.declared.NalUnit.{NalUnit}
 use Rattle.units.proofs.Units.{next_after}
 use Rattle.unit_steps.proofs.Items.{aggregator_is, extractor_is, unit_is}
-use Rattle.verdicts.proofs.surveys.mark_named.Goals as goal
-use Rattle.verdicts.proofs.surveys.mark_named.Goals.{After-item_at-item}
+use Rattle.verdicts.proofs.surveys.mark_named_from.Goals as goal
+use Rattle.verdicts.proofs.surveys.mark_named_from.Goals.{After-item_at-item}
 
 abbrev X : After-item_at-item → Sample
 X c = let a = c.args in sample a.k a.x.now

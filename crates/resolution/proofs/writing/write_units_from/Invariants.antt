@@ -4,7 +4,7 @@ use Rattle.tables.specs.Tables.{recording_in}
 use Rattle.delivery.proofs.Falling.{bound}
 use Rattle.delivery.proofs.Folds.{Folded}
 use Rattle.resolution.proofs.Puts.{Puts}
-use Rattle.resolution.proofs.writing.write_units.Given as goal
+use Rattle.resolution.proofs.writing.write_units_from.Given as goal
 
 abbrev pub invariant-loop-d : goal.invariant-loop-d
 invariant-loop-d l = Folded (recording_in l.b l.t) l.n.0 (sample l.k l.x) (Puts l.f (recording_in l.b l.t) l.n.0 (sample l.k l.x) l.from l.initial.out l.out l.at) l.c
