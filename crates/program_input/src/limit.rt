@@ -24,6 +24,7 @@ pub fn too_big(n: usize, more: usize) -> bool
 // The only error is that of the read; what it leaves of the reader's bytes is the reader's own affair, and nothing else is lent.
 pub fn is_too_big<R: Read>(reader: &mut R, n: usize) -> io::Result<bool>
     ensures small { n < input_most → result ≡ Ok false }
+    ensures unread { n < input_most → reader.new ≡ reader.old }
     ensures known { IfSome (R.remaining reader.old) (λ s. IfOk result (λ r. r ≡ too_big n (length s))) }
 {
     let mut more: usize = 0;
