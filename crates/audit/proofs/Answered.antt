@@ -2,6 +2,7 @@
 --
 --   count_in_table                the count that a table says
 --   lines_filled, tally_filled    the calls by a table that was filled
+use Rattle.std.specs.Prelude.{Ok}
 use Prim.Native.Nat.{ℕ}
 use mathlib.Core.Path.{◌≡◌, sym}
 use mathlib.Core.List.{List}
@@ -12,7 +13,6 @@ use Rattle.bundles.specs.Recordings.{sample_count}
 use Rattle.bundles.specs.Readers.{first_layout}
 use Rattle.tables.specs.Tables.{layout_in, recording_in}
 use Rattle.filling.specs.Filling.{filling, table_after}
-use Rattle.filling.specs.declared.Filled.TheVariants.{Done}
 use Rattle.filling.proofs.Promises.{table_accepted, table_means}
 use Rattle.audit_rules.specs.Auditing.{lines, audit_call, tally_call, tally_within}
 use Rattle.audit_rules.proofs.Calls.{audit_means, tally_means}
@@ -22,7 +22,7 @@ unfolding recording_in
 count_in_table b t e = e
 
 -- a table that was filled: whatever is said by the table that is left
-module _ (b t : List ℕ) (done : filling first_layout b (length t) ≡ Done) {s : List ℕ} (f : s ≡ table_after first_layout b t) (room : ℕ) where
+module _ (b t : List ℕ) (done : filling first_layout b (length t) ≡ (Ok tt)) {s : List ℕ} (f : s ≡ table_after first_layout b t) (room : ℕ) where
   pub lines_filled : within room (ok (lines (recording_in b s))) ≡ audit_call first_layout b room
   lines_filled = rw (f, table_means b t done) (sym (audit_means first_layout b room (table_accepted b t done)))
 

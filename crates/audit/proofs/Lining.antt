@@ -3,6 +3,7 @@
 --   line_for_lem, line_kept                            the line of a judgement as the code has it; of a sample whose judgement is kept
 --   kept_none, kept_length, kept_short                 no sample; how long they are; no room
 --   Lining, lining_start, -room, -more, -length, -end  a loop over the samples
+use Rattle.std.specs.Prelude.{Err, Ok, Result}
 use Prim.Native.Nat.{ℕ, zero, suc, ◌+◌, ◌-◌, ◌*◌, ◌≤◌, ◌<◌}
 use mathlib.Core.Path.{◌≡◌, refl, ap, sym, ◌∙◌}
 use mathlib.Core.List.{List, [], ◌∷◌, ◌++◌, append-nil}
@@ -20,16 +21,15 @@ use Rattle.resolution_rules.specs.Ranges.{between}
 use Rattle.resolution_rules.proofs.Ranges.{between_none, between_more}
 use Rattle.judging.specs.Steps.{amount_for, judgement}
 use Rattle.verdicts.specs.Kept.{judgement_word, units_of, verdict_in, kept_answer}
-use Rattle.verdicts.specs.declared.KeptVerdict.{KeptVerdict}
-use Rattle.verdicts.specs.declared.KeptVerdict.TheVariants as verdict
 use Rattle.verdicts.proofs.Keeping.{word_verdict}
 use Rattle.audit_rules.specs.Auditing.{line_size, line_bytes, line_of}
 use Rattle.audit_rules.proofs.Lines.{line_bytes_length}
 use Rattle.audit.specs.Steps.{verdict_of, units_in, line_for, kept_lines}
+use Rattle.numbers.specs.declared.Refusal.{Refusal}
 
-pub line_for_lem : (x : KeptVerdict) → line_bytes (verdict_of x) (units_in x) ≡ line_for (kept_answer x)
-line_for_lem (verdict.Refused f) = refl
-line_for_lem (verdict.Units k) = refl
+pub line_for_lem : (x : Result ℕ Refusal) → line_bytes (verdict_of x) (units_in x) ≡ line_for (kept_answer x)
+line_for_lem (Err f) = refl
+line_for_lem (Ok k) = refl
 
 -- a sample whose judgement is kept
 judged_line : (r : Recording) (n : ℕ) → line_for (units_of (judgement r n)) ≡ line_of r n

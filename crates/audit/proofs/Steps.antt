@@ -4,6 +4,7 @@
 --   judgements_kept                                        the judgements are there after all samples are judged
 --   line_judged, outcome_judged                            the line and the outcome of a sample that was judged
 --   Auditing, auditing_start, -length, -room, -more, -end  a loop over the samples
+use Rattle.std.specs.Prelude.{Err, Ok, Result}
 use Prim.Native.Nat.{ℕ, ◌+◌, ◌*◌, ◌≤◌, ◌<◌}
 use mathlib.Core.Path.{◌≡◌, ap, sym, ◌∙◌}
 use mathlib.Core.List.{List, [], ◌++◌}
@@ -23,8 +24,6 @@ use Rattle.tables.specs.Tables.{layout_in, recording_in, kept_count_in, table_mo
 use Rattle.tables.proofs.Layouts.{samples_most}
 use Rattle.judging.specs.Steps.{judgement}
 use Rattle.verdicts.specs.Kept.{units_of, verdict_in, kept_answer, with_judgements}
-use Rattle.verdicts.specs.declared.KeptVerdict.{KeptVerdict}
-use Rattle.verdicts.specs.declared.KeptVerdict.TheVariants as verdict
 use Rattle.verdicts.proofs.Keeping.{kept_judgement, all_layout, all_recording, word_verdict, units_refused, units_good}
 use Rattle.tally.specs.Tallies.{tallied, raised_by}
 use Rattle.tally.specs.declared.Tally.{Tally}
@@ -34,6 +33,7 @@ use Rattle.audit_rules.proofs.Outcomes.{outcome_empty, outcome_passed, outcome_r
 use Rattle.audit_rules.proofs.Lines.{line_length, joined_length}
 use Rattle.audit_rules.proofs.Steps.{first_lines, first_tally, lines_start, lines_put, lines_end, tally_start, tally_more, tally_end}
 use Rattle.audit.specs.Steps.{verdict_of, units_in, outcome_in, JudgementsKept}
+use Rattle.numbers.specs.declared.Refusal.{Refusal}
 
 -- writes, one after the other
 pub put_three : (o : List ℕ) (at m p units : ℕ) → at + line_size ≤ length o
@@ -62,14 +62,14 @@ module _ (b t : List ℕ) (kept : JudgementsKept b t) (n : ℕ) (more : 0 < n) (
   kept_units_lem : {a : Answer ℕ} → a ≡ verdict_in (kept_count_in t n) → units_of (judgement (recording_in b t) n) ≡ a
   kept_units_lem e = sym (e ∙ ap verdict_in (kept n more there) ∙ word_verdict b t n)
 
-  pub line_judged : (x : KeptVerdict) → kept_answer x ≡ verdict_in (kept_count_in t n) → line_bytes (verdict_of x) (units_in x) ≡ line_of (recording_in b t) n
+  pub line_judged : (x : Result ℕ Refusal) → kept_answer x ≡ verdict_in (kept_count_in t n) → line_bytes (verdict_of x) (units_in x) ≡ line_of (recording_in b t) n
   unfolding line_of line_bytes
-  line_judged (verdict.Refused f) e = rw (units_refused (recording_in b t) n (kept_units_lem e))
-  line_judged (verdict.Units k) e = let w = units_good (recording_in b t) n (kept_units_lem e) in rw (w.0, w.1)
+  line_judged (Err f) e = rw (units_refused (recording_in b t) n (kept_units_lem e))
+  line_judged (Ok k) e = let w = units_good (recording_in b t) n (kept_units_lem e) in rw (w.0, w.1)
 
-  pub outcome_judged : (x : KeptVerdict) → kept_answer x ≡ verdict_in (kept_count_in t n) → outcome_in x (length (content_of (recording_in b t) n)) ≡ outcome_of (recording_in b t) n
-  outcome_judged (verdict.Refused f) e = sym (outcome_refused (recording_in b t) n (units_refused (recording_in b t) n (kept_units_lem e)))
-  outcome_judged (verdict.Units k) e =
+  pub outcome_judged : (x : Result ℕ Refusal) → kept_answer x ≡ verdict_in (kept_count_in t n) → outcome_in x (length (content_of (recording_in b t) n)) ≡ outcome_of (recording_in b t) n
+  outcome_judged (Err f) e = sym (outcome_refused (recording_in b t) n (units_refused (recording_in b t) n (kept_units_lem e)))
+  outcome_judged (Ok k) e =
       let r = recording_in b t in
       let size = length (content_of r n) in
       by_number size

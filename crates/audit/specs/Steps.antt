@@ -5,7 +5,7 @@
 --   JudgementsKept b t         beside each sample of the table its judgement is kept
 --   line_for a                 the line by a judgement: its refusal, or how many units are delivered
 --   kept_lines t skipped last  the lines of the samples after the first `skipped` ones, up to last, by what the table keeps of them
-use Rattle.std.specs.Prelude.{ℕ, ◌+◌, ◌≤◌, ◌<◌, ◌≡◌, List}
+use Rattle.std.specs.Prelude.{ℕ, ◌+◌, ◌≤◌, ◌<◌, ◌≡◌, List, Err, Ok, Result}
 use Rattle.words.specs.Tests.{◌≡?◌, pick}
 use Rattle.words.specs.Refusals.{Answer, refused, ok, Verdict}
 use Rattle.words.specs.Lists.{each}
@@ -17,20 +17,19 @@ use Rattle.tally.specs.declared.Outcome.{Outcome}
 use Rattle.tally.specs.declared.Outcome.TheVariants.{Passed, Empty, Refused}
 use Rattle.audit_rules.specs.Auditing.{line_bytes}
 use Rattle.verdicts.specs.Kept.{judgement_word, verdict_in}
-use Rattle.verdicts.specs.declared.KeptVerdict.{KeptVerdict}
-use Rattle.verdicts.specs.declared.KeptVerdict.TheVariants as kept
+use Rattle.numbers.specs.declared.Refusal.{Refusal}
 
-abbrev pub verdict_of : KeptVerdict → Verdict
-verdict_of (kept.Refused f) = refused f.number f.place.0
-verdict_of (kept.Units k) = ok tt
+abbrev pub verdict_of : Result ℕ Refusal → Verdict
+verdict_of (Err f) = refused f.number f.place.0
+verdict_of (Ok k) = ok tt
 
-abbrev pub units_in : KeptVerdict → ℕ
-units_in (kept.Refused f) = 0
-units_in (kept.Units k) = k
+abbrev pub units_in : Result ℕ Refusal → ℕ
+units_in (Err f) = 0
+units_in (Ok k) = k
 
-abbrev pub outcome_in : KeptVerdict → ℕ → Outcome
-outcome_in (kept.Refused f) size = Refused
-outcome_in (kept.Units k) size = pick (size ≡? 0) Empty Passed
+abbrev pub outcome_in : Result ℕ Refusal → ℕ → Outcome
+outcome_in (Err f) size = Refused
+outcome_in (Ok k) size = pick (size ≡? 0) Empty Passed
 
 -- beside each sample its judgement is kept
 abbrev pub JudgementsKept : List ℕ → List ℕ → Type 0

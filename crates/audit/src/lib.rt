@@ -15,23 +15,14 @@ ghost use Rattle.audit.specs.Steps.{verdict_of, units_in, outcome_in, Judgements
 ghost use Rattle.audit.specs.Answers.{lines_answer, tally_answer};
 
 use audit_lines::{LINE_SIZE, REFUSAL_SIZE, UNITS_SIZE};
-use filling::Filled;
-use numbers::{ByteOffset, PLACE_SIZE, Refusal, SampleNumber, refusals};
+use numbers::{ByteOffset, Fault, PLACE_SIZE, Refusal, SampleNumber};
 use tally::{Outcome, Tally};
-use verdicts::KeptVerdict;
 
 // How many bytes of lines are written, and the tally.
 #[derive(Clone, Copy)]
 pub struct Report {
     pub count: usize,
     pub tally: Tally,
-}
-
-// A bundle audited, or refused.
-#[derive(Clone, Copy)]
-pub enum Audited {
-    Refused(Refusal),
-    Done(Report),
 }
 
 // The three numbers of a line over a buffer that has room.
@@ -45,13 +36,13 @@ fn put_numbers(out: &mut [u8], at: usize, refusal: u8, place: ByteOffset, units:
 }
 
 // The line of a judged sample over a buffer that has room.
-fn put_line(out: &mut [u8], at: usize, judged: KeptVerdict)
+fn put_line(out: &mut [u8], at: usize, judged: Result<usize, Refusal>)
     requires { at + line_size ≤ length out.old }
     ensures { out.new ≡ put out.old at (line_bytes (verdict_of judged) (units_in judged)) }
 {
     match judged {
-        KeptVerdict::Refused(f) => put_numbers(out, at, f.number, f.place, 0),
-        KeptVerdict::Units(count) => put_numbers(out, at, 0, ByteOffset(0), count),
+        Err(f) => put_numbers(out, at, f.number, f.place, 0),
+        Ok(count) => put_numbers(out, at, 0, ByteOffset(0), count),
     }
 }
 
@@ -66,22 +57,20 @@ pub fn write_lines(t: &[u64], skipped: usize, last: SampleNumber, lines: &mut [u
     if lines.len() / LINE_SIZE < last.0 - skipped {
         return;
     }
-    let mut n = skipped;
-    let mut at: usize = 0;
-    while n < last.0 {
-        n += 1;
-        put_line(lines, at, verdicts::kept_verdict(t, SampleNumber(n)));
+    let mut at = 0;
+    for n in skipped..last.0 {
+        put_line(lines, at, verdicts::kept_verdict(t, SampleNumber(n + 1)));
         at += LINE_SIZE;
     }
 }
 
 // What the audit finds of a judged sample of so many bytes.
-fn outcome(judged: KeptVerdict, size: usize) -> Outcome
+fn outcome(judged: Result<usize, Refusal>, size: usize) -> Outcome
     ensures { result ≡ outcome_in judged size }
 {
     match judged {
-        KeptVerdict::Refused(_) => Outcome::Refused,
-        KeptVerdict::Units(_) => {
+        Err(_) => Outcome::Refused,
+        Ok(_) => {
             if size == 0 {
                 return Outcome::Empty;
             }
@@ -111,28 +100,16 @@ fn audit_samples(b: &[u8], t: &[u64], count: usize, out: &mut [u8]) -> Tally
         × (out.new ≡ overwrite out.old (lines (recording_in b.now t.now))) }
 {
     let mut tally = tally::start();
-    let mut done: usize = 0;
-    while done < count {
+    for done in 0..count {
         let outcome = audit_sample(b, t, done, out);
         tally::raise(&mut tally, outcome);
-        done += 1;
     }
     tally
 }
 
-// A refusal at 0.
-fn refused(number: u8) -> Audited
-    ensures { (lines_answer result ≡ refused number 0) × (tally_answer result ≡ refused number 0) }
-{
-    Audited::Refused(Refusal {
-        number: number,
-        place: ByteOffset(0),
-    })
-}
-
 // An accepted bundle by its table: 29, or all lines and the tally. 29 is known before the first byte is written. All samples are judged, each
 // judgement kept in the table, and then written.
-fn audit_accepted(b: &[u8], t: &mut [u64], out: &mut [u8]) -> Audited
+fn audit_accepted(b: &[u8], t: &mut [u64], out: &mut [u8]) -> Result<Report, Refusal>
     requires { (length b.now ≤ bundle_most) × (table_most ≤ length t.old) }
     ensures { Wrote out.old out.new (lines_answer result) (within (length out.old) (ok (lines (recording_in b.now t.old))))
         × (tally_answer result ≡ tally_within (recording_in b.now t.old) (length out.old)) }
@@ -140,23 +117,20 @@ fn audit_accepted(b: &[u8], t: &mut [u64], out: &mut [u8]) -> Audited
     let count = sample_tables::sample_count(t);
     let size = LINE_SIZE * count;
     if out.len() < size {
-        return refused(refusals::OUTPUT_TOO_LONG);
+        return Err(Refusal::at(Fault::OutputTooLong, 0));
     }
     verdicts::judge_all(b, t);
     let tally = audit_samples(b, t, count, out);
-    Audited::Done(Report { count: size, tally })
+    Ok(Report { count: size, tally })
 }
 
 // A bundle audited: 1 to 13, 29; or a line a sample over the start of the buffer, how many bytes that is, and the tally. After a refusal
 // the buffer is as it was.
-pub fn audit(b: &[u8], lines: &mut [u8]) -> Audited
+pub fn audit(b: &[u8], lines: &mut [u8]) -> Result<Report, Refusal>
     ensures { Wrote lines.old lines.new (lines_answer result) (audit_call first_layout b.now (length lines.old))
         × (tally_answer result ≡ tally_call first_layout b.now (length lines.old)) }
 {
     let mut t = [0u64; tables::TABLE_SIZE];
-    let filled = filling::fill_table(b, &mut t);
-    match filled {
-        Filled::Refused(f) => Audited::Refused(f),
-        Filled::Done => audit_accepted(b, &mut t, lines),
-    }
+    filling::fill_table(b, &mut t)?;
+    audit_accepted(b, &mut t, lines)
 }

@@ -2,6 +2,7 @@
 --
 --   table_whole    a table of the most numbers, filled from an accepted bundle, gives its recording
 --   lines_whole    an audit into a buffer for the most lines goes by the bundle alone
+use Rattle.std.specs.Prelude.{Ok}
 use Prim.Native.Nat.{ℕ, ◌*◌, ◌≤◌}
 use mathlib.Core.Path.{◌≡◌, ◌∙◌}
 use mathlib.Core.List.{List}
@@ -17,7 +18,6 @@ use Rattle.bundles.specs.Readers.{first_layout}
 use Rattle.bundles.proofs.Promises.{limits_kept}
 use Rattle.tables.specs.Tables.{table_most, recording_in}
 use Rattle.filling.specs.Filling.{filling, table_after}
-use Rattle.filling.specs.declared.Filled.TheVariants.{Done}
 use Rattle.filling.proofs.Reading.{held_room}
 use Rattle.filling.proofs.Promises.{table_room, table_recording}
 use Rattle.resolution_rules.specs.Calls.{on_bundle}
@@ -25,7 +25,7 @@ use Rattle.audit_rules.specs.Auditing.{line_size, lines, audit_call}
 use Rattle.audit_rules.proofs.Calls.{audit_bundle, audit_means}
 use Rattle.audit_rules.proofs.Lines.{lines_length}
 
-table_done : (b : List ℕ) (room : ℕ) (r : Recording) → meaning b ≡ ok r → table_most ≤ room → filling first_layout b room ≡ Done
+table_done : (b : List ℕ) (room : ℕ) (r : Recording) → meaning b ≡ ok r → table_most ≤ room → filling first_layout b room ≡ (Ok tt)
 unfolding filling
 table_done b room r e h = let x = table_room b r e in rw (e, held_room room r (omega arith))
 

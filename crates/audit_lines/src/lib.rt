@@ -5,7 +5,7 @@ ghost use Rattle.std.specs.Prelude.{◌≡◌};
 ghost use Rattle.words.specs.RefusalNumbers.{sample_refusals};
 ghost use Rattle.audit_lines.specs.Lines.{line_there, line_from, line_says};
 
-use numbers::{ByteOffset, PLACE_SIZE, Refusal, SampleNumber, refusals};
+use numbers::{ByteOffset, Fault, PLACE_SIZE, Refusal, SampleNumber, refusals};
 
 // A line: the refusal, its place, and how many units are delivered.
 pub const REFUSAL_SIZE: usize = 1;
@@ -31,21 +31,21 @@ fn of_sample() -> [u8; SAMPLE_COUNT]
     ensures { result ≡ sample_refusals }
 {
     [
-        refusals::LENGTH_FIELD_CUT,
-        refusals::UNIT_TOO_LONG,
-        refusals::EMPTY_UNIT,
-        refusals::TOP_BIT_SET,
-        refusals::UNIT_TOO_SHORT,
-        refusals::NESTED_AGGREGATOR,
-        refusals::SLICE_IN_AVC_AGGREGATOR,
-        refusals::BAD_ADDITIONAL_BYTES,
-        refusals::BAD_EXTRACTOR_SIZE,
-        refusals::BAD_TRACK_REF_INDEX,
-        refusals::NO_SAMPLE_NAMED,
-        refusals::NAMED_ILL_FORMED,
-        refusals::BAD_DATA_OFFSET,
-        refusals::BAD_DATA_LENGTH,
-        refusals::EXTRACTOR_COPIED,
+        Fault::LengthFieldCut.number(),
+        Fault::UnitTooLong.number(),
+        Fault::EmptyUnit.number(),
+        Fault::TopBitSet.number(),
+        Fault::UnitTooShort.number(),
+        Fault::NestedAggregator.number(),
+        Fault::SliceInAvcAggregator.number(),
+        Fault::BadAdditionalBytes.number(),
+        Fault::BadExtractorSize.number(),
+        Fault::BadTrackRefIndex.number(),
+        Fault::NoSampleNamed.number(),
+        Fault::NamedIllFormed.number(),
+        Fault::BadDataOffset.number(),
+        Fault::BadDataLength.number(),
+        Fault::ExtractorCopied.number(),
     ]
 }
 
@@ -91,7 +91,7 @@ fn line_from(number: u8, place: usize, units: usize, size: usize) -> Line
         return Line::NoLine;
     }
     Line::Refused(Refusal {
-        number: number,
+        number,
         place: ByteOffset(place),
     })
 }

@@ -9,7 +9,7 @@ use mathlib.Core.List.{[], ◌∷◌}
 use native.Mathlib.Omega.{arith}
 use Rattle.words.specs.Refusals.{refused, ok, ◌at_place◌, first}
 use Rattle.words.specs.Lists.{upto}
-use Rattle.words.proofs.Refusals.{at_refused, at_ok, ok_refused, first_ok, by_verdict}
+use Rattle.words.proofs.Refusals.{at_ok, ok_refused, first_ok, by_verdict}
 use Rattle.words.proofs.Lists.{upto_mem}
 use Rattle.words.proofs.Entries.{first_append, first_snoc}
 use Rattle.words.proofs.Rows.{upto_more, upto_split}
@@ -30,11 +30,10 @@ module _ {fault place : ℕ → ℕ} {n : ℕ} where
         good = rw (upto_more i) (first_snoc (λ k. fault k at_place place k) (upto i) (i + 1) w.good ∙ rw e);
       }
 
-  pub passed_refused : {i p r : ℕ} → Passed fault place n i → i < n → r ≡ fault (i + 1) → (r ≡ 0 → ⊥) → p ≡ place (i + 1) → first (λ k. fault k at_place place k) (upto n) ≡ refused r p
+  pub passed_refused : {i m q : ℕ} → Passed fault place n i → i < n → fault (i + 1) at_place place (i + 1) ≡ refused m q → first (λ k. fault k at_place place k) (upto n) ≡ refused m q
   unfolding first
-  passed_refused {i} {p} {r} w h e f g =
-      let s = upto_split i n h in
-      rw (s.is, first_append (λ k. fault k at_place place k) (upto i) ((i + 1) ∷ s.rest), w.good, ← g, at_refused p e f)
+  passed_refused {i} w h e =
+      let s = upto_split i n h in rw (s.is, first_append (λ k. fault k at_place place k) (upto i) ((i + 1) ∷ s.rest), w.good, e)
 
   pub passed_end : {i : ℕ} → Passed fault place n i → n ≤ i → first (λ k. fault k at_place place k) (upto n) ≡ ok tt
   passed_end {i} w h = let e : i ≡ n = omega (arith, w.within) in rw e at w.good

@@ -1,6 +1,7 @@
 -- The refusals of a bundle: each number is one of its set, and each place lies in the bundle or at its end. Assumes nothing.
 --
 --   refused_within    a refused bundle's refusal
+use Rattle.std.specs.Prelude.{None, Option, Some}
 use Prim.Native.Nat.{ℕ, zero, suc, ◌+◌, ◌-◌, ◌≤◌, ◌<◌}
 use mathlib.Core.Path.{◌≡◌, refl, sym, subst}
 use mathlib.Core.Bool.{Bool, true, not, ◌&&◌}
@@ -17,8 +18,6 @@ use Rattle.words.specs.Walks.{entries}
 use Rattle.words.specs.Bytes.{big}
 use Rattle.words.proofs.Lists.{has_from}
 use Rattle.words.proofs.Refusals.{at_ok, ok_refused, NoneOr, none_or_if, none_or_or_else, none_or_pick, none_or_some, none_or_wider}
-use Rattle.numbers.specs.declared.MaybeKind.{MaybeKind}
-use Rattle.numbers.specs.declared.MaybeKind.TheVariants.{Known, Unknown}
 use Rattle.record_rules.proofs.Refusals.{record_refusal}
 use Rattle.bundles.specs.Limits.{count_fault, bundle_most, track_least, track_most, reference_most, sample_most}
 use Rattle.bundles.specs.Fields.{track_count_size, track_head_size, reference_count_size, reference_size, sample_count_size, sample_entry_size, byte_count_size}
@@ -30,6 +29,7 @@ use Rattle.bundles.specs.Bundles.{byte_count, byte_count_fault, bytes_verdict, l
 use Rattle.words.proofs.Entries.{walk_keeps_here}
 use Rattle.bundles.proofs.Passing.{first_earlier}
 use Rattle.bundles.proofs.Sections.{count_good, track_good, reference_good, entries_inside, tracks_good, references_good, samples_good}
+use Rattle.numbers.specs.declared.Kind.{Kind}
 
 -- none, or a refusal of a bundle
 abbrev OfBundle : ℕ → Type 0
@@ -85,10 +85,10 @@ module _ (b : List ℕ) where
       (chain count_out_of_limits (big b p n <? least) refl
       (test count_out_of_limits (most <? big b p n) refl))
 
-  record_as_of : (k : MaybeKind) (s : List ℕ) → OfBundle (record_fault_as k s)
+  record_as_of : (k : Option Kind) (s : List ℕ) → OfBundle (record_fault_as k s)
   unfolding some
-  record_as_of (Known k) s = none_or_wider wider (record_refusal k s)
-  record_as_of Unknown s = inr (has_from unknown_kind bundle_refusals refl)
+  record_as_of (Some k) s = none_or_wider wider (record_refusal k s)
+  record_as_of None s = inr (has_from unknown_kind bundle_refusals refl)
 
   track_of_lem : (p : ℕ) → OfBundle (track_fault b p)
   unfolding track_fault some

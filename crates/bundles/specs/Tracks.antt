@@ -11,7 +11,7 @@
 --   tracks b                          what it means
 --   record_part b k                   where the record of track k stands
 --   references_at b                   where section two starts
-use Rattle.std.specs.Prelude.{ℕ, ◌+◌, List, map}
+use Rattle.std.specs.Prelude.{ℕ, ◌+◌, List, map, None, Option, Some}
 use Rattle.words.specs.RefusalNumbers.{unknown_kind}
 use Rattle.words.specs.Refusals.{◌or_else◌, Verdict, ◌and_then◌, ◌at_place◌, first}
 use Rattle.words.specs.Lists.{nth}
@@ -21,11 +21,8 @@ use Rattle.numbers.specs.Kinds.{kind_of}
 use Rattle.numbers.specs.Sizes.{length_size_of}
 use Rattle.numbers.specs.declared.Kind.{Kind}
 use Rattle.numbers.specs.declared.Kind.TheVariants.{Avc}
-use Rattle.numbers.specs.declared.MaybeKind.{MaybeKind}
-use Rattle.numbers.specs.declared.MaybeKind.TheVariants.{Known, Unknown}
 use Rattle.numbers.specs.declared.LengthSize.{LengthSize}
 use Rattle.numbers.specs.declared.LengthSize.TheVariants.{One}
-use Rattle.numbers.specs.declared.MaybeLengthSize as M
 use Rattle.record_rules.specs.Read.{record_fault, length_size}
 use Rattle.bundles.specs.Limits.{cut, count_fault, track_least, track_most}
 use Rattle.bundles.specs.Fields.{track_count_size, record_length_size, record_length_offset, track_head_size}
@@ -33,18 +30,18 @@ use Rattle.bundles.specs.Parts.{BundlePart, bytes_in}
 use Rattle.bundles.specs.Recordings.{Track}
 
 -- the kind and the length size that a number says; a number that says none is refused (4, 11) wherever this matters
-abbrev pub known_kind : MaybeKind → Kind
-known_kind (Known k) = k
-known_kind Unknown = Avc
+abbrev pub known_kind : Option Kind → Kind
+known_kind (Some k) = k
+known_kind None = Avc
 
-abbrev pub known_size : M.MaybeLengthSize → LengthSize
-known_size (M.TheVariants.Known l) = l
-known_size M.TheVariants.Unknown = One
+abbrev pub known_size : Option LengthSize → LengthSize
+known_size (Some l) = l
+known_size None = One
 
 -- 4: unknown kind; else the record's own refusal
-abbrev pub record_fault_as : MaybeKind → List ℕ → ℕ
-record_fault_as (Known k) s = record_fault k s
-record_fault_as Unknown s = unknown_kind
+abbrev pub record_fault_as : Option Kind → List ℕ → ℕ
+record_fault_as (Some k) s = record_fault k s
+record_fault_as None s = unknown_kind
 
 module _ (b : List ℕ) where
   abbrev pub track_count : ℕ
@@ -60,7 +57,7 @@ module _ (b : List ℕ) where
   abbrev pub track_end : ℕ → ℕ
   track_end p = p + track_head_size + record_length p
 
-  abbrev pub kind_at : ℕ → MaybeKind
+  abbrev pub kind_at : ℕ → Option Kind
   kind_at p = kind_of (byte_at b p)
 
   -- where the record of the entry at p stands, after the entry's head; its bytes

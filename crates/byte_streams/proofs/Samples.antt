@@ -4,6 +4,7 @@
 --   sample_unique                a sample is that of one list of units only
 --   read_zeros                   a stream of zeros only has no units
 --   call_unknown, call_known     the call by its length size
+use Rattle.std.specs.Prelude.{None, Option, Some}
 use Prim.Native.Nat.{ℕ, ◌<◌}
 use mathlib.Core.Path.{◌≡◌, refl, ap, ap₂, sym, ◌∙◌, subst}
 use mathlib.Core.List.Memᴰ
@@ -19,8 +20,6 @@ use Rattle.words.specs.Buffers.{within}
 use Rattle.words.proofs.Bytes.{bytes_length, big_bytes}
 use Rattle.numbers.specs.Sizes.{in_bytes, length_size_of, on_length_size}
 use Rattle.numbers.specs.declared.LengthSize.{LengthSize}
-use Rattle.numbers.specs.declared.MaybeLengthSize.{MaybeLengthSize}
-use Rattle.numbers.specs.declared.MaybeLengthSize.TheVariants.{Known, Unknown}
 use Rattle.byte_streams.specs.Grammar.{zeros, StartCoded, ByteStream}
 use Rattle.byte_streams.specs.Reading.{units_in, sample_with, sample_made, from_stream}
 use Rattle.byte_streams.proofs.Reading.{AllFit, read_to}
@@ -63,13 +62,13 @@ read_zeros L k =
     read_to L [] (zeros k) (subst (λ l. ByteStream [] l) (append-nil (zeros k)) (ByteStream.stream k StartCoded.none)) (λ u m. absurd (Memᴰ.not-nil m))
 
 module _ (n : ℕ) (s : List ℕ) (room : ℕ) where
-  abbrev by_size : MaybeLengthSize → Answer (List ℕ)
+  abbrev by_size : Option LengthSize → Answer (List ℕ)
   by_size m = within room (on_length_size m (λ l. sample_made (in_bytes l) (units_in (in_bytes l) s)))
 
-  pub call_unknown : length_size_of n ≡ Unknown → from_stream n s room ≡ refused bad_length_size 0
+  pub call_unknown : length_size_of n ≡ None → from_stream n s room ≡ refused bad_length_size 0
   unfolding from_stream
   call_unknown e = ap by_size e
 
-  pub call_known : (l : LengthSize) → length_size_of n ≡ Known l → from_stream n s room ≡ within room (sample_made (in_bytes l) (units_in (in_bytes l) s))
+  pub call_known : (l : LengthSize) → length_size_of n ≡ Some l → from_stream n s room ≡ within room (sample_made (in_bytes l) (units_in (in_bytes l) s))
   unfolding from_stream
   call_known l e = ap by_size e

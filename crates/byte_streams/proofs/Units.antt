@@ -6,10 +6,10 @@
 --   no_length                        a list of length 0 is empty
 use Prim.Native.Nat.{ℕ, zero, suc, ◌≤◌}
 use mathlib.Core.Path.{◌≡◌, refl, ap, ◌∙◌}
-use mathlib.Core.Bool.{Bool, true, false, ◌||◌}
+use mathlib.Core.Bool.{true, false}
 use mathlib.Core.List.{List, [], ◌∷◌, ◌++◌}
 use native.Mathlib.Omega.{arith}
-use borrow.Author.Tests.{ne_eqb, eqb-true, eqb-false, le-leb, leb-true}
+use borrow.Author.Tests.{ne_eqb, eqb-false}
 use lib.ListN.{length}
 use Rattle.words.specs.Tests.{◌≡?◌}
 use Rattle.words.proofs.Tests.{by_bool, true_false, not-true, and_both}

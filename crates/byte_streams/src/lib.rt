@@ -15,40 +15,37 @@ pub fn unit_stop(s: &[u8], from: usize) -> usize
         return from;
     }
     let mut i = from;
+    // stays: `while`, since a turn goes on by one, two or three bytes
     while 2 < n - i {
         // none of them stands at i, i + 1 or i + 2 where the third byte is above 02, at i or i + 1 where the second is above 00
         if 2 < s[i + 2] {
             i += 3;
+        } else if s[i + 1] != 0 {
+            i += 2;
+        } else if s[i] != 0 {
+            i += 1;
         } else {
-            if s[i + 1] != 0 {
-                i += 2;
-            } else {
-                if s[i] == 0 {
-                    return i;
-                }
-                i += 1;
-            }
+            return i;
         }
     }
     // at most two bytes are left
+    // stays: a `match` on `&s[i..]` by its last bytes gives the proof no fact on them that it could cite
     if n <= i {
-        return i;
+        i
+    } else if s[n - 1] != 0 {
+        n
+    } else if i + 1 < n && s[i] != 0 {
+        i + 1
+    } else {
+        i
     }
-    if s[n - 1] != 0 {
-        return n;
-    }
-    if 1 < n - i {
-        if s[i] != 0 {
-            return i + 1;
-        }
-    }
-    i
 }
 
 // Where the zeros end that start at a place.
 pub fn zeros_end(s: &[u8], from: usize) -> usize
     ensures { result ≡ zeros_end s.now from }
 {
+    // stays: `for p in from..s.len()` proves, and takes two fifths longer over zeros
     let mut p = from;
     while p < s.len() {
         if s[p] != 0 {
@@ -63,8 +60,5 @@ pub fn zeros_end(s: &[u8], from: usize) -> usize
 pub fn is_streamable(u: &[u8]) -> bool
     ensures { result ≡ is_streamable u.now }
 {
-    if u.len() == 0 {
-        return false;
-    }
-    unit_stop(u, 0) == u.len()
+    !u.is_empty() && unit_stop(u, 0) == u.len()
 }

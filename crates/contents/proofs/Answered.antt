@@ -5,6 +5,7 @@
 --   track_past, reference_past, sample_past      30
 --   track_there                                  a track that exists, by the bundle
 --   track_found, reference_found, sample_found   what is told of a number that exists
+use Rattle.std.specs.Prelude.{Ok}
 use Prim.Native.Nat.{ℕ, ◌≤◌, ◌<◌}
 use mathlib.Core.Path.{◌≡◌, ap, sym, ◌∙◌}
 use mathlib.Core.List.{List}
@@ -22,7 +23,6 @@ use Rattle.bundles.proofs.Sections.{track_count_lem}
 use Rattle.tables.specs.Tables.{track_total, reference_total, reference_in, layout_in, recording_in, start_in}
 use Rattle.tables.proofs.Layouts.{tracks_count, references_count}
 use Rattle.filling.specs.Filling.{filling, table_after}
-use Rattle.filling.specs.declared.Filled.TheVariants.{Done}
 use Rattle.filling.proofs.Promises.{says_done, table_accepted, table_means, table_starts, table_lays_out}
 use Rattle.resolution_rules.specs.Calls.{number_fault}
 use Rattle.resolution_rules.proofs.Calls.{number_there}
@@ -47,7 +47,7 @@ module _ (b : List ℕ) where
     sample_refused n = rw e
 
 -- a table that was filled
-module _ (b t : List ℕ) (done : filling first_layout b (length t) ≡ Done) {s : List ℕ} (f : s ≡ table_after first_layout b t) where
+module _ (b t : List ℕ) (done : filling first_layout b (length t) ≡ (Ok tt)) {s : List ℕ} (f : s ≡ table_after first_layout b t) where
   abbrev R : Recording
   R = recording_of b
 

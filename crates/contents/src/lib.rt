@@ -9,7 +9,6 @@ ghost use Rattle.contents.specs.Contents.{counts_call, track_call, reference_cal
 ghost use Rattle.contents.specs.Answers.{counts_answer_of, track_answer_of, reference_answer_of, sample_answer_of};
 
 use bundles::fields;
-use filling::Filled;
 use numbers::{ByteOffset, Kind, Refusal, SampleNumber, TrackNumber};
 
 // How many tracks, references and samples there are.
@@ -20,13 +19,6 @@ pub struct Counts {
     pub samples: usize,
 }
 
-// The counts of a bundle, or a refusal.
-#[derive(Clone, Copy)]
-pub enum CountsFound {
-    Refused(Refusal),
-    Counts(Counts),
-}
-
 // A track: its kind, and where in the bundle its record stands.
 #[derive(Clone, Copy)]
 pub struct TrackEntry {
@@ -35,25 +27,11 @@ pub struct TrackEntry {
     pub size: usize,
 }
 
-// A track, or a refusal.
-#[derive(Clone, Copy)]
-pub enum TrackFound {
-    Refused(Refusal),
-    Track(TrackEntry),
-}
-
 // A reference from a track to a track.
 #[derive(Clone, Copy)]
 pub struct Reference {
     pub from: TrackNumber,
     pub to: TrackNumber,
-}
-
-// A reference, or a refusal.
-#[derive(Clone, Copy)]
-pub enum ReferenceFound {
-    Refused(Refusal),
-    Reference(Reference),
 }
 
 // A sample: its track, its decode time, and where in the bundle its bytes stand.
@@ -65,104 +43,60 @@ pub struct SampleEntry {
     pub size: usize,
 }
 
-// A sample, or a refusal.
-#[derive(Clone, Copy)]
-pub enum SampleFound {
-    Refused(Refusal),
-    Sample(SampleEntry),
-}
-
-// A refusal at 0.
-fn refused(number: u8) -> Refusal
-    ensures { (result.number ≡ number) × (result.place.0 ≡ 0) }
-{
-    Refusal {
-        number: number,
-        place: ByteOffset(0),
-    }
-}
-
 // How many tracks, references and samples a bundle has: 1 to 13, or the counts.
-pub fn bundle_counts(b: &[u8]) -> CountsFound
+pub fn bundle_counts(b: &[u8]) -> Result<Counts, Refusal>
     ensures { counts_answer_of result ≡ counts_call first_layout b.now }
 {
     let mut t = [0u64; tables::TABLE_SIZE];
-    let filled = filling::fill_table(b, &mut t);
-    match filled {
-        Filled::Refused(f) => CountsFound::Refused(f),
-        Filled::Done => CountsFound::Counts(Counts {
-            tracks: tables::track_total(&t),
-            references: tables::reference_total(&t),
-            samples: sample_tables::sample_count(&t),
-        }),
-    }
+    filling::fill_table(b, &mut t)?;
+    Ok(Counts {
+        tracks: tables::track_total(&t),
+        references: tables::reference_total(&t),
+        samples: sample_tables::sample_count(&t),
+    })
 }
 
 // Track k: 1 to 13, 30, or its kind and where its record stands.
-pub fn track_entry(b: &[u8], k: TrackNumber) -> TrackFound
+pub fn track_entry(b: &[u8], k: TrackNumber) -> Result<TrackEntry, Refusal>
     ensures { track_answer_of result ≡ track_call first_layout b.now k.0 }
 {
     let mut t = [0u64; tables::TABLE_SIZE];
-    let filled = filling::fill_table(b, &mut t);
-    match filled {
-        Filled::Refused(f) => TrackFound::Refused(f),
-        Filled::Done => {
-            let fault = judging::number_fault(tables::track_total(&t), k.0);
-            if fault != 0 {
-                return TrackFound::Refused(refused(fault));
-            }
-            let p = tracks::place(b, k.0);
-            TrackFound::Track(TrackEntry {
-                kind: tables::track_kind(&t, k),
-                start: ByteOffset(p + fields::TRACK_HEAD_SIZE),
-                size: tracks::record_length(b, p),
-            })
-        }
-    }
+    filling::fill_table(b, &mut t)?;
+    judging::check_number(tables::track_total(&t), k.0)?;
+    let p = tracks::place(b, k.0);
+    Ok(TrackEntry {
+        kind: tables::track_kind(&t, k),
+        start: ByteOffset(p + fields::TRACK_HEAD_SIZE),
+        size: tracks::record_length(b, p),
+    })
 }
 
 // Reference i: 1 to 13, 30, or the tracks that it joins.
-pub fn reference_entry(b: &[u8], i: usize) -> ReferenceFound
+pub fn reference_entry(b: &[u8], i: usize) -> Result<Reference, Refusal>
     ensures { reference_answer_of result ≡ reference_call first_layout b.now i }
 {
     let mut t = [0u64; tables::TABLE_SIZE];
-    let filled = filling::fill_table(b, &mut t);
-    match filled {
-        Filled::Refused(f) => ReferenceFound::Refused(f),
-        Filled::Done => {
-            let fault = judging::number_fault(tables::reference_total(&t), i);
-            if fault != 0 {
-                return ReferenceFound::Refused(refused(fault));
-            }
-            let row = tables::REFERENCE_ROW + i;
-            ReferenceFound::Reference(Reference {
-                from: TrackNumber(tables::cell(&t, row, tables::FROM)),
-                to: TrackNumber(tables::cell(&t, row, tables::TO)),
-            })
-        }
-    }
+    filling::fill_table(b, &mut t)?;
+    judging::check_number(tables::reference_total(&t), i)?;
+    let row = tables::REFERENCE_ROW + i;
+    Ok(Reference {
+        from: TrackNumber(tables::cell(&t, row, tables::FROM)),
+        to: TrackNumber(tables::cell(&t, row, tables::TO)),
+    })
 }
 
 // Sample n: 1 to 13, 30, or its track, its decode time, and where its bytes stand.
-pub fn sample_entry(b: &[u8], n: SampleNumber) -> SampleFound
+pub fn sample_entry(b: &[u8], n: SampleNumber) -> Result<SampleEntry, Refusal>
     ensures { sample_answer_of result ≡ sample_call first_layout b.now n.0 }
 {
     let mut t = [0u64; tables::TABLE_SIZE];
-    let filled = filling::fill_table(b, &mut t);
-    match filled {
-        Filled::Refused(f) => SampleFound::Refused(f),
-        Filled::Done => {
-            let fault = judging::number_fault(sample_tables::sample_count(&t), n.0);
-            if fault != 0 {
-                return SampleFound::Refused(refused(fault));
-            }
-            let content = sample_tables::sample_bytes(b, &t, n);
-            SampleFound::Sample(SampleEntry {
-                track: sample_tables::sample_track(&t, n),
-                time: sample_tables::sample_time(&t, n),
-                start: sample_tables::sample_start(&t, n),
-                size: content.len(),
-            })
-        }
-    }
+    filling::fill_table(b, &mut t)?;
+    judging::check_number(sample_tables::sample_count(&t), n.0)?;
+    let content = sample_tables::sample_bytes(b, &t, n);
+    Ok(SampleEntry {
+        track: sample_tables::sample_track(&t, n),
+        time: sample_tables::sample_time(&t, n),
+        start: sample_tables::sample_start(&t, n),
+        size: content.len(),
+    })
 }

@@ -25,10 +25,8 @@ pub(crate) fn place(b: &[u8], k: usize) -> usize
     ensures { (result ≡ nth (track_places b.now) k 0) × (track_fault b.now result ≡ 0) }
 {
     let mut p = fields::TRACK_COUNT_SIZE;
-    let mut i: usize = 1;
-    while i < k {
+    for i in 1..k {
         p = p + fields::TRACK_HEAD_SIZE + record_length(b, p);
-        i += 1;
     }
     p
 }

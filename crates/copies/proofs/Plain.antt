@@ -2,7 +2,7 @@
 --
 --   plain_end, plain_skip, plain_take, plain_cut                                plain units from p up to e: none; those after p; p and those after it; none after a cut
 --   unit_inside                                                                 a unit that a walk meets lies in the sample
---   Finding, finding_start, -end, -aggregator, -extractor, -cut, -found, -take  a loop that looks for the ith of them
+--   Finding, finding_start, -end, -cut, -aggregator, -extractor, -found, -take  a loop that looks for the ith of them, by what stands at p
 --   plain_inside                                                                one that is found lies in the sample
 --   unit_past, unit_place                                                       bytes past the end; the bytes of a copied unit, by where it stands
 --   plain_copied, unit_copied                                                   in a copy without a refusal
@@ -21,11 +21,12 @@ use Rattle.words.proofs.Lists.{keep_from, keep_mem}
 use Rattle.words.proofs.Kept.{keep_same, keep_no, keep_yes}
 use Rattle.words.proofs.Numbered.{nth_none, nth_first, nth_later, nth_other, nth_map, part_past}
 use Rattle.units.specs.Units.{Sample, L, end, size, next, is_aggregator, is_extractor}
-use Rattle.units.specs.Aggregators.{included_start}
+use Rattle.numbers.specs.declared.ByteOffset.{ByteOffset}
 use Rattle.units.specs.declared.NalUnit.{NalUnit}
+use Rattle.units.proofs.Units.{next_after}
 use Rattle.unit_steps.specs.Items.{item_at}
-use Rattle.unit_steps.specs.declared.Item.TheVariants.{Unit}
-use Rattle.unit_steps.proofs.Items.{item_nothing, unit_is}
+use Rattle.unit_steps.specs.declared.Item.TheVariants.{Nothing, Aggregator, Extractor, Unit}
+use Rattle.unit_steps.proofs.Items.{item_nothing, nothing_is, aggregator_is, extractor_is, unit_is}
 use Rattle.copies.specs.Copies.{copy_end, copied, copy_fault}
 use Rattle.copies.specs.Flat.{flat_step, flat_places}
 use Rattle.copies.specs.Range.{copy_end_in}
@@ -70,26 +71,30 @@ module _ (z : Sample) where
     pub finding_end : e ≤ p → end z ≡ nth (plain_units z a e) i (end z)
     finding_end h = sym (c.same ∙ rw (plain_end e p h) (nth_none left (end z)))
 
+    -- by what stands at p
     module _ (h : p < e) where
-      pub finding_aggregator : is_aggregator z p ≡ true → Finding a e i (included_start z p) left
-      finding_aggregator t = record { some = c.some; same = c.same ∙ rw (plain_skip e p h (rw t), flat_aggregator z p t) }
+      pub finding_cut : e ≤ end z → item_at z p ≡ Nothing → end z ≡ nth (plain_units z a e) i (end z)
+      finding_cut l m = let w = nothing_is z p m in sym (c.same ∙ rw (plain_cut e p h l w.0 w.1) (nth_none left (end z)))
 
-      module _ (t : is_aggregator z p ≡ false) where
-        pub finding_extractor : is_extractor z p ≡ true → Finding a e i (next z p) left
-        finding_extractor g = record { some = c.some; same = c.same ∙ rw (plain_skip e p h (rw (t, g)), flat_other z p t) }
+      pub finding_aggregator : {q : ByteOffset} → item_at z p ≡ Aggregator q → Finding a e i q.0 left × (p < q.0)
+      finding_aggregator m =
+          let w = aggregator_is z p m in
+          rw w.1 (record { some = c.some; same = c.same ∙ rw (plain_skip e p h (rw w.0), flat_aggregator z p w.0) }, omega arith)
 
-        pub finding_cut : e ≤ end z → end z < next z p → end z ≡ nth (plain_units z a e) i (end z)
-        finding_cut l j = sym (c.same ∙ rw (plain_cut e p h l t j) (nth_none left (end z)))
+      pub finding_extractor : {q : ByteOffset} → item_at z p ≡ Extractor q → Finding a e i q.0 left × (p < q.0)
+      finding_extractor m =
+          let w = extractor_is z p m in
+          rw w.2 (record { some = c.some; same = c.same ∙ rw (plain_skip e p h (rw (w.0, w.1)), flat_other z p w.0) }, next_after z p)
 
-        module _ (g : is_extractor z p ≡ false) (j : next z p ≤ end z) where
-          take : plain_units z p e ≡ p ∷ plain_units z (next z p) e
-          take = plain_take e p h (rw (t, g, le-leb (next z p) (end z) j)) ∙ rw (flat_other z p t)
+      module _ {u : NalUnit} (m : item_at z p ≡ Unit u) where
+        take : plain_units z p e ≡ p ∷ plain_units z (next z p) e
+        take = let w = unit_is z p m in plain_take e p h (rw (w.0, w.1, le-leb (next z p) (end z) (unit_inside p m))) ∙ rw (flat_other z p w.0)
 
-          pub finding_found : left - 1 ≡ 0 → p ≡ nth (plain_units z a e) i (end z)
-          finding_found d = sym (c.same ∙ rw take (nth_first p _ left (end z) c.some d))
+        pub finding_found : left - 1 ≡ 0 → p ≡ nth (plain_units z a e) i (end z)
+        finding_found d = sym (c.same ∙ rw take (nth_first p _ left (end z) c.some d))
 
-          pub finding_take : (left - 1 ≡ 0 → ⊥) → Finding a e i (next z p) (left - 1)
-          finding_take d = record { some = pos_of_ne-zero d; same = c.same ∙ rw take (nth_later p _ left (end z) d) }
+        pub finding_take : (left - 1 ≡ 0 → ⊥) → Finding a e i u.next.0 (left - 1) × (p < u.next.0)
+        finding_take d = rw (unit_is z p m).2 (record { some = pos_of_ne-zero d; same = c.same ∙ rw take (nth_later p _ left (end z) d) }, next_after z p)
 
   -- one that is found lies in the sample
   pub plain_inside : (a e i q : ℕ) → q ≡ nth (plain_units z a e) i (end z) → q < end z → next z q ≤ end z

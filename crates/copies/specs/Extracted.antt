@@ -4,18 +4,18 @@
 --   unit_bytes z q       the bytes of the unit at q, without its length field
 --   is_plain z q         whether the unit at q is no aggregator and no extractor, and lies in the sample
 --   plain_units z a e    the units from a up to e that are
+--   FoundAt p q e        what was found, where q is said to be e if it is not there
 --   copied_unit z o n k  the kth of them, from 1, in a copy; empty where there is none
 --   extracted x p z k    the kth unit that the extractor at p of the sample x stands for; empty where there is none
-use Rattle.std.specs.Prelude.{ℕ, ◌+◌, List, [], map, Bool, not, ◌&&◌}
+use Rattle.std.specs.Prelude.{ℕ, ◌+◌, ◌<◌, ◌≡◌, List, [], map, Bool, not, ◌&&◌, None, Option, Some}
 use Rattle.words.specs.Tests.{◌≤?◌}
 use Rattle.words.specs.Lists.{keep, nth}
 use Rattle.words.specs.Bytes.{part}
 use Rattle.units.specs.Units.{Sample, L, end, size, next, is_aggregator, is_extractor}
 use Rattle.units.specs.Steps.{extractor_at}
-use Rattle.units.specs.declared.MaybeExtractor.{MaybeExtractor}
-use Rattle.units.specs.declared.MaybeExtractor.TheVariants.{Extractor, Nothing}
 use Rattle.copies.specs.Flat.{flat_places}
 use Rattle.copies.specs.Range.{copy_end_in}
+use Rattle.units.specs.declared.Extractor.{Extractor}
 
 abbrev pub unit_bytes : Sample → ℕ → List ℕ
 unit_bytes z q = part z.content (q + L z) (size z q)
@@ -26,12 +26,17 @@ is_plain z q = not (is_aggregator z q) && not (is_extractor z q) && (next z q �
 abbrev pub plain_units : Sample → ℕ → ℕ → List ℕ
 plain_units z a e = keep (is_plain z) (flat_places z a e)
 
+-- what was found at q, of what ends at e: q itself, or nothing where q is e
+abbrev pub FoundAt : Option ℕ → ℕ → ℕ → Type 0
+FoundAt None q e = q ≡ e
+FoundAt (Some p) q e = (p ≡ q) × (p < e)
+
 unfoldable pub copied_unit : Sample → ℕ → ℕ → ℕ → List ℕ
 copied_unit z o n k = nth (map (unit_bytes z) (plain_units z o (copy_end_in z o n))) k []
 
-abbrev pub extracted_by : MaybeExtractor → Sample → ℕ → List ℕ
-extracted_by Nothing z k = []
-extracted_by (Extractor f) z k = copied_unit z f.data_offset.0 f.data_length k
+abbrev pub extracted_by : Option Extractor → Sample → ℕ → List ℕ
+extracted_by None z k = []
+extracted_by (Some f) z k = copied_unit z f.data_offset.0 f.data_length k
 
 unfoldable pub extracted : Sample → ℕ → Sample → ℕ → List ℕ
 extracted x p z k = extracted_by (extractor_at x (end x) p) z k

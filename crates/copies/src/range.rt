@@ -8,16 +8,11 @@ use numbers::{ByteOffset, LengthSize};
 use units::Track;
 
 // So many bytes on from a place; the end of the sample where that lies past it.
+#[tactic(auto, unfolding(crate::specs::Range::capped))]
 fn capped_sum(z: &[u8], at: usize, n: usize) -> usize
     ensures { result ≡ capped (length z.now) (at + n) }
 {
-    if z.len() <= at {
-        return z.len();
-    }
-    if z.len() - at < n {
-        return z.len();
-    }
-    at + n
+    at.saturating_add(n).min(z.len())
 }
 
 // Where a copy of a sample by data_offset and data_length ends; the end of the sample where it would end past it. Nothing is judged here.

@@ -8,6 +8,7 @@
 --   part_same                               it is the part of the bundle that is promised
 --   unit_filled, part_filled, place_filled  the calls by a table that was filled
 --   starts_inside                           samples start within the bundle
+use Rattle.std.specs.Prelude.{Ok}
 use Prim.Native.Nat.{ℕ, ◌≤◌, ◌<◌}
 use mathlib.Core.Path.{◌≡◌, refl, ap, sym, ◌∙◌}
 use mathlib.Core.List.Memᴰ
@@ -25,7 +26,6 @@ use Rattle.bundles.specs.Bundles.{recording_of}
 use Rattle.bundles.specs.Readers.{Reader, first_layout}
 use Rattle.tables.specs.Tables.{layout_in, recording_in, start_in}
 use Rattle.filling.specs.Filling.{filling, table_after}
-use Rattle.filling.specs.declared.Filled.TheVariants.{Done}
 use Rattle.filling.proofs.Promises.{table_accepted, table_means, table_starts, table_lays_out}
 use Rattle.resolution_rules.specs.Resolving.{Span, delivered, judged}
 use Rattle.resolution_rules.specs.Calls.{no_span, number_fault, resolve_unit, placed_by, unit_call, place_call, unit_part}
@@ -129,7 +129,7 @@ stands_same f g (refused m p) h = refl
 stands_same f g (ok u) h = rw (h u refl)
 
 -- a table that was filled
-module _ (b t : List ℕ) (done : filling first_layout b (length t) ≡ Done) where
+module _ (b t : List ℕ) (done : filling first_layout b (length t) ≡ (Ok tt)) where
   abbrev R : Recording
   R = recording_of b
 

@@ -12,18 +12,10 @@ ghost use Rattle.resolution_rules.specs.Calls.{span_bytes, resolve_unit, placed_
 ghost use Rattle.delivery.specs.Deliveries.{span_for, unit_for, deliveries, no_delivery};
 ghost use Rattle.delivered_unit.specs.Answers.{unit_answer_of, place_answer_of, resolve_delivery, delivery_answer_of, found_bytes};
 
-use crate::{UnitFound, UnitPart, UnitPlaced};
+use crate::UnitPart;
 use delivery::{DeliveredUnit, Source, Span, Stepped};
-use judging::Judged;
 use numbers::{ByteOffset, Refusal, SampleNumber};
 use units::Track;
-
-// One delivered unit with where it comes from, or a refusal.
-#[derive(Clone, Copy)]
-enum DeliveryFound {
-    Refused(Refusal),
-    Unit(DeliveredUnit),
-}
 
 // No unit.
 fn no_unit() -> DeliveredUnit
@@ -66,68 +58,45 @@ fn find(b: &[u8], t: &[u64], n: SampleNumber, k: Track, x: &[u8], i: usize) -> D
     }
 }
 
-// A refusal at 0.
-fn refused(number: u8) -> DeliveryFound
-    ensures { delivery_answer_of result ≡ refused number 0 }
-{
-    DeliveryFound::Refused(Refusal {
-        number: number,
-        place: ByteOffset(0),
-    })
-}
-
 // The ith unit that sample n delivers, with where it comes from: 30, 14 to 28, 30 for i, or the unit.
-fn find_delivery(b: &[u8], t: &[u64], n: SampleNumber, i: usize) -> DeliveryFound
+fn find_delivery(b: &[u8], t: &[u64], n: SampleNumber, i: usize) -> Result<DeliveredUnit, Refusal>
     requires { length b.now ≤ bundle_most }
     ensures { delivery_answer_of result ≡ resolve_delivery (recording_in b.now t.now) n.0 i }
 {
-    let judged = verdicts::judge(b, t, n);
-    match judged {
-        Judged::Refused(f) => DeliveryFound::Refused(f),
-        Judged::Good(a) => {
-            let past = judging::number_fault(a.count, i);
-            if past != 0 {
-                return refused(past);
-            }
-            let k = delivery::track_of(t, n);
-            let x = sample_tables::sample_bytes(b, t, n);
-            DeliveryFound::Unit(find(b, t, n, k, x, i))
-        }
-    }
+    let a = verdicts::judge(b, t, n)?;
+    judging::check_number(a.count, i)?;
+    let k = delivery::track_of(t, n);
+    let x = sample_tables::sample_bytes(b, t, n);
+    Ok(find(b, t, n, k, x, i))
 }
 
 // The ith unit that sample n delivers: 30, 14 to 28, 30 for i, or the unit.
-pub(crate) fn find_unit(b: &[u8], t: &[u64], n: SampleNumber, i: usize) -> UnitFound
+pub(crate) fn find_unit(b: &[u8], t: &[u64], n: SampleNumber, i: usize) -> Result<Span, Refusal>
     requires { length b.now ≤ bundle_most }
     ensures { unit_answer_of result ≡ resolve_unit (recording_in b.now t.now) n.0 i }
 {
-    let found = find_delivery(b, t, n, i);
-    match found {
-        DeliveryFound::Refused(f) => UnitFound::Refused(f),
-        DeliveryFound::Unit(u) => {
-            let span = u.span;
-            UnitFound::Span(span)
-        }
-    }
+    let u = find_delivery(b, t, n, i)?;
+    let span = u.span;
+    Ok(span)
 }
 
 // Where the ith unit that sample n delivers stands, by a table in which samples start within the bundle.
-pub(crate) fn place_unit(b: &[u8], t: &[u64], n: SampleNumber, i: usize) -> UnitPlaced
+pub(crate) fn place_unit(
+    b: &[u8],
+    t: &[u64],
+    n: SampleNumber,
+    i: usize,
+) -> Result<UnitPart, Refusal>
     requires { (length b.now ≤ bundle_most) × ((m : ℕ) → 0 < m → m ≤ sample_count (layout_in t.now) → start_in t.now m ≤ length b.now) }
     ensures { place_answer_of result ≡ placed_by (start_in t.now) (resolve_unit (recording_in b.now t.now) n.0 i) }
 {
-    let found = find_unit(b, t, n, i);
-    match found {
-        UnitFound::Refused(f) => UnitPlaced::Refused(f),
-        UnitFound::Span(u) => {
-            let sample = sample_tables::sample_start(t, u.sample);
-            let start = sample.0 + u.start.0;
-            UnitPlaced::Part(UnitPart {
-                start: ByteOffset(start),
-                size: u.size,
-            })
-        }
-    }
+    let u = find_unit(b, t, n, i)?;
+    let sample = sample_tables::sample_start(t, u.sample);
+    let start = sample.0 + u.start.0;
+    Ok(UnitPart {
+        start: ByteOffset(start),
+        size: u.size,
+    })
 }
 
 // The bytes of a unit that sample n delivers, which is good: a part of the sample itself, or of the one that its extractor names.
@@ -160,7 +129,7 @@ pub(crate) fn unit_part<'a>(b: &'a [u8], t: &[u64], n: SampleNumber, i: usize) -
 {
     let found = find_delivery(b, t, n, i);
     match found {
-        DeliveryFound::Refused(_) => &b[..0],
-        DeliveryFound::Unit(u) => bytes_of(b, t, n, u),
+        Err(_) => &b[..0],
+        Ok(u) => bytes_of(b, t, n, u),
     }
 }

@@ -9,15 +9,7 @@ ghost use Rattle.resolution_rules.specs.Calls.{unit_call, place_call, unit_part}
 ghost use Rattle.delivered_unit.specs.Answers.{unit_answer_of, place_answer_of};
 
 use delivery::Span;
-use filling::Filled;
 use numbers::{ByteOffset, Refusal, SampleNumber};
-
-// One delivered unit, or a refusal.
-#[derive(Clone, Copy)]
-pub enum UnitFound {
-    Refused(Refusal),
-    Span(Span),
-}
 
 // A part of the bundle: where it starts, and its size.
 #[derive(Clone, Copy)]
@@ -26,23 +18,13 @@ pub struct UnitPart {
     pub size: usize,
 }
 
-// Where in the bundle one delivered unit stands, or a refusal.
-#[derive(Clone, Copy)]
-pub enum UnitPlaced {
-    Refused(Refusal),
-    Part(UnitPart),
-}
-
 // The kth unit that a sample delivers: 1 to 13, 30, 14 to 28, 30 for k, or where it stands.
-pub fn unit_answer(b: &[u8], n: SampleNumber, k: usize) -> UnitFound
+pub fn unit_answer(b: &[u8], n: SampleNumber, k: usize) -> Result<Span, Refusal>
     ensures { unit_answer_of result ≡ unit_call first_layout b.now n.0 k }
 {
     let mut t = [0u64; tables::TABLE_SIZE];
-    let filled = filling::fill_table(b, &mut t);
-    match filled {
-        Filled::Refused(f) => UnitFound::Refused(f),
-        Filled::Done => finding::find_unit(b, &t, n, k),
-    }
+    filling::fill_table(b, &mut t)?;
+    finding::find_unit(b, &t, n, k)
 }
 
 // Its bytes, as a part of the bundle; empty if refused.
@@ -52,19 +34,16 @@ pub fn unit_bytes<'a>(b: &'a [u8], n: SampleNumber, k: usize) -> &'a [u8]
     let mut t = [0u64; tables::TABLE_SIZE];
     let filled = filling::fill_table(b, &mut t);
     match filled {
-        Filled::Refused(_) => &b[..0],
-        Filled::Done => finding::unit_part(b, &t, n, k),
+        Err(_) => &b[..0],
+        Ok(()) => finding::unit_part(b, &t, n, k),
     }
 }
 
 // Where in the bundle its bytes stand.
-pub fn unit_place(b: &[u8], n: SampleNumber, k: usize) -> UnitPlaced
+pub fn unit_place(b: &[u8], n: SampleNumber, k: usize) -> Result<UnitPart, Refusal>
     ensures { place_answer_of result ≡ place_call first_layout b.now n.0 k }
 {
     let mut t = [0u64; tables::TABLE_SIZE];
-    let filled = filling::fill_table(b, &mut t);
-    match filled {
-        Filled::Refused(f) => UnitPlaced::Refused(f),
-        Filled::Done => finding::place_unit(b, &t, n, k),
-    }
+    filling::fill_table(b, &mut t)?;
+    finding::place_unit(b, &t, n, k)
 }

@@ -6,6 +6,7 @@
 --   Falls                                         what is left after a step is less, by a unit's bytes and more
 --   falls                                         every step falls
 --   bound_start                                   what is left at the start, at most
+use Rattle.std.specs.Prelude.{Err, None, Ok, Option, Result, Some}
 use Prim.Native.Nat.{ℕ, suc, ◌+◌, ◌-◌, ◌*◌, ◌≤◌, ◌<◌}
 use mathlib.Core.Path.{◌≡◌, refl}
 use mathlib.Core.List.Memᴰ
@@ -24,20 +25,18 @@ use Rattle.units.specs.Units.{Sample, end, size, next}
 use Rattle.units.specs.Aggregators.{included_start}
 use Rattle.units.specs.Steps.{extractor_at}
 use Rattle.units.specs.declared.Extractor as fields
-use Rattle.units.specs.declared.MaybeExtractor.{MaybeExtractor}
-use Rattle.units.specs.declared.MaybeExtractor.TheVariants as extractor
 use Rattle.units.proofs.Units.{next_after}
 use Rattle.bundles.specs.Recordings.{Recording, content_of}
 use Rattle.words.proofs.Rows.{nth_none, nth_beyond}
 use Rattle.resolution_rules.proofs.Calls.{by_count}
 use Rattle.links.specs.Named.{naming}
-use Rattle.links.specs.declared.Named.{Named}
-use Rattle.links.specs.declared.Named.TheVariants as named
 use Rattle.delivery.specs.Steps.{start, copy_sample, copy_step, replaced_by, extractor_step_by, own_step, step_of}
 use Rattle.delivery.specs.declared.Cursor.{Cursor}
 use Rattle.delivery.specs.declared.Stepped.{Stepped}
 use Rattle.delivery.specs.declared.Stepped.TheVariants as step
 use Rattle.unit_steps.proofs.Items.{by_item}
+use Rattle.numbers.specs.declared.SampleNumber.{SampleNumber}
+use Rattle.units.specs.declared.Extractor.{Extractor}
 
 unfoldable pub longest : List (List ℕ) → ℕ
 longest [] = 0
@@ -111,17 +110,17 @@ module _ (r : Recording) (n : ℕ) (x : Sample) (c : Cursor) where
       (λ i e. rw e tt)
       (λ i e. rw e (copy_less _ _ _ (1 + size Z q) (omega arith)))
 
-  open_falls : (q : ℕ) → c.place.0 < q → c.place.0 < end x → (f : fields.Extractor) (m : Named) → Falls r x c (replaced_by r c.place (record { 0 = q }) f m)
+  open_falls : (q : ℕ) → c.place.0 < q → c.place.0 < end x → (f : fields.Extractor) (m : Result SampleNumber ℕ) → Falls r x c (replaced_by r c.place (record { 0 = q }) f m)
   unfolding bound
-  open_falls q h i f (named.Refused g) = tt
-  open_falls q h i f (named.Sample m) =
+  open_falls q h i f (Err g) = tt
+  open_falls q h i f (Ok m) =
       let l = content_longest r m.0 in
       let m = open_less (longest r.contents) (end x - c.place.0) (end x - q) (length (content_of r c.copy.named.0) - c.copy.at.0) (length (content_of r m.0) - f.data_offset.0) (omega arith) (omega arith) in
       omega arith
 
-  extractor_falls : (q : ℕ) → c.place.0 < q → c.place.0 < end x → (m : MaybeExtractor) → Falls r x c (extractor_step_by r n c.place (record { 0 = q }) m)
-  extractor_falls q h i extractor.Nothing = tt
-  extractor_falls q h i (extractor.Extractor f) = open_falls q h i f (naming r.layout n f.track_ref_index f.sample_offset)
+  extractor_falls : (q : ℕ) → c.place.0 < q → c.place.0 < end x → (m : Option Extractor) → Falls r x c (extractor_step_by r n c.place (record { 0 = q }) m)
+  extractor_falls q h i None = tt
+  extractor_falls q h i (Some f) = open_falls q h i f (naming r.layout n f.track_ref_index f.sample_offset)
 
   own_falls : Falls r x c (own_step r n x c)
   unfolding own_step bound

@@ -8,6 +8,7 @@
 --   folded_split                                 in a good sample the units so far, the one at hand and those after it are what is delivered
 --   step_inside                                  a unit that a step gives lies in its sample
 --   content_most, recording_bound, bound_most    the bounds, in what a table says of a bundle
+use Rattle.std.specs.Prelude.{Err, None, Ok, Option, Result, Some}
 use Prim.Native.Nat.{ℕ, suc, ◌+◌, ◌*◌, ◌≤◌}
 use mathlib.Core.Path.{◌≡◌, refl, ap, sym, ◌∙◌}
 use mathlib.Core.List.Memᴰ
@@ -24,16 +25,12 @@ use Rattle.numbers.specs.declared.ByteOffset.{ByteOffset}
 use Rattle.units.specs.Units.{Sample, end}
 use Rattle.units.specs.Steps.{extractor_at}
 use Rattle.units.specs.declared.Extractor as fields
-use Rattle.units.specs.declared.MaybeExtractor.{MaybeExtractor}
-use Rattle.units.specs.declared.MaybeExtractor.TheVariants as extractor
 use Rattle.bundles.specs.Limits.{bundle_most}
 use Rattle.bundles.specs.Recordings.{Recording, content_of}
 use Rattle.tables.specs.Tables.{inside, content_in, sample_total, recording_in}
 use Rattle.resolution_rules.specs.Resolving.{own, judged}
 use Rattle.resolution_rules.proofs.Good.{own_length}
 use Rattle.links.specs.Named.{naming}
-use Rattle.links.specs.declared.Named.{Named}
-use Rattle.links.specs.declared.Named.TheVariants as named
 use Rattle.delivery.specs.Steps.{start, copy_sample, copy_step, replaced_by, extractor_step_by, own_step, step_of}
 use Rattle.delivery.specs.Deliveries.{Delivery, unit_for, deliveries}
 use Rattle.delivery.specs.declared.Cursor.{Cursor}
@@ -45,6 +42,8 @@ use Rattle.delivery.proofs.Falling.{longest, longest_least, content_longest, bou
 use Rattle.delivery.proofs.Rests.{rest, rest_done, rest_moved, rest_unit, rest_few}
 use Rattle.delivery.proofs.FromStart.{rest_start}
 use Rattle.delivery.proofs.Deliveries.{all_size, all_one, all_append}
+use Rattle.numbers.specs.declared.SampleNumber.{SampleNumber}
+use Rattle.units.specs.declared.Extractor.{Extractor}
 
 module _ (r : Recording) (n : ℕ) (x : Sample) where
   pub record Folded (P : List Delivery → Type 0) (c : Cursor) : Type 0 where
@@ -107,13 +106,13 @@ module _ (r : Recording) (n : ℕ) (x : Sample) (same : x.content ≡ content_of
       (λ i e. rw e tt)
       (λ i e. rw e i)
 
-  open_lies : (q : ByteOffset) (f : fields.Extractor) (m : Named) → Lies r (replaced_by r c.place q f m)
-  open_lies q f (named.Refused g) = tt
-  open_lies q f (named.Sample m) = tt
+  open_lies : (q : ByteOffset) (f : fields.Extractor) (m : Result SampleNumber ℕ) → Lies r (replaced_by r c.place q f m)
+  open_lies q f (Err g) = tt
+  open_lies q f (Ok m) = tt
 
-  extractor_lies : (q : ByteOffset) (m : MaybeExtractor) → Lies r (extractor_step_by r n c.place q m)
-  extractor_lies q extractor.Nothing = tt
-  extractor_lies q (extractor.Extractor f) = open_lies q f (naming r.layout n f.track_ref_index f.sample_offset)
+  extractor_lies : (q : ByteOffset) (m : Option Extractor) → Lies r (extractor_step_by r n c.place q m)
+  extractor_lies q None = tt
+  extractor_lies q (Some f) = open_lies q f (naming r.layout n f.track_ref_index f.sample_offset)
 
   own_lies : Lies r (own_step r n x c)
   unfolding own_step

@@ -3,6 +3,7 @@
 --   copy_rest        what is left while a copy is gone over: its units, then what the sample goes on with
 --   own_rest         what is left of the own sample
 --   rest_start       what is left at the start
+use Rattle.std.specs.Prelude.{Some}
 use Prim.Native.Nat.{ℕ, zero, suc, ◌+◌, ◌-◌, ◌≤◌, ◌<◌}
 use mathlib.Core.Path.{◌≡◌, refl, ap, ◌∙◌}
 use mathlib.Core.List.{List, ◌++◌}
@@ -20,7 +21,6 @@ use Rattle.units.specs.Extractors.{track_ref_index, sample_offset, data_offset, 
 use Rattle.units.specs.Aggregators.{included_start, units, extractors}
 use Rattle.units.specs.Steps.{place, unit_of, extractor_of, extractor_at}
 use Rattle.units.specs.declared.Track.{Track}
-use Rattle.units.specs.declared.MaybeExtractor.TheVariants as extractor
 use Rattle.units.proofs.Units.{next_after, whole_end}
 use Rattle.numbers.proofs.Laws.{L_some}
 use Rattle.samples.proofs.Laws.{extractor_step}
@@ -122,7 +122,7 @@ module _ (r : Recording) (n : ℕ) (good : Good r n) where
     unfolding extractors
     copies_good = rules_copy Z O N (good.extracts p (keep_mem (is_extractor X) (units X) (passing_mem r n X p w i a) t)).copy
 
-    reads : extractor_at X (end X) p ≡ extractor.Extractor (extractor_of X p)
+    reads : extractor_at X (end X) p ≡ Some (extractor_of X p)
     unfolding extractors
     reads = extractor_step X w.formed p (keep_mem (is_extractor X) (units X) (passing_mem r n X p w i a) t)
 

@@ -12,7 +12,7 @@
 --   extractor_step_by         the same, if it is one
 --   own_step r n x c          a step in the own sample
 --   step_of r n x c           the step: in the copy until that is at its end, then in the own sample
-use Rattle.std.specs.Prelude.{ℕ, ◌+◌, List}
+use Rattle.std.specs.Prelude.{ℕ, ◌+◌, List, Err, None, Ok, Option, Result, Some}
 use Rattle.words.specs.Tests.{◌<?◌, pick}
 use Rattle.numbers.specs.declared.ByteOffset.{ByteOffset}
 use Rattle.numbers.specs.declared.SampleNumber.{SampleNumber}
@@ -23,15 +23,11 @@ use Rattle.units.specs.Steps.{place, extractor_at}
 use Rattle.units.specs.declared.NalUnit.{NalUnit}
 use Rattle.units.specs.declared.Track.{Track}
 use Rattle.units.specs.declared.Extractor as fields
-use Rattle.units.specs.declared.MaybeExtractor as E
-use Rattle.units.specs.declared.MaybeExtractor.TheVariants as extractor
 use Rattle.unit_steps.specs.Items.{item_at}
 use Rattle.unit_steps.specs.declared.Item as I
 use Rattle.unit_steps.specs.declared.Item.TheVariants as item
 use Rattle.bundles.specs.Recordings.{Layout, Recording, track_at, content_of}
 use Rattle.links.specs.Named.{naming}
-use Rattle.links.specs.declared.Named.{Named}
-use Rattle.links.specs.declared.Named.TheVariants as named
 use Rattle.copies.specs.Range.{copy_end_in}
 use Rattle.resolution_rules.specs.Resolving.{sample_of}
 use Rattle.delivery.specs.declared.CopyCursor.{CopyCursor}
@@ -41,6 +37,7 @@ use Rattle.delivery.specs.declared.Source.{Source}
 use Rattle.delivery.specs.declared.Source.TheVariants as source
 use Rattle.delivery.specs.declared.Stepped as S
 use Rattle.delivery.specs.declared.Stepped.TheVariants as step
+use Rattle.units.specs.declared.Extractor.{Extractor}
 
 -- its copy is at its end
 abbrev pub start : Cursor
@@ -109,13 +106,13 @@ unfoldable pub copy_step : List ℕ → Cursor → S.Stepped
 copy_step s c = copy_step_by c (item_at (copy_sample s c) c.copy.at.0)
 
 -- In the own sample: the same, but an extractor is replaced by its copy, and the sample goes on after it, at q.
-abbrev pub replaced_by : Recording → ByteOffset → ByteOffset → fields.Extractor → Named → S.Stepped
-replaced_by r p q f (named.Refused fault) = step.Done
-replaced_by r p q f (named.Sample m) = step.Moved (record { place = q; copy = copy_of r m p f })
+abbrev pub replaced_by : Recording → ByteOffset → ByteOffset → fields.Extractor → Result SampleNumber ℕ → S.Stepped
+replaced_by r p q f (Err fault) = step.Done
+replaced_by r p q f (Ok m) = step.Moved (record { place = q; copy = copy_of r m p f })
 
-abbrev pub extractor_step_by : Recording → ℕ → ByteOffset → ByteOffset → E.MaybeExtractor → S.Stepped
-extractor_step_by r n p q extractor.Nothing = step.Done
-extractor_step_by r n p q (extractor.Extractor f) = replaced_by r p q f (naming r.layout n f.track_ref_index f.sample_offset)
+abbrev pub extractor_step_by : Recording → ℕ → ByteOffset → ByteOffset → Option Extractor → S.Stepped
+extractor_step_by r n p q None = step.Done
+extractor_step_by r n p q (Some f) = replaced_by r p q f (naming r.layout n f.track_ref_index f.sample_offset)
 
 abbrev pub own_step_by : Recording → ℕ → Sample → Cursor → I.Item → S.Stepped
 own_step_by r n x c item.Nothing = step.Done

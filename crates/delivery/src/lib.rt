@@ -8,10 +8,9 @@ ghost use Rattle.units.specs.Steps.{extractor_at};
 ghost use Rattle.tables.specs.Tables.{layout_in, recording_in};
 ghost use Rattle.delivery.specs.Steps.{start, track_for, copy_of, number_after, with_copy_at, with_place, copy_step, extractor_step_by, own_step, step_of};
 
-use links::Named;
 use numbers::{ByteOffset, Kind, LengthSize, SampleNumber};
 use unit_steps::Item;
-use units::{Extractor, MaybeExtractor, Track};
+use units::{Extractor, Track};
 
 // A copy that is being delivered: the extractor's place in its own sample, the sample that it names with what its track says of it, where
 // the copy goes on there, where it ends, and how many of its units are delivered.
@@ -96,16 +95,15 @@ pub fn start() -> Cursor
 fn copy_of(b: &[u8], t: &[u64], m: SampleNumber, at: ByteOffset, f: Extractor) -> CopyCursor
     ensures { result ≡ copy_of (recording_in b.now t.now) m at f }
 {
-    let k = track_of(t, m);
+    let track = track_of(t, m);
     let z = sample_tables::sample_bytes(b, t, m);
-    let from = f.data_offset;
-    let end = copies::range::copy_end_in(k, z, from, f.data_length);
+    let end = copies::range::copy_end_in(track, z, f.data_offset, f.data_length);
     CopyCursor {
         extractor: at,
         named: m,
-        track: k,
-        at: from,
-        end: end,
+        track,
+        at: f.data_offset,
+        end,
         count: 0,
     }
 }
@@ -114,32 +112,20 @@ fn copy_of(b: &[u8], t: &[u64], m: SampleNumber, at: ByteOffset, f: Extractor) -
 fn number_after(count: usize, next: ByteOffset) -> usize
     ensures { result ≡ number_after count next }
 {
-    if count < next.0 {
-        return count + 1;
-    }
-    count
+    if count < next.0 { count + 1 } else { count }
 }
 
 // The cursor with another place in the copy, and so many of its units delivered.
 fn with_copy_at(c: Cursor, at: ByteOffset, count: usize) -> Cursor
     ensures { result ≡ with_copy_at c at count }
 {
-    let place = c.place;
-    let copy = c.copy;
-    let extractor = copy.extractor;
-    let named = copy.named;
-    let track = copy.track;
-    let end = copy.end;
     Cursor {
-        place: place,
         copy: CopyCursor {
-            extractor: extractor,
-            named: named,
-            track: track,
-            at: at,
-            end: end,
-            count: count,
+            at,
+            count,
+            ..c.copy
         },
+        ..c
     }
 }
 
@@ -147,40 +133,30 @@ fn with_copy_at(c: Cursor, at: ByteOffset, count: usize) -> Cursor
 fn with_place(c: Cursor, place: ByteOffset) -> Cursor
     ensures { result ≡ with_place c place }
 {
-    let copy = c.copy;
-    Cursor {
-        place: place,
-        copy: copy,
-    }
+    Cursor { place, ..c }
 }
 
 // A step in the copy, of the sample z.
 fn copy_step(z: &[u8], c: Cursor) -> Stepped
     ensures { result ≡ copy_step z.now c }
 {
-    let copy = c.copy;
-    let extractor = copy.extractor;
-    let named = copy.named;
-    let item = unit_steps::item_at(copy.track, z, copy.at);
-    match item {
+    match unit_steps::item_at(c.copy.track, z, c.copy.at) {
         Item::Nothing => Stepped::Done,
-        Item::Aggregator(included) => Stepped::Moved(with_copy_at(c, included, copy.count)),
+        Item::Aggregator(included) => Stepped::Moved(with_copy_at(c, included, c.copy.count)),
         // does not come: the sample is good
         Item::Extractor(_) => Stepped::Done,
         Item::Unit(u) => {
-            let start = u.start;
-            let number = number_after(copy.count, u.next);
-            let next = with_copy_at(c, u.next, number);
+            let number = number_after(c.copy.count, u.next);
             Stepped::Unit(
                 DeliveredUnit {
                     span: Span {
-                        sample: named,
-                        start: start,
+                        sample: c.copy.named,
+                        start: u.start,
                         size: u.size,
                     },
-                    source: Source::Copy(extractor, number),
+                    source: Source::Copy(c.copy.extractor, number),
                 },
-                next,
+                with_copy_at(c, u.next, number),
             )
         }
     }
@@ -199,51 +175,38 @@ fn extractor_step(
     ensures { result ≡ extractor_step_by (recording_in b.now t.now) n.0 place next
         (extractor_at (sample k x.now) (length x.now) place.0) }
 {
-    let fields = unit_steps::extractor_at(k, x, place, ByteOffset(x.len()));
-    match fields {
-        // this and a name that is refused do not come: the sample is good
-        MaybeExtractor::Nothing => Stepped::Done,
-        MaybeExtractor::Extractor(f) => {
-            let named = links::name(t, n, f.track_ref_index, f.sample_offset);
-            match named {
-                Named::Refused(_) => Stepped::Done,
-                Named::Sample(m) => {
-                    let copy = copy_of(b, t, m, place, f);
-                    Stepped::Moved(Cursor {
-                        place: next,
-                        copy: copy,
-                    })
-                }
-            }
-        }
-    }
+    // neither no extractor nor a name that is refused comes: the sample is good
+    let Some(f) = unit_steps::extractor_at(k, x, place, ByteOffset(x.len())) else {
+        return Stepped::Done;
+    };
+    let Ok(m) = links::name(t, n, f.track_ref_index, f.sample_offset) else {
+        return Stepped::Done;
+    };
+    Stepped::Moved(Cursor {
+        place: next,
+        copy: copy_of(b, t, m, place, f),
+    })
 }
 
 // A step in the own sample, which is sample n, x.
 fn own_step(b: &[u8], t: &[u64], n: SampleNumber, k: Track, x: &[u8], c: Cursor) -> Stepped
     ensures { result ≡ own_step (recording_in b.now t.now) n.0 (sample k x.now) c }
 {
-    let place = c.place;
-    let item = unit_steps::item_at(k, x, place);
-    match item {
+    match unit_steps::item_at(k, x, c.place) {
         Item::Nothing => Stepped::Done,
         Item::Aggregator(included) => Stepped::Moved(with_place(c, included)),
-        Item::Extractor(next) => extractor_step(b, t, n, k, x, place, next),
-        Item::Unit(u) => {
-            let start = u.start;
-            let next = with_place(c, u.next);
-            Stepped::Unit(
-                DeliveredUnit {
-                    span: Span {
-                        sample: n,
-                        start: start,
-                        size: u.size,
-                    },
-                    source: Source::Own,
+        Item::Extractor(next) => extractor_step(b, t, n, k, x, c.place, next),
+        Item::Unit(u) => Stepped::Unit(
+            DeliveredUnit {
+                span: Span {
+                    sample: n,
+                    start: u.start,
+                    size: u.size,
                 },
-                next,
-            )
-        }
+                source: Source::Own,
+            },
+            with_place(c, u.next),
+        ),
     }
 }
 
@@ -251,9 +214,9 @@ fn own_step(b: &[u8], t: &[u64], n: SampleNumber, k: Track, x: &[u8], c: Cursor)
 pub fn step(b: &[u8], t: &[u64], n: SampleNumber, k: Track, x: &[u8], c: Cursor) -> Stepped
     ensures { result ≡ step_of (recording_in b.now t.now) n.0 (sample k x.now) c }
 {
-    let copy = c.copy;
-    if copy.at.0 < copy.end.0 {
-        return copy_step(sample_tables::sample_bytes(b, t, copy.named), c);
+    if c.copy.at.0 < c.copy.end.0 {
+        copy_step(sample_tables::sample_bytes(b, t, c.copy.named), c)
+    } else {
+        own_step(b, t, n, k, x, c)
     }
-    own_step(b, t, n, k, x, c)
 }

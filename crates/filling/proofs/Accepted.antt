@@ -2,6 +2,7 @@
 --
 --   table_sections         the table of its recording, section by section
 --   short_here, done_here  a table without room, and one that was filled
+use Rattle.std.specs.Prelude.{Err, Ok}
 use Prim.Native.Nat.{ℕ, ◌*◌, ◌≤◌, ◌<◌}
 use mathlib.Core.Path.{◌≡◌, refl}
 use mathlib.Core.List.{List, [], ◌∷◌}
@@ -18,7 +19,6 @@ use Rattle.bundles.specs.Bundles.{bundle_verdict, layout_of, recording_of, meani
 use Rattle.bundles.specs.Readers.{first_layout}
 use Rattle.bundles.proofs.Sections.{track_count_lem, reference_count_lem, sample_count_lem}
 use Rattle.tables.specs.Tables.{columns, counts_row, track_row, reference_row, sample_row, table_size}
-use Rattle.filling.specs.declared.Filled.TheVariants.{Refused, Done}
 use Rattle.filling.specs.Filling.{write_rows, track_cells, reference_cells, sample_cells, table_of, needed, filling, table_after}
 
 module _ (b : List ℕ) where
@@ -57,10 +57,10 @@ module _ (b : List ℕ) where
     need_is : needed (recording_of b) ≡ table_size m
     need_is = rw (layout_is, samples_are, e)
 
-    pub short_here : length t < table_size m → (Refused (record { number = output_too_long; place = record { 0 = 0 } }) ≡ filling first_layout b (length t)) × (t ≡ table_after first_layout b t)
+    pub short_here : length t < table_size m → (Err (record { number = output_too_long; place = record { 0 = 0 } }) ≡ filling first_layout b (length t)) × (t ≡ table_after first_layout b t)
     unfolding filling table_after
     short_here h = rw (means_here good, need_is, lt-ltb (length t) (table_size m) h) (refl, refl)
 
-    pub done_here : {x : List ℕ} → table_size m ≤ length t → x ≡ table_of (recording_of b) (content_at b) t → (Done ≡ filling first_layout b (length t)) × (x ≡ table_after first_layout b t)
+    pub done_here : {x : List ℕ} → table_size m ≤ length t → x ≡ table_of (recording_of b) (content_at b) t → ((Ok tt) ≡ filling first_layout b (length t)) × (x ≡ table_after first_layout b t)
     unfolding filling table_after
     done_here h w = rw (means_here good, need_is, le-ltb (length t) (table_size m) h) (refl, w)

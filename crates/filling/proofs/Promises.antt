@@ -14,6 +14,7 @@
 --   table_short, table_accepted, table_means  a table that was filled: the bundle is not too long, is accepted, and the table gives its recording
 --   any_range                                 in any table, a track's range is the track's samples in the layout that the table says
 --   any_kept_count                            in any table, a count that is kept changes nothing that the table says or gives
+use Rattle.std.specs.Prelude.{Err, Ok}
 use Prim.Native.Nat.{ℕ, suc, ◌+◌, ◌-◌, ◌≤◌, ◌<◌}
 use mathlib.Core.Path.{◌≡◌, refl, sym}
 use mathlib.Core.Bool.{false}
@@ -41,7 +42,6 @@ use Rattle.bundles.proofs.Checking.{refused_there}
 use Rattle.tables.specs.Tables.{table_most, layout_in, recording_in, range_in, numbers_in, start_in, inside, kept_count_in, with_kept_count}
 use Rattle.tables.proofs.Ranges.{range_samples}
 use Rattle.tables.proofs.KeptCounts.{kept_count_layout, kept_count_recording}
-use Rattle.filling.specs.declared.Filled.TheVariants.{Refused, Done}
 use Rattle.filling.specs.Filling.{needed, held, filling, table_after}
 use Rattle.filling.proofs.Recording.{Tabled}
 use Rattle.filling.proofs.Reading as any
@@ -71,7 +71,7 @@ module _ (b : List ℕ) (r : Recording) (e : meaning b ≡ ok r) where
   tabled = record { limits = limits_kept b r e; ordered = samples_ordered b r e; all = samples_all b r e; placed = placed }
 
 -- an accepted bundle, and room for its table
-module _ (b t : List ℕ) (r : Recording) (means_r : meaning b ≡ ok r) (done : filling first_layout b (length t) ≡ Done) where
+module _ (b t : List ℕ) (r : Recording) (means_r : meaning b ≡ ok r) (done : filling first_layout b (length t) ≡ (Ok tt)) where
   pub table_recording : recording_in b (table_after first_layout b t) ≡ r
   table_recording = any.table_recording first_layout b t r means_r (tabled b r means_r) done
 
@@ -88,7 +88,7 @@ module _ (b t : List ℕ) (r : Recording) (means_r : meaning b ≡ ok r) (done :
   table_kept_counts = any.table_kept_counts first_layout b t r means_r (tabled b r means_r) done
 
 -- the table as it was
-pub table_refused : (b t : List ℕ) (f : Refusal) → filling first_layout b (length t) ≡ Refused f → table_after first_layout b t ≡ t
+pub table_refused : (b t : List ℕ) (f : Refusal) → filling first_layout b (length t) ≡ Err f → table_after first_layout b t ≡ t
 unfolding table_after filling
 table_refused b t f e = any.untouched (held (length t) (meaning b)) (content_at b) t f e
 
@@ -96,17 +96,17 @@ pub table_room : (b : List ℕ) (r : Recording) → meaning b ≡ ok r → neede
 table_room b r e = let f = (limits_kept b r e).samples in omega arith
 
 -- what the answer says
-pub table_refuses : (b : List ℕ) (room : ℕ) (f : Refusal) → table_most ≤ room → filling first_layout b room ≡ Refused f → meaning b ≡ refused f.number f.place.0
+pub table_refuses : (b : List ℕ) (room : ℕ) (f : Refusal) → table_most ≤ room → filling first_layout b room ≡ Err f → meaning b ≡ refused f.number f.place.0
 unfolding filling
 table_refuses b room f h e =
     let same = any.held_same room (meaning b) (λ r g. let x = table_room b r g in omega arith) in
     any.refused_answer (meaning b) f (rw same at e)
 
-says_refused : (b : List ℕ) (room : ℕ) (f : Refusal) → table_most ≤ room → filling first_layout b room ≡ Refused f → bundle_verdict b ≡ refused f.number f.place.0
+says_refused : (b : List ℕ) (room : ℕ) (f : Refusal) → table_most ≤ room → filling first_layout b room ≡ Err f → bundle_verdict b ≡ refused f.number f.place.0
 unfolding meaning
 says_refused b room f h e = refused_there (recording_of b) (bundle_verdict b) (sym (table_refuses b room f h e))
 
-pub says_done : (b : List ℕ) (room : ℕ) → filling first_layout b room ≡ Done → bundle_verdict b ≡ ok tt
+pub says_done : (b : List ℕ) (room : ℕ) → filling first_layout b room ≡ (Ok tt) → bundle_verdict b ≡ ok tt
 unfolding filling
 says_done b room e = (means b (any.done_answer (meaning b) room e).1).0
 
@@ -114,7 +114,7 @@ not_room : output_too_long ∈ bundle_refusals → ⊥
 unfolding some
 not_room m = true_false false (some_mem (λ n. output_too_long ≡? n) bundle_refusals m refl) refl
 
-pub never_short : (b : List ℕ) (room : ℕ) (f : Refusal) → table_most ≤ room → filling first_layout b room ≡ Refused f → f.number ≡ output_too_long → ⊥
+pub never_short : (b : List ℕ) (room : ℕ) (f : Refusal) → table_most ≤ room → filling first_layout b room ≡ Err f → f.number ≡ output_too_long → ⊥
 never_short b room f h e z =
     let n : f.number ∈ bundle_refusals = (refusals_within b f.number f.place.0 (says_refused b room f h e)).number in
     not_room (rw z at n)
@@ -127,7 +127,7 @@ pub any_kept_count : (b t : List ℕ) (n v : ℕ) → (layout_in (with_kept_coun
 any_kept_count b t n v = (kept_count_layout t n v, kept_count_recording b t n v)
 
 -- a table that was filled: the bundle is accepted, the table gives its recording
-module _ (b t : List ℕ) (done : filling first_layout b (length t) ≡ Done) where
+module _ (b t : List ℕ) (done : filling first_layout b (length t) ≡ (Ok tt)) where
   pub table_accepted : meaning b ≡ ok (recording_of b)
   unfolding meaning
   table_accepted = rw (says_done b (length t) done)
@@ -135,6 +135,6 @@ module _ (b t : List ℕ) (done : filling first_layout b (length t) ≡ Done) wh
   pub table_means : recording_in b (table_after first_layout b t) ≡ recording_of b
   table_means = table_recording b t (recording_of b) table_accepted done
 
-pub table_short : (b : List ℕ) (room : ℕ) → filling first_layout b room ≡ Done → length b ≤ bundle_most
+pub table_short : (b : List ℕ) (room : ℕ) → filling first_layout b room ≡ (Ok tt) → length b ≤ bundle_most
 unfolding filling
 table_short b room done = let w = any.done_answer (meaning b) room done in (limits_kept b w.0 w.1).bytes

@@ -3,6 +3,7 @@
 --   table_recording, table_lays_out, table_ranges, table_starts, table_kept_counts  what the table says, for a recording that a table holds
 --   held_room, held_short, held_same                                                a recording for whose table there is room, or none; room for any
 --   untouched, refused_answer, done_answer                                          what the answer says
+use Rattle.std.specs.Prelude.{Err, Ok, Result}
 use Prim.Native.Nat.{ℕ, ◌+◌, ◌-◌, ◌≤◌, ◌<◌}
 use mathlib.Core.Path.{◌≡◌, refl, ap, sym, ◌∙◌}
 use mathlib.Core.List.{List}
@@ -19,8 +20,6 @@ use Rattle.bundles.specs.Recordings.{Recording, sample_count, samples_in}
 use Rattle.bundles.specs.Readers.{Reader}
 use Rattle.tables.specs.Tables.{start_column, kept_count_column, cell, sample_total, sample_row, layout_in, recording_in, range_in, numbers_in, sample_cell, start_in, kept_count_in}
 use Rattle.tables.proofs.Ranges.{range_samples}
-use Rattle.filling.specs.declared.Filled.{Filled}
-use Rattle.filling.specs.declared.Filled.TheVariants.{Refused, Done}
 use Rattle.filling.specs.Filling.{table_of, needed, held, fill_answer, fill_table, filling, table_after}
 use Rattle.filling.proofs.Recording.{Tabled, filled, filled_is, filled_recording, sample_cell_lem, sample_total_lem}
 
@@ -30,13 +29,13 @@ held_room room r h = rw (le-ltb room (needed r) h)
 pub held_short : (room : ℕ) (r : Recording) → room < needed r → held room (ok r) ≡ refused output_too_long 0
 held_short room r h = rw (lt-ltb room (needed r) h)
 
-held_fits : (room : ℕ) (r : Recording) → fill_answer (held room (ok r)) ≡ Done → needed r ≤ room
+held_fits : (room : ℕ) (r : Recording) → fill_answer (held room (ok r)) ≡ (Ok tt) → needed r ≤ room
 held_fits room r e = by_bool (ltb room (needed r))
-    (λ q. let g : fill_answer (refused output_too_long 0) ≡ Done = rw (held_short room r (ltb-true _ _ q)) at e in let z : ◌≡◌ {A = ℕ} 0 1 = cc in absurd (omega arith))
+    (λ q. let g : fill_answer (refused output_too_long 0) ≡ (Ok tt) = rw (held_short room r (ltb-true _ _ q)) at e in let z : ◌≡◌ {A = ℕ} 0 1 = cc in absurd (omega arith))
     (λ q. ltb-false _ _ q)
 
 -- a bundle that means a recording, and room for its table
-module _ (reader : Reader) (b t : List ℕ) (r : Recording) (means_r : reader.means b ≡ ok r) (h : Tabled b r (reader.content_at b)) (done : filling reader b (length t) ≡ Done) where
+module _ (reader : Reader) (b t : List ℕ) (r : Recording) (means_r : reader.means b ≡ ok r) (h : Tabled b r (reader.content_at b)) (done : filling reader b (length t) ≡ (Ok tt)) where
   fits : needed r ≤ length t
   unfolding filling
   fits = held_fits (length t) r (rw means_r at done)
@@ -92,30 +91,30 @@ module _ (reader : Reader) (b t : List ℕ) (r : Recording) (means_r : reader.me
   table_kept_counts n = rw (written, filled_is b t r (reader.content_at b) h fits) (kept_none n)
 
 -- the table as it was
-pub untouched : (a : Answer Recording) (starts : ℕ → ℕ) (t : List ℕ) (f : Refusal) → fill_answer a ≡ Refused f → fill_table a starts t ≡ t
+pub untouched : (a : Answer Recording) (starts : ℕ → ℕ) (t : List ℕ) (f : Refusal) → fill_answer a ≡ Err f → fill_table a starts t ≡ t
 untouched (refused n p) starts t f e = refl
 untouched (ok r) starts t f e = let z : ◌≡◌ {A = ℕ} 0 1 = cc in absurd (omega arith)
 
 -- what the answer says
-pub refused_answer : (a : Answer Recording) (f : Refusal) → fill_answer a ≡ Refused f → a ≡ refused f.number f.place.0
+pub refused_answer : (a : Answer Recording) (f : Refusal) → fill_answer a ≡ Err f → a ≡ refused f.number f.place.0
 refused_answer (refused n p) f e =
     let g : n ≡ f.number = ap (λ x. number_of x) e in
     let h : p ≡ f.place.0 = ap (λ x. place_of x) e in
     rw (g, h)
   where
-    number_of : Filled → ℕ
-    number_of (Refused r) = r.number
-    number_of Done = 0
+    number_of : Result (Unit {0}) Refusal → ℕ
+    number_of (Err r) = r.number
+    number_of (Ok tt) = 0
 
-    place_of : Filled → ℕ
-    place_of (Refused r) = r.place.0
-    place_of Done = 0
+    place_of : Result (Unit {0}) Refusal → ℕ
+    place_of (Err r) = r.place.0
+    place_of (Ok tt) = 0
 refused_answer (ok r) f e = let z : ◌≡◌ {A = ℕ} 0 1 = cc in absurd (omega arith)
 
 pub held_same : (room : ℕ) (a : Answer Recording) → ((r : Recording) → a ≡ ok r → needed r ≤ room) → held room a ≡ a
 held_same room (refused n p) h = refl
 held_same room (ok r) h = held_room room r (h r refl)
 
-pub done_answer : (a : Answer Recording) (room : ℕ) → fill_answer (held room a) ≡ Done → (r : Recording) × (a ≡ ok r)
+pub done_answer : (a : Answer Recording) (room : ℕ) → fill_answer (held room a) ≡ (Ok tt) → (r : Recording) × (a ≡ ok r)
 done_answer (refused n p) room e = let z : ◌≡◌ {A = ℕ} 0 1 = cc in absurd (omega arith)
 done_answer (ok r) room e = (r, refl)

@@ -6,6 +6,7 @@
 --   before_on, before_off, before_most, before_grow   how many samples stand before a track's, found by going on
 --   track_sound, reference_sound, entry_sound         an entry of an accepted bundle, by its number
 --   start_of, start_first, start_next, start_inside   where a sample's bytes start
+use Rattle.std.specs.Prelude.{None}
 use Prim.Native.Nat.{ℕ, suc, ◌+◌, ◌-◌, ◌*◌, ◌≤◌, ◌<◌}
 use mathlib.Core.Path.{◌≡◌, ap, ◌∙◌}
 use mathlib.Core.List.{List, [], ◌∷◌}
@@ -21,7 +22,6 @@ use Rattle.words.specs.Refusals.{ok}
 use Rattle.words.proofs.Buffers.{write_none, write_write, write_length}
 use Rattle.words.proofs.Entries.{entries_length, entries_at_lem, entries_mem, map_at, sum_append}
 use Rattle.words.proofs.Rows.{rows_length, rows_more, take_sum_le, nth_upto}
-use Rattle.numbers.specs.declared.MaybeKind.TheVariants.{Unknown}
 use Rattle.bundles.specs.Fields.{reference_count_size, reference_size, sample_entry_size, byte_count_size}
 use Rattle.bundles.specs.Recordings.{no_reference, no_entry, time_of, content_of}
 use Rattle.bundles.specs.Tracks.{track_count, tracks_at, track_end, track_fault, kind_at, record_at, record_fault_as, size_at, references_at}
@@ -137,8 +137,8 @@ module _ (b : List ℕ) (a : Accepted b) where
   entries_inside = (unfold byte_count_at in a.samples.inside)
 
   -- the kind of an accepted track is known
-  known : (p : ℕ) → track_fault b p ≡ 0 → kind_at b p ≡ Unknown → ⊥
-  known p f u = let e : record_fault_as Unknown (record_at b p) ≡ 0 = rw u at (track_good b p f).whole in omega arith
+  known : (p : ℕ) → track_fault b p ≡ 0 → kind_at b p ≡ None → ⊥
+  known p f u = let e : record_fault_as None (record_at b p) ≡ 0 = rw u at (track_good b p f).whole in omega arith
 
   -- the numbers of a row
   pub track_row_lem : (k p : ℕ) → k < track_count b → p ≡ skip (track_end b) k (tracks_at b) → byte_at b p ∷ size_at b p ∷ samples_before (layout_of b) (k + 1) ∷ 0 ∷ [] ≡ track_cells (layout_of b) (k + 1)

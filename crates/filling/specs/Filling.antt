@@ -11,7 +11,7 @@
 --   held room a               the answer a, but 29 at 0 where its recording's table needs more than the room
 --   filling reader b room     the answer: a refusal, or done
 --   table_after reader b t    what is left in t: t itself after a refusal
-use Rattle.std.specs.Prelude.{ℕ, ◌*◌, List, [], ◌∷◌, length}
+use Rattle.std.specs.Prelude.{ℕ, ◌*◌, List, [], ◌∷◌, length, Err, Ok, Result}
 use Rattle.words.specs.Tests.{◌<?◌}
 use Rattle.words.specs.RefusalNumbers.{output_too_long}
 use Rattle.words.specs.Refusals.{◌if◌, Answer, refused, ok, ◌at_place◌, ◌and_then◌}
@@ -22,8 +22,7 @@ use Rattle.numbers.specs.Kinds.{number_of_kind}
 use Rattle.bundles.specs.Recordings.{Layout, Recording, no_track, no_reference, sample_count, time_of, content_of}
 use Rattle.bundles.specs.Readers.{Reader}
 use Rattle.tables.specs.Tables.{columns, counts_row, track_row, reference_row, sample_row, table_size}
-use Rattle.filling.specs.declared.Filled.{Filled}
-use Rattle.filling.specs.declared.Filled.TheVariants.{Refused, Done}
+use Rattle.numbers.specs.declared.Refusal.{Refusal}
 
 unfoldable pub write_rows : List ℕ → ℕ → (ℕ → List ℕ) → ℕ → List ℕ
 write_rows t row cells n = write_at t (row * columns) (each cells (upto n))
@@ -63,16 +62,16 @@ abbrev pub held : ℕ → Answer Recording → Answer Recording
 held room (refused n p) = refused n p
 held room (ok r) = (output_too_long if room <? needed r) at_place 0 and_then ok r
 
-abbrev pub fill_answer : Answer Recording → Filled
-fill_answer (refused n p) = Refused (record { number = n; place = record { 0 = p } })
-fill_answer (ok r) = Done
+abbrev pub fill_answer : Answer Recording → Result (Unit {0}) Refusal
+fill_answer (refused n p) = Err (record { number = n; place = record { 0 = p } })
+fill_answer (ok r) = Ok tt
 
 abbrev pub fill_table : Answer Recording → (ℕ → ℕ) → List ℕ → List ℕ
 fill_table (refused n p) starts t = t
 fill_table (ok r) starts t = table_of r starts t
 
 module _ (reader : Reader) (b : List ℕ) where
-  unfoldable pub filling : ℕ → Filled
+  unfoldable pub filling : ℕ → Result (Unit {0}) Refusal
   filling room = fill_answer (held room (reader.means b))
 
   unfoldable pub table_after : List ℕ → List ℕ

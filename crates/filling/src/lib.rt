@@ -14,8 +14,8 @@ ghost use Rattle.bundles.specs.Readers.{first_layout};
 ghost use Rattle.tables.specs.Tables.{columns, track_row, reference_row, sample_row, table_size};
 ghost use Rattle.filling.specs.Filling.{samples_before, track_cells, reference_cells, sample_cells, write_rows, filling, table_after};
 
-use bundles::{Checked, fields};
-use numbers::{ByteOffset, Kind, MaybeKind, Refusal, refusals};
+use bundles::fields;
+use numbers::{Fault, Kind, Refusal};
 
 // The rows of the first track, of the first reference and of the first sample.
 const FIRST_TRACK: usize = tables::COUNTS_ROW + 1;
@@ -24,24 +24,13 @@ const FIRST_REFERENCE: usize = tables::REFERENCE_ROW + 1;
 
 const FIRST_SAMPLE: usize = tables::SAMPLE_ROW + 1;
 
-// What filling a table answers.
-#[derive(Clone, Copy)]
-pub enum Filled {
-    // the bundle is refused, or 29 at 0: the table is too small. The table is as it was
-    Refused(Refusal),
-    Done,
-}
-
 // Three numbers and a 0 over a row.
 fn put_row(t: &mut [u64], row: usize, first: usize, second: usize, third: usize)
     requires { (row ≤ sample_row sample_most) × (row * columns + columns ≤ length t.old) }
     ensures { t.new ≡ write_at t.old (row * columns) (first ∷ second ∷ third ∷ 0 ∷ []) }
 {
     let at = row * tables::COLUMNS;
-    t[at] = first as u64;
-    t[at + 1] = second as u64;
-    t[at + 2] = third as u64;
-    t[at + 3] = 0;
+    t[at..at + tables::COLUMNS].copy_from_slice(&[first as u64, second as u64, third as u64, 0]);
 }
 
 // Where section two starts.
@@ -51,16 +40,13 @@ fn references_at(b: &[u8]) -> usize
 {
     let n = numbers::number(b, 0, fields::TRACK_COUNT_SIZE);
     let mut p = fields::TRACK_COUNT_SIZE;
-    let mut i: usize = 0;
-    while i < n {
-        p = p
-            + fields::TRACK_HEAD_SIZE
+    for _ in 0..n {
+        p += fields::TRACK_HEAD_SIZE
             + numbers::number(
                 b,
                 p + fields::RECORD_LENGTH_OFFSET,
                 fields::RECORD_LENGTH_SIZE,
             );
-        i += 1;
     }
     p
 }
@@ -79,8 +65,8 @@ fn length_size_at(b: &[u8], at: usize) -> usize
             fields::RECORD_LENGTH_SIZE,
         );
     match known {
-        MaybeKind::Known(k) => records::length_size(k, &b[start..end]),
-        MaybeKind::Unknown => 1,
+        Some(k) => records::length_size(k, &b[start..end]),
+        None => 1,
     }
 }
 
@@ -89,14 +75,12 @@ fn samples_before(b: &[u8], start: usize, total: usize, least: usize, k: usize) 
     requires { (bundle_verdict b.now ≡ ok tt) × (start ≡ entries_at b.now) × (total ≡ entry_count b.now) × (least ≤ samples_before (layout_of b.now) k) }
     ensures { result ≡ samples_before (layout_of b.now) k }
 {
-    let mut n = least;
-    while n < total {
+    for n in least..total {
         if k <= numbers::number(b, start + n * fields::ENTRY_SIZE, fields::TRACK_NUMBER_SIZE) {
             return n;
         }
-        n += 1;
     }
-    n
+    total
 }
 
 // The rows of the tracks.
@@ -107,20 +91,17 @@ fn fill_tracks(b: &[u8], t: &mut [u64], start: usize, total: usize)
     let n = numbers::number(b, 0, fields::TRACK_COUNT_SIZE);
     let mut p = fields::TRACK_COUNT_SIZE;
     let mut before: usize = 0;
-    let mut k: usize = 0;
-    while k < n {
+    for k in 0..n {
         before = samples_before(b, start, total, before, k + 1);
         let kind = numbers::number(b, p, fields::KIND_SIZE);
         let size = length_size_at(b, p);
         put_row(t, FIRST_TRACK + k, kind, size, before);
-        p = p
-            + fields::TRACK_HEAD_SIZE
+        p += fields::TRACK_HEAD_SIZE
             + numbers::number(
                 b,
                 p + fields::RECORD_LENGTH_OFFSET,
                 fields::RECORD_LENGTH_SIZE,
             );
-        k += 1;
     }
 }
 
@@ -130,13 +111,11 @@ fn fill_references(b: &[u8], t: &mut [u64], start: usize, n: usize)
     ensures { t.new ≡ write_rows t.old (reference_row 1) (reference_cells (layout_of b.now)) (reference_count b.now) }
 {
     let mut p = start;
-    let mut i: usize = 0;
-    while i < n {
+    for i in 0..n {
         let from = numbers::number(b, p, fields::TRACK_NUMBER_SIZE);
         let to = numbers::number(b, p + fields::TO_OFFSET, fields::TRACK_NUMBER_SIZE);
         put_row(t, FIRST_REFERENCE + i, from, to, 0);
         p += fields::REFERENCE_SIZE;
-        i += 1;
     }
 }
 
@@ -145,21 +124,18 @@ fn fill_samples(b: &[u8], t: &mut [u64], start: usize, n: usize)
     requires { (bundle_verdict b.now ≡ ok tt) × (start ≡ entries_at b.now) × (n ≡ entry_count b.now) × (table_size n ≤ length t.old) }
     ensures { t.new ≡ write_rows t.old (sample_row 1) (sample_cells (recording_of b.now) (content_at b.now)) (entry_count b.now) }
 {
-    let mut p = start;
     let mut place = start + n * fields::ENTRY_SIZE + fields::BYTE_COUNT_SIZE;
-    let mut i: usize = 0;
-    while i < n {
+    for i in 0..n {
+        let p = start + i * fields::ENTRY_SIZE;
         let time = numbers::number(b, p + fields::TIME_OFFSET, fields::TIME_SIZE);
         let size = numbers::number(b, p + fields::LENGTH_OFFSET, fields::SAMPLE_LENGTH_SIZE);
         put_row(t, FIRST_SAMPLE + i, time, place, size);
         place += size;
-        p += fields::ENTRY_SIZE;
-        i += 1;
     }
 }
 
 // The table of an accepted bundle, if there is room.
-fn fill_accepted(b: &[u8], t: &mut [u64]) -> Filled
+fn fill_accepted(b: &[u8], t: &mut [u64]) -> Result<(), Refusal>
     requires { bundle_verdict b.now ≡ ok tt }
     ensures { (result ≡ filling first_layout b.now (length t.old)) × (t.new ≡ table_after first_layout b.now t.old) }
 {
@@ -170,25 +146,20 @@ fn fill_accepted(b: &[u8], t: &mut [u64]) -> Filled
     let samples = numbers::number(b, samples_at, fields::SAMPLE_COUNT_SIZE);
     let needed = (tables::SAMPLE_ROW + (samples + 1)) * tables::COLUMNS;
     if t.len() < needed {
-        return Filled::Refused(Refusal {
-            number: refusals::OUTPUT_TOO_LONG,
-            place: ByteOffset(0),
-        });
+        return Err(Refusal::at(Fault::OutputTooLong, 0));
     }
     put_row(t, tables::COUNTS_ROW, tracks, references, samples);
     fill_tracks(b, t, samples_at + fields::SAMPLE_COUNT_SIZE, samples);
     fill_references(b, t, at + fields::REFERENCE_COUNT_SIZE, references);
     fill_samples(b, t, samples_at + fields::SAMPLE_COUNT_SIZE, samples);
-    Filled::Done
+    Ok(())
 }
 
 // The table of a bundle, filled in one more pass over its first three sections once it is accepted:
 // 1 to 13, 29, or done.
-pub fn fill_table(b: &[u8], t: &mut [u64]) -> Filled
+pub fn fill_table(b: &[u8], t: &mut [u64]) -> Result<(), Refusal>
     ensures { (result ≡ filling first_layout b.now (length t.old)) × (t.new ≡ table_after first_layout b.now t.old) }
 {
-    match bundles::check_bundle(b) {
-        Checked::Refused(r) => Filled::Refused(r),
-        Checked::Accepted => fill_accepted(b, t),
-    }
+    bundles::check_bundle(b)?;
+    fill_accepted(b, t)
 }

@@ -2,3 +2,4 @@
 --
 --   Judgements   what a judgement says
 pub mod Judgements
+pub mod Numbers

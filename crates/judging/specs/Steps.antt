@@ -8,7 +8,7 @@
 --   judgement_in b t n            the judgement of sample n so
 --   form_in b t n                 its form so: 14 to 22
 --   answer_of                     the code's answer in these words
-use Rattle.std.specs.Prelude.{ℕ, List, Bool, ◌||◌, length}
+use Rattle.std.specs.Prelude.{ℕ, List, Bool, ◌||◌, length, Err, Ok, Result}
 use Rattle.words.specs.Tests.{◌<?◌}
 use Rattle.words.specs.RefusalNumbers.{bundle_too_long}
 use Rattle.words.specs.Refusals.{◌if◌, Answer, Verdict, refused, ok, ◌and_then◌, ◌at_place◌}
@@ -21,8 +21,7 @@ use Rattle.resolution_rules.specs.Amounts.{own_bytes, copied_bytes}
 use Rattle.resolution_rules.specs.Calls.{on_sample}
 use Rattle.resolution_rules.specs.Ranges.{on_range}
 use Rattle.judging.specs.declared.Amount.{Amount}
-use Rattle.judging.specs.declared.Judged.{Judged}
-use Rattle.judging.specs.declared.Judged.TheVariants.{Refused, Good}
+use Rattle.numbers.specs.declared.Refusal.{Refusal}
 
 abbrev pub amount_for : Recording → ℕ → Amount
 amount_for r n = record { count = length (delivered r n); own_bytes = own_bytes r n; copied_bytes = copied_bytes r n }
@@ -46,6 +45,6 @@ judgement_in b t n = on_sample_in b t n (judgement (recording_in b t) n)
 unfoldable pub form_in : List ℕ → List ℕ → ℕ → Verdict
 form_in b t n = on_sample_in b t n (check (sample_of (recording_in b t) n))
 
-abbrev pub answer_of : Judged → Answer Amount
-answer_of (Refused f) = refused f.number f.place.0
-answer_of (Good a) = ok a
+abbrev pub answer_of : Result Amount Refusal → Answer Amount
+answer_of (Err f) = refused f.number f.place.0
+answer_of (Ok a) = ok a

@@ -5,10 +5,12 @@
 pub mod form;
 
 ghost use Rattle.std.specs.Prelude.{◌≡◌};
+ghost use Rattle.words.specs.Refusals.{◌at_place◌};
+ghost use Rattle.samples.specs.Check.{answer_of};
 ghost use Rattle.resolution_rules.specs.Calls.{number_fault};
 ghost use Rattle.resolution_rules.specs.Ranges.{range_fault};
 
-use numbers::{Refusal, SampleNumber, refusals};
+use numbers::{Fault, Refusal, SampleNumber};
 
 // How many units a sample delivers, and how many bytes they have: of its own, and copied by its extractors.
 #[derive(Clone, Copy)]
@@ -18,38 +20,22 @@ pub struct Amount {
     pub copied_bytes: usize,
 }
 
-// A sample is good, or refused.
-#[derive(Clone, Copy)]
-pub enum Judged {
-    Refused(Refusal),
-    Good(Amount),
+// 30 at 0: a number 0 or past the last.
+pub fn check_number(count: usize, n: usize) -> Result<(), Refusal>
+    ensures { answer_of result ≡ (number_fault count n at_place 0) }
+{
+    if n == 0 || count < n {
+        return Err(Refusal::at(Fault::NoSuchNumber, 0));
+    }
+    Ok(())
 }
 
-// 30: a number 0 or past the last.
-pub fn number_fault(count: usize, n: usize) -> u8
-    ensures { result ≡ number_fault count n }
+// 30 at 0: first is 0, last is past the last sample, of which there are count, or first exceeds last.
+pub fn check_range(count: usize, first: SampleNumber, last: SampleNumber) -> Result<(), Refusal>
+    ensures { answer_of result ≡ (range_fault count first.0 last.0 at_place 0) }
 {
-    if n == 0 {
-        return refusals::NO_SUCH_NUMBER;
+    if first.0 == 0 || count < last.0 || last.0 < first.0 {
+        return Err(Refusal::at(Fault::NoSuchNumber, 0));
     }
-    if count < n {
-        return refusals::NO_SUCH_NUMBER;
-    }
-    0
-}
-
-// 30: first is 0, last is past the last sample, of which there are count, or first exceeds last.
-pub fn range_fault(count: usize, first: SampleNumber, last: SampleNumber) -> u8
-    ensures { result ≡ range_fault count first.0 last.0 }
-{
-    if first.0 == 0 {
-        return refusals::NO_SUCH_NUMBER;
-    }
-    if count < last.0 {
-        return refusals::NO_SUCH_NUMBER;
-    }
-    if last.0 < first.0 {
-        return refusals::NO_SUCH_NUMBER;
-    }
-    0
+    Ok(())
 }

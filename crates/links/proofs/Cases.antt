@@ -8,11 +8,12 @@
 --   base_searched                                                       the search for the base, in the table's times
 --   base_in_range                                                       the base is at most how many samples the range of the track has
 --   base_track                                                          where there is a base there is a track
---   steps_ahead, steps_before, steps_back                               signed steps from the base
+--   steps_ahead, steps_back                                             signed steps from the base
 --   link_zero, link_past                                                23
 --   linked_by                                                           the linked track, by the own one
 --   named_no_base, named_at                                             the sample named, by the base
---   name_link, name_nothing, name_sample                                the answer, by its parts
+--   name_link, name_found                                               the answer, by its parts
+use Rattle.std.specs.Prelude.{Err, ok_or}
 use Prim.Native.Nat.{ℕ, ◌+◌, ◌-◌, ◌≤◌, ◌<◌}
 use mathlib.Core.Path.{◌≡◌, refl, ap, ◌∙◌}
 use mathlib.Core.Bool.{Bool, true, false}
@@ -23,19 +24,21 @@ use borrow.Author.Tests.{lt-ltb, le-ltb, ltb-true, ltb-false, leb-true, eq-eqb, 
 use lib.Dec.{ltb, leb, eqb, eqb-suc-zero}
 use lib.ListN.{length, length-map}
 use Rattle.words.specs.Tests.{◌≤?◌}
-use Rattle.words.specs.RefusalNumbers.{bad_track_ref_index, no_sample_named}
+use Rattle.words.specs.RefusalNumbers.{bad_track_ref_index}
 use Rattle.words.specs.Lists.{nth, upto}
 use Rattle.words.proofs.Tests.{by_bool, by_number}
 use Rattle.words.proofs.Rows.{upto_length, nth_upto, nth_past}
-use Rattle.numbers.specs.declared.SampleNumber.{SampleNumber}
+use Rattle.numbers.proofs.Faults.{fault_some}
+use Rattle.numbers.specs.declared.refusals.Fault.TheVariants as fault
+use Rattle.numbers.specs.Faults.{number_of_fault, numbered}
+use Rattle.numbers.specs.declared.refusals.Fault.{Fault}
 use Rattle.bundles.specs.Limits.{sample_most}
 use Rattle.bundles.specs.Recordings.{Layout, no_reference, track_of, time_of, references_from, samples_in}
 use Rattle.tables.specs.Tables.{at_most, cell, counts_row, samples_column, sample_total, track_total, layout_in, range_in}
 use Rattle.tables.proofs.Ranges.{after_most, range_samples}
-use Rattle.links.specs.declared.Named.TheVariants.{Refused, Sample}
 use Rattle.links.specs.Halving.{middle, halving}
 use Rattle.links.specs.Links.{link_fault, linked_track, base_search, base, signed, stepped, sample_named, name_fault}
-use Rattle.links.specs.Named.{naming}
+use Rattle.links.specs.Named.{sample_if_any, naming}
 use Rattle.links.proofs.Halving.{middle_among, none_left, those_after, those_before, halving_same}
 use Rattle.links.proofs.Links.{search_without_track, searched, base_found, base_most, named_baseless, named_stepped}
 
@@ -134,11 +137,8 @@ module _ (b offset : ℕ) where
   steps_ahead h = rw (lt-ltb offset 128 h)
 
   module _ (h : 128 ≤ offset) where
-    pub steps_before : b + offset < 256 → 0 ≡ stepped b (signed offset)
-    steps_before l = rw (le-ltb offset 128 h, le-ltb (256 - offset) b (omega arith))
-
-    pub steps_back : offset < 256 → 256 ≤ b + offset → b + offset - 256 ≡ stepped b (signed offset)
-    steps_back g l = rw (le-ltb offset 128 h) (by_bool (ltb (256 - offset) b)
+    pub steps_back : offset < 256 → b + offset - 256 ≡ stepped b (signed offset)
+    steps_back g = rw (le-ltb offset 128 h) (by_bool (ltb (256 - offset) b)
         (λ q. let u = ltb-true (256 - offset) b q in rw q (omega arith))
         (λ q. let u = ltb-false (256 - offset) b q in rw q (omega arith)))
 
@@ -166,14 +166,10 @@ module _ (y : Layout) (n index : ℕ) where
       named_at {j} h e = rw (e, found, linked) (named_stepped y n index offset (rw (← linked, ← found) h))
 
     -- the answer
-    pub name_link : {f : ℕ} → f ≡ link_fault y n index → (f ≡ 0 → ⊥) → Refused f ≡ naming y n index offset
+    pub name_link : (f : Fault) → number_of_fault f ≡ link_fault y n index → Err (number_of_fault f) ≡ naming y n index offset
     unfolding naming name_fault
-    name_link {f} e h = by_number f (λ z. absurd (h z)) (λ g z. rw (← e, z, eqb-suc-zero g))
+    name_link f e = let h = fault_some f in by_number (number_of_fault f) (λ z. absurd (omega arith)) (λ g z. rw (← e, z, eqb-suc-zero g))
 
-    pub name_nothing : link_fault y n index ≡ 0 → sample_named y n index offset ≡ 0 → Refused no_sample_named ≡ naming y n index offset
-    unfolding naming name_fault
-    name_nothing e f = rw (e, eq-eqb (sample_named y n index offset) 0 f)
-
-    pub name_sample : link_fault y n index ≡ 0 → (m : SampleNumber) → m.0 ≡ sample_named y n index offset → (m.0 ≡ 0 → ⊥) → Sample m ≡ naming y n index offset
-    unfolding naming name_fault
-    name_sample e m f h = rw (e, ← f, ne_eqb m.0 0 h)
+    pub name_found : link_fault y n index ≡ 0 → numbered (ok_or (sample_if_any (sample_named y n index offset)) fault.NoSampleNamed) ≡ naming y n index offset
+    unfolding naming name_fault sample_if_any
+    name_found e = by_number (sample_named y n index offset) (λ z. rw (e, z)) (λ g z. rw (e, z, eqb-suc-zero g))

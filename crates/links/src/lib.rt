@@ -1,23 +1,16 @@
 // Which sample an extractor names, by a table alone. Every public function takes any table and any numbers.
 #![tactic(auto)]
 
-ghost use Rattle.std.specs.Prelude.{◌≡◌, ◌-◌, ◌≤◌, length};
+ghost use Rattle.std.specs.Prelude.{◌≡◌, ◌≤◌, length};
+ghost use Rattle.numbers.specs.Faults.{fault_in, numbered};
 ghost use Rattle.bundles.specs.Limits.{sample_most};
 ghost use Rattle.bundles.specs.Recordings.{samples_in};
 ghost use Rattle.tables.specs.Tables.{layout_in};
 ghost use Rattle.links.specs.Halving.{binary_digits};
 ghost use Rattle.links.specs.Links.{link_fault, base_search, signed, stepped, sample_named};
-ghost use Rattle.links.specs.Named.{naming};
+ghost use Rattle.links.specs.Named.{sample_if_any, naming};
 
-use numbers::{SampleNumber, TrackNumber};
-use tables::SampleRange;
-
-// The sample that an extractor names, or the number of the refusal: 23 or 24.
-#[derive(Clone, Copy)]
-pub enum Named {
-    Refused(u8),
-    Sample(SampleNumber),
-}
+use numbers::{Fault, SampleNumber, TrackNumber};
 
 // What a search for the base found, by its number within the track, 0 for none; and how many rounds it took.
 #[derive(Clone, Copy)]
@@ -27,28 +20,14 @@ pub struct SearchResult {
 }
 
 // A track_ref_index 0 or past the last reference of the own sample's track.
-fn link_fault(t: &[u64], n: SampleNumber, index: u8) -> u8
-    ensures { result ≡ link_fault (layout_in t.now) n.0 index }
+fn link_fault(t: &[u64], n: SampleNumber, index: u8) -> Result<(), Fault>
+    ensures { fault_in result ≡ link_fault (layout_in t.now) n.0 index }
 {
-    if index == 0 {
-        return numbers::refusals::BAD_TRACK_REF_INDEX;
-    }
     let own = sample_tables::sample_track(t, n);
-    let count = tables::reference_count(t, own);
-    if count < index as usize {
-        return numbers::refusals::BAD_TRACK_REF_INDEX;
+    if index == 0 || tables::reference_count(t, own) < index as usize {
+        return Err(Fault::BadTrackRefIndex);
     }
-    0
-}
-
-// How many samples a range has.
-fn range_size(range: SampleRange) -> usize
-    ensures { result ≡ range.after - range.before }
-{
-    if range.after < range.before {
-        return 0;
-    }
-    range.after - range.before
+    Ok(())
 }
 
 // The base, searched by halving: the last sample of a track at or before sample n, where the track's times rise. Those left are the
@@ -59,8 +38,9 @@ pub fn find_base(t: &[u64], n: SampleNumber, track: TrackNumber) -> SearchResult
     let own = sample_tables::sample_time(t, n);
     let range = sample_tables::sample_range(t, track);
     let mut low: usize = 0;
-    let mut high = range_size(range);
+    let mut high = range.size();
     let mut rounds: usize = 0;
+    // stays: a while, which walks by halving and counts no index
     while low < high {
         let middle = (low + high + 1) / 2;
         rounds += 1;
@@ -81,46 +61,34 @@ fn stepped(b: usize, offset: u8) -> usize
 {
     let forward = b + offset as usize;
     if offset < 128 {
-        return forward;
+        forward
+    } else {
+        forward.saturating_sub(256)
     }
-    if forward < 256 {
-        return 0;
-    }
-    forward - 256
 }
 
-// The sample that an extractor names; 0 where there is none.
-fn sample_named(t: &[u64], n: SampleNumber, index: u8, offset: u8) -> SampleNumber
-    ensures { result.0 ≡ sample_named (layout_in t.now) n.0 index offset }
+// The sample that an extractor names, if there is one.
+fn sample_named(t: &[u64], n: SampleNumber, index: u8, offset: u8) -> Option<SampleNumber>
+    ensures { result ≡ sample_if_any (sample_named (layout_in t.now) n.0 index offset) }
 {
     let own = sample_tables::sample_track(t, n);
     let track = tables::reference(t, own, index as usize);
     let b = find_base(t, n, track).found;
     if b == 0 {
-        return SampleNumber(0);
+        return None;
     }
     let k = stepped(b, offset);
-    if k == 0 {
-        return SampleNumber(0);
-    }
     let range = sample_tables::sample_range(t, track);
-    if range_size(range) < k {
-        return SampleNumber(0);
+    if k == 0 || range.size() < k {
+        return None;
     }
-    SampleNumber(range.before + k)
+    Some(SampleNumber(range.before + k))
 }
 
 // What an extractor in sample n names, by its track_ref_index and sample_offset.
-pub fn name(t: &[u64], n: SampleNumber, index: u8, offset: u8) -> Named
-    ensures { result ≡ naming (layout_in t.now) n.0 index offset }
+pub fn name(t: &[u64], n: SampleNumber, index: u8, offset: u8) -> Result<SampleNumber, Fault>
+    ensures { numbered result ≡ naming (layout_in t.now) n.0 index offset }
 {
-    let fault = link_fault(t, n, index);
-    if fault != 0 {
-        return Named::Refused(fault);
-    }
-    let m = sample_named(t, n, index, offset);
-    if m.0 == 0 {
-        return Named::Refused(numbers::refusals::NO_SAMPLE_NAMED);
-    }
-    Named::Sample(m)
+    link_fault(t, n, index)?;
+    sample_named(t, n, index, offset).ok_or(Fault::NoSampleNamed)
 }

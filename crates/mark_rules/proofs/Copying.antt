@@ -5,6 +5,7 @@
 --   end_states                      27 by both states
 --   copy_states                     26 to 28, or the copy counted
 --   states_refused, states_counted  the same, by the refusal
+use Rattle.std.specs.Prelude.{Err, Ok}
 use Prim.Native.Nat.{ℕ, ◌≤◌, ◌<◌}
 use mathlib.Core.Path.{◌≡◌, ap, sym, ◌∙◌}
 use mathlib.Core.List.{map, Memᴰ}
@@ -28,7 +29,6 @@ use Rattle.copies.proofs.Runs.{in_holder, holder_one, top_apart, aggregator_one}
 use Rattle.copies.proofs.Rest.{rest}
 use Rattle.copies.proofs.Copies.{starts_unit, unit_starts, starts_not, ends_top, ends_included, end_length, end_zero, top_ends, copy_cut, copy_most, copied_flat}
 use Rattle.copies.proofs.Answers.{copy_border, copy_formed}
-use Rattle.mark_rules.specs.declared.CopyCounted.TheVariants.{Refused, Units}
 use Rattle.mark_rules.specs.Standing.{Standing}
 use Rattle.mark_rules.specs.States.{state_at}
 use Rattle.mark_rules.specs.Amounts.{copy_amount, starts_by, ends_by, between, copy_between}
@@ -36,11 +36,11 @@ use Rattle.mark_rules.proofs.Standing.{border_state, state_border, state_settled
 use Rattle.mark_rules.proofs.Counts.{met_between, state_met}
 
 -- a refused copy, and one that is not
-pub amount_refused : (z : Sample) (o n : ℕ) → (copy_fault z o n ≡ 0 → ⊥) → copy_amount z o n ≡ Refused (copy_fault z o n)
+pub amount_refused : (z : Sample) (o n : ℕ) → (copy_fault z o n ≡ 0 → ⊥) → copy_amount z o n ≡ Err (copy_fault z o n)
 unfolding copy_amount
 amount_refused z o n h = rw (ne_eqb (copy_fault z o n) 0 h)
 
-pub amount_units : (z : Sample) (o n : ℕ) → copy_fault z o n ≡ 0 → copy_amount z o n ≡ Units (record { count = length (copied z o n); bytes = sum (map (size z) (copied z o n)) })
+pub amount_units : (z : Sample) (o n : ℕ) → copy_fault z o n ≡ 0 → copy_amount z o n ≡ Ok (record { count = length (copied z o n); bytes = sum (map (size z) (copied z o n)) })
 unfolding copy_amount
 amount_units z o n h = rw (eq-eqb (copy_fault z o n) 0 h)
 
@@ -150,7 +150,7 @@ module _ (x : Sample) (ok : check x ≡ ok tt) where
         (λ t. units_from x o unit (top_ends_by (eqb-false _ _ t)) (included_ends_by (eqb-false _ _ t)))
 
   module _ (o n : ℕ) where
-    refused_amount : {f : ℕ} → f ≡ border_fault x o n → (f ≡ 0 → ⊥) → Refused f ≡ copy_amount x o n
+    refused_amount : {f : ℕ} → f ≡ border_fault x o n → (f ≡ 0 → ⊥) → Err f ≡ copy_amount x o n
     unfolding copy_amount
     refused_amount {f} e h = let g = copy_border x o n ok e h in rw (← g, ne_eqb f 0 h)
 
@@ -169,8 +169,8 @@ module _ (x : Sample) (ok : check x ≡ ok tt) where
         (λ e. rw e (refused_amount (unfold border_fault in rw (s, e)) (λ z. omega arith)))))
         (λ s. rw (starts_state o, s) (refused_amount (unfold border_fault in rw s) (λ z. omega arith)))
 
-    pub states_refused : (copy_fault x o n ≡ 0 → ⊥) → copy_between x o n (state_at x o) (state_at x (copy_end x o n)) ≡ Refused (copy_fault x o n)
+    pub states_refused : (copy_fault x o n ≡ 0 → ⊥) → copy_between x o n (state_at x o) (state_at x (copy_end x o n)) ≡ Err (copy_fault x o n)
     states_refused h = copy_states ∙ amount_refused x o n h
 
-    pub states_counted : copy_fault x o n ≡ 0 → copy_between x o n (state_at x o) (state_at x (copy_end x o n)) ≡ Units (record { count = length (copied x o n); bytes = sum (map (size x) (copied x o n)) })
+    pub states_counted : copy_fault x o n ≡ 0 → copy_between x o n (state_at x o) (state_at x (copy_end x o n)) ≡ Ok (record { count = length (copied x o n); bytes = sum (map (size x) (copied x o n)) })
     states_counted h = copy_states ∙ amount_units x o n h

@@ -7,6 +7,7 @@
 --   state_met                         the states at two borders
 --   state_counts                      the state at a border counts the units before it
 --   state_next                        the state after a unit that is no aggregator
+use Rattle.std.specs.Prelude.{Err, Ok}
 use Prim.Native.Nat.{ℕ, zero, suc, ◌+◌, ◌-◌, ◌≤◌, ◌<◌}
 use mathlib.Core.Path.{◌≡◌, refl, ap, sym, ◌∙◌, subst}
 use mathlib.Core.List.{List, [], ◌∷◌, map}
@@ -31,7 +32,6 @@ use Rattle.copies.specs.Flat.{UnitBorder, BetweenBorders}
 use Rattle.copies.proofs.Flat.{Walking, walking_start, flat_between}
 use Rattle.copies.proofs.Rest.{rest, rest_end, rest_skip, rest_take, walking_skip, walking_take}
 use Rattle.mark_rules.specs.declared.WalkState.{WalkState}
-use Rattle.mark_rules.specs.declared.CopyCounted.TheVariants.{Refused, Units}
 use Rattle.mark_rules.specs.States.{entered, passed, state_step, reach, state_at}
 use Rattle.mark_rules.specs.Amounts.{between}
 use Rattle.mark_rules.proofs.States.{step_aggregator, step_other, reach_here, reach_step, state_on, state_front}
@@ -107,7 +107,7 @@ module _ (x : Sample) where
       (λ t. rw t (extractors_some qs (rw t at h)))
 
   pub met_between : (a e : WalkState) (to : ℕ) (qs : List ℕ) → Met a e to qs →
-      between a e ≡ pick (some (is_extractor x) qs) (Refused extractor_copied) (Units (record { count = length qs; bytes = sum (map (size x) qs) }))
+      between a e ≡ pick (some (is_extractor x) qs) (Err extractor_copied) (Ok (record { count = length qs; bytes = sum (map (size x) qs) }))
   unfolding between
   met_between a e to qs m =
       let c = m.count in

@@ -6,21 +6,22 @@
 --   ends_by z o n a e       whether it may end where it ends, by the states a at its start and e at its end
 --   between a e             28, or what the walk has met from a to e
 --   copy_between z o n a e  26 to 28, or the copy counted, by these states
-use Rattle.std.specs.Prelude.{ℕ, ◌-◌, map, Bool, ◌&&◌, ◌||◌, length}
+use Rattle.std.specs.Prelude.{ℕ, ◌-◌, map, Bool, ◌&&◌, ◌||◌, length, Err, Ok, Result}
 use Rattle.words.specs.Tests.{◌≤?◌, ◌<?◌, ◌≡?◌, pick}
 use Rattle.words.specs.RefusalNumbers.{bad_data_offset, bad_data_length, extractor_copied}
 use Rattle.words.specs.Lists.{sum}
 use Rattle.units.specs.Units.{Sample, end, size}
+use Rattle.numbers.specs.Faults.{number_of_fault}
+use Rattle.numbers.specs.declared.refusals.Fault.{Fault}
 use Rattle.copies.specs.Copies.{copy_end, copied, copy_fault}
 use Rattle.mark_rules.specs.declared.WalkState.{WalkState}
-use Rattle.mark_rules.specs.declared.CopyCounted.{CopyCounted}
-use Rattle.mark_rules.specs.declared.CopyCounted.TheVariants.{Refused, Units}
+use Rattle.mark_rules.specs.declared.CopyAmount.{CopyAmount}
 
 module _ (z : Sample) (o n : ℕ) where
-  unfoldable pub copy_amount : CopyCounted
+  unfoldable pub copy_amount : Result CopyAmount ℕ
   copy_amount =
-      let units = Units (record { count = length (copied z o n); bytes = sum (map (size z) (copied z o n)) }) in
-      pick (copy_fault z o n ≡? 0) units (Refused (copy_fault z o n))
+      let units = Ok (record { count = length (copied z o n); bytes = sum (map (size z) (copied z o n)) }) in
+      pick (copy_fault z o n ≡? 0) units (Err (copy_fault z o n))
 
 -- The walk stands at o: a unit starts there.
 abbrev pub starts_by : Sample → ℕ → WalkState → Bool
@@ -35,13 +36,13 @@ stands_at_end o d a e = (e.place ≡? d) && pick (o <? a.until) (d ≤? a.until)
 abbrev pub ends_by : Sample → ℕ → ℕ → WalkState → WalkState → Bool
 ends_by z o n a e = (copy_end z o n ≤? end z) && ((n ≡? 0) || stands_at_end o (copy_end z o n) a e)
 
-unfoldable pub between : WalkState → WalkState → CopyCounted
+unfoldable pub between : WalkState → WalkState → Result CopyAmount ℕ
 between a e =
     pick (e.extractors ≡? a.extractors)
-    (Units (record { count = e.count - a.count; bytes = e.bytes - a.bytes }))
-    (Refused extractor_copied)
+    (Ok (record { count = e.count - a.count; bytes = e.bytes - a.bytes }))
+    (Err extractor_copied)
 
-unfoldable pub copy_between : Sample → ℕ → ℕ → WalkState → WalkState → CopyCounted
+unfoldable pub copy_between : Sample → ℕ → ℕ → WalkState → WalkState → Result CopyAmount ℕ
 copy_between z o n a e =
     let counted = between a e in
-    pick (starts_by z o a) (pick (ends_by z o n a e) counted (Refused bad_data_length)) (Refused bad_data_offset)
+    pick (starts_by z o a) (pick (ends_by z o n a e) counted (Err bad_data_length)) (Err bad_data_offset)

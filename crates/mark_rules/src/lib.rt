@@ -2,8 +2,8 @@
 #![tactic(auto)]
 
 // A walk: where it stands; the end of the last aggregator that it met; how many units it has met besides aggregators, how many bytes they
-// have, how many of them are extractors.
-#[derive(Clone, Copy)]
+// have, how many of them are extractors. By default, before the first unit.
+#[derive(Clone, Copy, Default)]
 pub struct WalkState {
     pub place: usize,
     pub until: usize,
@@ -17,11 +17,4 @@ pub struct WalkState {
 pub struct CopyAmount {
     pub count: usize,
     pub bytes: usize,
-}
-
-// What an extractor copies, counted; or its refusal number, 25 to 28.
-#[derive(Clone, Copy)]
-pub enum CopyCounted {
-    Refused(u8),
-    Units(CopyAmount),
 }

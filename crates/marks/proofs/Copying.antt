@@ -7,6 +7,7 @@
 --   length_past, length_wrong, length_good  another data_length
 --   marked_copy, unmarked_copy              by the marks; from the front
 --   marks_copy                              by the rows that its marks were put in
+use Rattle.std.specs.Prelude.{Err}
 use Prim.Native.Nat.{ℕ, ◌+◌, ◌-◌, ◌*◌, ◌/◌, ◌≤◌, ◌<◌}
 use mathlib.Core.Path.{◌≡◌, refl, ap, sym, ◌∙◌}
 use mathlib.Core.List.{List}
@@ -25,7 +26,6 @@ use Rattle.samples.specs.Check.{check}
 use Rattle.copies.specs.Copies.{copy_end}
 use Rattle.copies.proofs.Copies.{end_length, end_unit, end_aggregator}
 use Rattle.mark_rules.specs.declared.WalkState.{WalkState}
-use Rattle.mark_rules.specs.declared.CopyCounted.TheVariants.{Refused}
 use Rattle.mark_rules.specs.States.{state_step, reach, state_at}
 use Rattle.mark_rules.specs.Amounts.{stands_at_end, between, copy_between, copy_amount}
 use Rattle.mark_rules.proofs.States.{step_other, reach_here, reach_step}
@@ -43,16 +43,16 @@ zero_again x rows base o n q e z = rw (e, z)
 
 -- a copy by any two states
 module _ (x : Sample) (o n : ℕ) (a e : WalkState) where
-  between_past : end x ≤ o → copy_between x o n a e ≡ Refused bad_data_offset
+  between_past : end x ≤ o → copy_between x o n a e ≡ Err bad_data_offset
   unfolding copy_between
   between_past h = rw (le-ltb o (end x) h)
 
-  between_wrong : (a.place ≡ o → ⊥) → copy_between x o n a e ≡ Refused bad_data_offset
+  between_wrong : (a.place ≡ o → ⊥) → copy_between x o n a e ≡ Err bad_data_offset
   unfolding copy_between
   between_wrong h = by_bool (o <? end x) (λ t. rw (t, ne_eqb a.place o h)) (λ t. rw t)
 
   module _ (h : o < end x) (p : a.place ≡ o) where
-    between_long : end x < copy_end x o n → copy_between x o n a e ≡ Refused bad_data_length
+    between_long : end x < copy_end x o n → copy_between x o n a e ≡ Err bad_data_length
     unfolding copy_between
     between_long l = rw (lt-ltb o (end x) h, eq-eqb a.place o p, lt-leb (copy_end x o n) (end x) l)
 
@@ -60,7 +60,7 @@ module _ (x : Sample) (o n : ℕ) (a e : WalkState) where
     unfolding copy_between
     between_zero z l = rw (lt-ltb o (end x) h, eq-eqb a.place o p, le-leb (copy_end x o n) (end x) l, eq-eqb n 0 z)
 
-    between_other : (n ≡ 0 → ⊥) → copy_end x o n ≤ end x → copy_between x o n a e ≡ pick (stands_at_end o (copy_end x o n) a e) (between a e) (Refused bad_data_length)
+    between_other : (n ≡ 0 → ⊥) → copy_end x o n ≤ end x → copy_between x o n a e ≡ pick (stands_at_end o (copy_end x o n) a e) (between a e) (Err bad_data_length)
     unfolding copy_between
     between_other z l = rw (lt-ltb o (end x) h, eq-eqb a.place o p, le-leb (copy_end x o n) (end x) l, ne_eqb n 0 z)
 
@@ -75,12 +75,12 @@ module _ (x : Sample) (rows : List ℕ) (base : ℕ) where
   end_other : (o n : ℕ) → (n ≡ 0 → ⊥) → end_state x rows base o n ≡ state_by x rows base (o + n)
   end_other o n z = rw (ne_eqb n 0 z, end_length x o n z)
 
-  pub offset_past : (o n : ℕ) → end x ≤ o → Refused bad_data_offset ≡ copy_by x rows base o n
+  pub offset_past : (o n : ℕ) → end x ≤ o → Err bad_data_offset ≡ copy_by x rows base o n
   unfolding copy_by
   offset_past o n h = sym (between_past x o n _ _ h)
 
   module _ (o n : ℕ) (a : WalkState) (s : a ≡ state_by x rows base o) where
-    pub offset_wrong : (a.place ≡ o → ⊥) → Refused bad_data_offset ≡ copy_by x rows base o n
+    pub offset_wrong : (a.place ≡ o → ⊥) → Err bad_data_offset ≡ copy_by x rows base o n
     unfolding copy_by
     offset_wrong h = sym (between_wrong x o n _ _ (λ e. h (ap (λ (b : WalkState). b.place) s ∙ e)))
 
@@ -93,7 +93,7 @@ module _ (x : Sample) (rows : List ℕ) (base : ℕ) where
     here = ap (λ (b : WalkState). b.place) (sym s)
 
     module _ (t : is_aggregator x a.place ≡ false) where
-      pub unit_long : end x < next x a.place → Refused bad_data_length ≡ copy_by x rows base a.place 0
+      pub unit_long : end x < next x a.place → Err bad_data_length ≡ copy_by x rows base a.place 0
       unfolding copy_by
       unit_long l = sym (between_long x o 0 _ _ h here (rw (end_unit x o 0 refl t) l))
 
@@ -108,7 +108,7 @@ module _ (x : Sample) (rows : List ℕ) (base : ℕ) where
       unit_good l = rw one_step (sym (between_zero x o 0 _ _ h here refl (rw (end_unit x o 0 refl t) l) ∙ rw (end_step o t, ← s)))
 
     module _ (t : is_aggregator x a.place ≡ true) where
-      pub cover_long : end x < cover_end x a.place → Refused bad_data_length ≡ copy_by x rows base a.place 0
+      pub cover_long : end x < cover_end x a.place → Err bad_data_length ≡ copy_by x rows base a.place 0
       unfolding copy_by
       cover_long l = sym (between_long x o 0 _ _ h here (rw (end_aggregator x o 0 refl t) l))
 
@@ -121,16 +121,16 @@ module _ (x : Sample) (rows : List ℕ) (base : ℕ) where
     there : (state_by x rows base o).place ≡ o
     there = ap (λ (b : WalkState). b.place) (sym s) ∙ p
 
-    pub length_past : end x - o < n → Refused bad_data_length ≡ copy_by x rows base o n
+    pub length_past : end x - o < n → Err bad_data_length ≡ copy_by x rows base o n
     unfolding copy_by
     length_past l = let e = end_length x o n z in sym (between_long x o n _ _ h there (omega arith))
 
-    other : o + n ≤ end x → copy_by x rows base o n ≡ pick (stands_at_end o (o + n) a (state_by x rows base (o + n))) (between a (state_by x rows base (o + n))) (Refused bad_data_length)
+    other : o + n ≤ end x → copy_by x rows base o n ≡ pick (stands_at_end o (o + n) a (state_by x rows base (o + n))) (between a (state_by x rows base (o + n))) (Err bad_data_length)
     unfolding copy_by
     other l = let e = end_length x o n z in between_other x o n _ _ h there z (omega arith) ∙ rw (end_other o n z, e, ← s)
 
     module _ (e : WalkState) (q : e ≡ state_by x rows base (o + n)) (l : o + n ≤ end x) where
-      pub length_wrong : stands_at_end o (o + n) a e ≡ false → Refused bad_data_length ≡ copy_by x rows base o n
+      pub length_wrong : stands_at_end o (o + n) a e ≡ false → Err bad_data_length ≡ copy_by x rows base o n
       length_wrong t = sym (other l ∙ rw (← q, t))
 
       pub length_good : stands_at_end o (o + n) a e ≡ true → between a e ≡ copy_by x rows base o n

@@ -1,19 +1,16 @@
 -- States in rows. Assumes nothing.
 --
---   row_write               five numbers stored one after another
---   row_past                past the end of the rows stands the state before the first unit
+--   row_past, row_saturated past the end of the rows stands the state before the first unit
 --   Small                   a state whose numbers a row keeps as they are
 --   put_same, put_other     a state in a row is there, and the other rows stay
-use Prim.Native.Nat.{ℕ, ◌+◌, ◌*◌, ◌%◌, ◌≤◌, ◌<◌}
-use mathlib.Core.Path.{◌≡◌, ap, ◌∙◌}
-use mathlib.Core.List.{List, [], ◌∷◌}
+use Prim.Native.Nat.{ℕ, min, ◌+◌, ◌*◌, ◌%◌, ◌≤◌, ◌<◌}
+use mathlib.Core.Path.{◌≡◌, ap, sym, ◌∙◌}
+use mathlib.Core.List.{List}
 use native.Mathlib.Omega.{arith}
 use mathlib.Core.Logic.{◌⊎◌, inl, inr, ⊎_elim}
 use borrow.Author.Tests.{ltb-true, ltb-false, leb-true, leb-false}
 use lib.Dec.{ltb, leb}
-use lib.ListN.{length, get_or, set, get_or-eq_default}
-use lib.Seq.{sets-eq}
-use native.Mathlib.Numerals.{add-one, add-two, add-three, add-four}
+use lib.ListN.{length, get_or, get_or-eq_default}
 use Rattle.words.specs.Buffers.{write_at, put}
 use Rattle.words.proofs.Tests.{by_bool}
 use Rattle.words.proofs.Buffers.{put_fits, put_not}
@@ -35,9 +32,11 @@ row_past rows i h = rw (
     past : (m : ℕ) → i ≤ m → get_or rows m 0 ≡ 0
     past m l = get_or-eq_default rows 0 (omega arith)
 
-pub row_write : (o : List ℕ) (p a b c d e : ℕ) → p + 5 ≤ length o → set (set (set (set (set o p a) (p + 1) b) (p + 2) c) (p + 3) d) (p + 4) e ≡ write_at o p (a ∷ b ∷ c ∷ d ∷ e ∷ [])
-unfolding write_at
-row_write o p a b c d e h = rw (add-one p, add-two p, add-three p, add-four p) (sets-eq (a ∷ b ∷ c ∷ d ∷ e ∷ []) o p h)
+-- a row number that saturates lies past the end of the rows
+pub row_saturated : (rows : List ℕ) (i m : ℕ) → length rows ≤ m → state_in rows (min i m) ≡ state_in rows i
+row_saturated rows i m h = by_bool (leb i m)
+    (λ t. let l = leb-true i m t in let e : min i m ≡ i = omega arith in rw e)
+    (λ t. let l = leb-false i m t in row_past rows (min i m) (omega arith) ∙ sym (row_past rows i (omega arith)))
 
 -- the numbers of a state are below 2 to the 32nd
 pub record Small (s : WalkState) : Type 0 where

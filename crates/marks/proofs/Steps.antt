@@ -1,16 +1,19 @@
 -- The state one unit on, as the code finds it: n bytes in a length field, the size v and the type t of the unit. Assumes nothing.
 --
 --   size_small                             a length field holds less than 2 to the 32nd
---   step_in, step_extractor, step_plain    an aggregator, an extractor, another unit
+--   step_in, step_passed                   an aggregator, another unit
 --   next_read, cover_read                  where a unit ends, and what an aggregator covers
+--   front_is                               the state whose numbers are all 0
 --   fits_front, fits_step, fits_reach      the numbers of a state do not get too large
 use Prim.Native.Nat.{ℕ, zero, suc, ◌+◌, ◌-◌, ◌^◌, ◌≤◌}
 use mathlib.Core.Path.{◌≡◌, sym, ◌∙◌}
 use mathlib.Core.List.{List}
+use native.Mathlib.Nat.{add-zero}
 use native.Mathlib.Omega.{arith}
-use borrow.Author.Tests.{eq-eqb, ne_eqb, leb-true, leb-false}
+use borrow.Author.Tests.{eq-eqb, ne_eqb, eqb-true, eqb-false, leb-true, leb-false}
 use lib.Dec.{leb}
 use Rattle.words.specs.Bytes.{big}
+use Rattle.words.specs.Tests.{◌≡?◌}
 use Rattle.words.proofs.Tests.{by_bool}
 use Rattle.numbers.specs.Sizes.{in_bytes}
 use Rattle.numbers.specs.declared.LengthSize.{LengthSize}
@@ -32,13 +35,20 @@ module _ (k : Track) (z : List ℕ) (s : WalkState) {n v t : ℕ} (e : n ≡ in_
   unfolding size
   step_in h = rw (step_aggregator x s (eq-eqb _ 30 (sym g ∙ h)), e, f)
 
-  pub step_extractor : (t ≡ 30 → ⊥) → t ≡ 31 → record { place = s.place + n + v; until = s.until; count = s.count + 1; bytes = s.bytes + v; extractors = s.extractors + 1 } ≡ state_step x s
+  step_extractor : (t ≡ 30 → ⊥) → t ≡ 31 → record { place = s.place + n + v; until = s.until; count = s.count + 1; bytes = s.bytes + v; extractors = s.extractors + 1 } ≡ state_step x s
   unfolding size
   step_extractor h i = rw (step_other x s (ne_eqb _ 30 (λ j. h (g ∙ j))), eq-eqb _ 31 (sym g ∙ i), e, f)
 
-  pub step_plain : (t ≡ 30 → ⊥) → (t ≡ 31 → ⊥) → record { place = s.place + n + v; until = s.until; count = s.count + 1; bytes = s.bytes + v; extractors = s.extractors } ≡ state_step x s
+  step_plain : (t ≡ 30 → ⊥) → (t ≡ 31 → ⊥) → record { place = s.place + n + v; until = s.until; count = s.count + 1; bytes = s.bytes + v; extractors = s.extractors } ≡ state_step x s
   unfolding size
   step_plain h i = rw (step_other x s (ne_eqb _ 30 (λ j. h (g ∙ j))), ne_eqb _ 31 (λ j. i (g ∙ j)), e, f)
+
+  -- with m as the number of extractors that the unit is
+  pub step_passed : {m : ℕ} → (t ≡ 30 → ⊥) → (t ≡ 31 → m ≡ 1) → ((t ≡ 31 → ⊥) → m ≡ 0) →
+      record { place = s.place + n + v; until = s.until; count = s.count + 1; bytes = s.bytes + v; extractors = s.extractors + m } ≡ state_step x s
+  step_passed h one none = by_bool (t ≡? 31)
+      (λ q. let r = eqb-true t 31 q in rw (one r) (step_extractor h r))
+      (λ q. let r = eqb-false t 31 q in rw (none r, add-zero s.extractors) (step_plain h r))
 
 -- where a unit ends, and what an aggregator covers, as the code reads it
 module _ (k : Track) (z : List ℕ) (p : ℕ) {n v : ℕ} (e : n ≡ in_bytes k.length_size) (f : v ≡ big z p (in_bytes k.length_size)) where
@@ -53,6 +63,12 @@ pub size_small : (l : LengthSize) → 256 ^ in_bytes l ≤ 4294967296
 size_small One = omega arith
 size_small Two = omega arith
 size_small Four = omega arith
+
+pub front_is : {s : WalkState} → (s.place ≡ 0) × ((s.until ≡ 0) × ((s.count ≡ 0) × ((s.bytes ≡ 0) × (s.extractors ≡ 0)))) → s ≡ front
+front_is {s} e = fields e.0 e.1.0 e.1.1.0 e.1.1.1.0 e.1.1.1.1
+  where
+    fields : {a b c d f : ℕ} → a ≡ 0 → b ≡ 0 → c ≡ 0 → d ≡ 0 → f ≡ 0 → record { place = a; until = b; count = c; bytes = d; extractors = f } ≡ front
+    fields g h i j k = rw (g, h, i, j, k)
 
 pub fits_front : Fits front
 fits_front = record { count = omega arith; bytes = omega arith; extractors = omega arith }

@@ -11,15 +11,15 @@
 --   end_state x rows base o n  the state at the end of a copy
 --   copy_by x rows base o n    what an extractor with data_offset o and data_length n copies of x, by the states at its start and its end
 --   Marked x base rows         the rows from base on say the states of x at the ends of its blocks
-use Rattle.std.specs.Prelude.{ℕ, zero, suc, ◌+◌, ◌-◌, ◌*◌, ◌/◌, ◌%◌, ◌≤◌, ◌≡◌, List, [], ◌∷◌, ◌&&◌, not, get_or}
+use Rattle.std.specs.Prelude.{ℕ, zero, suc, ◌+◌, ◌-◌, ◌*◌, ◌/◌, ◌%◌, ◌≤◌, ◌≡◌, List, [], ◌∷◌, ◌&&◌, not, get_or, Result}
 use Rattle.words.specs.Tests.{◌≡?◌, pick}
 use Rattle.words.specs.Buffers.{put}
 use Rattle.units.specs.Units.{Sample, end, is_aggregator}
 use Rattle.copies.specs.Copies.{copy_end}
 use Rattle.mark_rules.specs.declared.WalkState.{WalkState}
-use Rattle.mark_rules.specs.declared.CopyCounted.{CopyCounted}
 use Rattle.mark_rules.specs.States.{front, state_step, reach, state_at}
 use Rattle.mark_rules.specs.Amounts.{copy_between}
+use Rattle.mark_rules.specs.declared.CopyAmount.{CopyAmount}
 
 abbrev pub block : ℕ
 block = 1280
@@ -65,7 +65,7 @@ module _ (x : Sample) where
   end_state rows base o n =
       pick ((n ≡? 0) && not (is_aggregator x o)) (state_step x (state_by rows base o)) (state_by rows base (copy_end x o n))
 
-  unfoldable pub copy_by : List ℕ → ℕ → ℕ → ℕ → CopyCounted
+  unfoldable pub copy_by : List ℕ → ℕ → ℕ → ℕ → Result CopyAmount ℕ
   copy_by rows base o n = copy_between x o n (state_by rows base o) (end_state rows base o n)
 
 pub record Marked (x : Sample) (base : ℕ) (rows : List ℕ) : Type 0 where

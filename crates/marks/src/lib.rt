@@ -7,13 +7,14 @@ ghost use Rattle.words.specs.Bytes.{big};
 ghost use Rattle.words.specs.Buffers.{put};
 ghost use Rattle.numbers.specs.Sizes.{in_bytes};
 ghost use Rattle.units.specs.Units.{sample};
-ghost use Rattle.mark_rules.specs.States.{front, state_step, reach};
+ghost use Rattle.mark_rules.specs.States.{state_step, reach};
 ghost use Rattle.mark_rules.specs.Amounts.{stands_at_end, between};
+ghost use Rattle.numbers.specs.Faults.{numbered};
 ghost use Rattle.marks.specs.Marks.{row_size, number_limit, kept_number, row_of, state_in, marks, state_by, copy_by};
 ghost use Rattle.marks.specs.Fits.{Fits};
 
-use mark_rules::{CopyAmount, CopyCounted, WalkState};
-use numbers::{ByteOffset, LengthSize, refusals};
+use mark_rules::{CopyAmount, WalkState};
+use numbers::{ByteOffset, Fault, LengthSize};
 use units::Track;
 
 // The bytes of a block.
@@ -24,19 +25,6 @@ pub const ROW: usize = 5;
 
 // Numbers of a row are kept below it.
 const NUMBER_LIMIT: usize = 4294967296;
-
-// The state before the first unit.
-fn front() -> WalkState
-    ensures { result ≡ front }
-{
-    WalkState {
-        place: 0,
-        until: 0,
-        count: 0,
-        bytes: 0,
-        extractors: 0,
-    }
-}
 
 // The number in a length field at a place.
 fn length_at(l: LengthSize, z: &[u8], p: usize) -> usize
@@ -54,31 +42,19 @@ fn step(k: Track, z: &[u8], s: WalkState) -> WalkState
     let n = l.bytes();
     let p = s.place;
     let size = length_at(l, z, p);
-    let t = units::type_at(k, z, ByteOffset(p));
-    if t == units::AGGREGATOR {
-        return WalkState {
+    match units::type_at(k, z, ByteOffset(p)) {
+        units::AGGREGATOR => WalkState {
             place: p + n + LengthSize::HEADER + n,
             until: p + n + size,
-            count: s.count,
-            bytes: s.bytes,
-            extractors: s.extractors,
-        };
-    }
-    if t == units::EXTRACTOR {
-        return WalkState {
+            ..s
+        },
+        t => WalkState {
             place: p + n + size,
-            until: s.until,
             count: s.count + 1,
             bytes: s.bytes + size,
-            extractors: s.extractors + 1,
-        };
-    }
-    WalkState {
-        place: p + n + size,
-        until: s.until,
-        count: s.count + 1,
-        bytes: s.bytes + size,
-        extractors: s.extractors,
+            extractors: s.extractors + usize::from(t == units::EXTRACTOR),
+            ..s
+        },
     }
 }
 
@@ -105,33 +81,23 @@ fn kept(n: usize) -> u32
 fn put_row(rows: &mut [u32], i: usize, s: WalkState)
     ensures { rows.new ≡ put rows.old (i * row_size) (row_of s) }
 {
-    if rows.len() <= i {
-        return;
+    if i < rows.len() / ROW {
+        let at = i * ROW;
+        rows[at..at + ROW].copy_from_slice(&[
+            kept(s.place),
+            kept(s.until),
+            kept(s.count),
+            kept(s.bytes),
+            kept(s.extractors),
+        ]);
     }
-    let at = i * ROW;
-    if rows.len() < at + ROW {
-        return;
-    }
-    let place = kept(s.place);
-    let until = kept(s.until);
-    let count = kept(s.count);
-    let bytes = kept(s.bytes);
-    let extractors = kept(s.extractors);
-    rows[at] = place;
-    rows[at + 1] = until;
-    rows[at + 2] = count;
-    rows[at + 3] = bytes;
-    rows[at + 4] = extractors;
 }
 
 // A number of the rows, 0 past their end.
 fn cell(rows: &[u32], at: usize) -> usize
     ensures { (result ≡ get_or rows.now at 0) × (result < number_limit) }
 {
-    if rows.len() <= at {
-        return 0;
-    }
-    rows[at] as usize
+    rows.get(at).copied().unwrap_or(0) as usize
 }
 
 // The state in a row; past their end the state before the first unit.
@@ -139,7 +105,7 @@ fn row(rows: &[u32], i: usize) -> WalkState
     ensures { (result ≡ state_in rows.now i) × Fits result }
 {
     if rows.len() <= i {
-        return front();
+        return WalkState::default();
     }
     let at = i * ROW;
     WalkState {
@@ -158,13 +124,10 @@ pub fn mark(k: Track, z: &[u8], rows: &mut [u32], base: usize)
     if rows.len() <= base {
         return;
     }
-    let most = z.len() / BLOCK;
-    let mut s = front();
-    let mut i: usize = 0;
-    while i < most {
+    let mut s = WalkState::default();
+    for i in 0..z.len() / BLOCK {
         s = reach(k, z, s, (i + 1) * BLOCK);
         put_row(rows, base + i, s);
-        i += 1;
     }
 }
 
@@ -174,35 +137,25 @@ fn state_at(k: Track, z: &[u8], rows: &[u32], base: usize, to: usize) -> WalkSta
     ensures { (result ≡ state_by (sample k z.now) rows.now base to) × Fits result }
 {
     let blocks = to / BLOCK;
-    if blocks == 0 {
-        return reach(k, z, front(), to);
-    }
-    if rows.len() <= base {
-        return reach(k, z, front(), to);
-    }
-    reach(k, z, row(rows, base + (blocks - 1)), to)
-}
-
-// What is left of a number, 0 where the other is the greater.
-fn less(a: usize, b: usize) -> usize
-    ensures { result ≡ a - b }
-{
-    if a < b {
-        return 0;
-    }
-    a - b
+    let from = if blocks == 0 {
+        WalkState::default()
+    } else {
+        row(rows, base.saturating_add(blocks - 1))
+    };
+    reach(k, z, from, to)
 }
 
 // A copy from a state up to a later one: 28, or its units counted.
-fn between(a: WalkState, e: WalkState) -> CopyCounted
-    ensures { result ≡ between a e }
+#[tactic(auto, using(words::proofs::Tests::tests), unfolding(mark_rules::specs::Amounts::between))]
+fn between(a: WalkState, e: WalkState) -> Result<CopyAmount, Fault>
+    ensures { numbered result ≡ between a e }
 {
     if e.extractors != a.extractors {
-        return CopyCounted::Refused(refusals::EXTRACTOR_COPIED);
+        return Err(Fault::ExtractorCopied);
     }
-    CopyCounted::Units(CopyAmount {
-        count: less(e.count, a.count),
-        bytes: less(e.bytes, a.bytes),
+    Ok(CopyAmount {
+        count: e.count.saturating_sub(a.count),
+        bytes: e.bytes.saturating_sub(a.bytes),
     })
 }
 
@@ -210,19 +163,24 @@ fn between(a: WalkState, e: WalkState) -> CopyCounted
 fn ends(from: usize, to: usize, a: WalkState, e: WalkState) -> bool
     ensures { result ≡ stands_at_end from to a e }
 {
-    if e.place != to {
-        return false;
-    }
-    if from < a.until {
-        return to <= a.until;
-    }
-    e.until <= to
+    let allowed = if from < a.until {
+        to <= a.until
+    } else {
+        e.until <= to
+    };
+    e.place == to && allowed
 }
 
 // What data_length 0 copies, from the state at a unit: that unit; for an aggregator also what it covers.
-fn copy_unit(k: Track, z: &[u8], rows: &[u32], base: usize, a: WalkState) -> CopyCounted
+fn copy_unit(
+    k: Track,
+    z: &[u8],
+    rows: &[u32],
+    base: usize,
+    a: WalkState,
+) -> Result<CopyAmount, Fault>
     requires { (a.place < length z.now) × Fits a × (a ≡ state_by (sample k z.now) rows.now base a.place) }
-    ensures { result ≡ copy_by (sample k z.now) rows.now base a.place 0 }
+    ensures { numbered result ≡ copy_by (sample k z.now) rows.now base a.place 0 }
 {
     let l = k.length_size;
     let n = l.bytes();
@@ -230,13 +188,13 @@ fn copy_unit(k: Track, z: &[u8], rows: &[u32], base: usize, a: WalkState) -> Cop
     let next = p + n + length_at(l, z, p);
     if units::type_at(k, z, ByteOffset(p)) != units::AGGREGATOR {
         if z.len() < next {
-            return CopyCounted::Refused(refusals::BAD_DATA_LENGTH);
+            return Err(Fault::BadDataLength);
         }
         return between(a, reach(k, z, a, next));
     }
     let to = next + length_at(l, z, p + n + LengthSize::HEADER);
     if z.len() < to {
-        return CopyCounted::Refused(refusals::BAD_DATA_LENGTH);
+        return Err(Fault::BadDataLength);
     }
     between(a, state_at(k, z, rows, base, to))
 }
@@ -250,27 +208,27 @@ pub fn copy_of(
     base: usize,
     offset: ByteOffset,
     length: usize,
-) -> CopyCounted
-    ensures { result ≡ copy_by (sample k z.now) rows.now base offset.0 length }
+) -> Result<CopyAmount, Fault>
+    ensures { numbered result ≡ copy_by (sample k z.now) rows.now base offset.0 length }
 {
     let from = offset.0;
     if z.len() <= from {
-        return CopyCounted::Refused(refusals::BAD_DATA_OFFSET);
+        return Err(Fault::BadDataOffset);
     }
     let a = state_at(k, z, rows, base, from);
     if a.place != from {
-        return CopyCounted::Refused(refusals::BAD_DATA_OFFSET);
+        return Err(Fault::BadDataOffset);
     }
     if length == 0 {
         return copy_unit(k, z, rows, base, a);
     }
     if z.len() - from < length {
-        return CopyCounted::Refused(refusals::BAD_DATA_LENGTH);
+        return Err(Fault::BadDataLength);
     }
     let to = from + length;
     let e = state_at(k, z, rows, base, to);
     if !ends(from, to, a, e) {
-        return CopyCounted::Refused(refusals::BAD_DATA_LENGTH);
+        return Err(Fault::BadDataLength);
     }
     between(a, e)
 }

@@ -6,6 +6,7 @@
 --   none_past                                             none stands past the end
 --   other_unit, extractor_none, found_here                what is found at a: nothing, or the fields
 --   Seeking, seeking_start, -passed, -here, -skip, -next  a loop that goes to a
+use Rattle.std.specs.Prelude.{None}
 use Prim.Native.Nat.{ℕ, zero, suc, ◌-◌, ◌≤◌, ◌<◌}
 use mathlib.Core.Path.{◌≡◌, refl, ap, ◌∙◌}
 use mathlib.Core.List.{List}
@@ -22,7 +23,6 @@ use Rattle.words.proofs.Kept.{keep_yes, keep_no}
 use Rattle.units.specs.Units.{Sample, end, next, is_aggregator, is_extractor, unit_fault}
 use Rattle.units.specs.Aggregators.{included_start, units, extractors}
 use Rattle.units.specs.Steps.{extractor_at}
-use Rattle.units.specs.declared.MaybeExtractor.TheVariants.{Nothing}
 use Rattle.samples.specs.Check.{check}
 use Rattle.samples.proofs.Laws.{unit_inside, extractor_step}
 use Rattle.copies.specs.Flat.{flat_step, flat_places}
@@ -63,17 +63,17 @@ module _ (x : Sample) where
         (λ t. rw (flat_step_lem x a (end x) h, keep_yes (is_extractor x) a rest t, t, eq-eqb a a refl))
         (λ t. rw (flat_step_lem x a (end x) h, keep_no (is_extractor x) a rest t, t) (from_later (end x) (flat_step x a) (omega arith) (omega arith)))
 
-    other_unit : is_extractor x a ≡ false → extractor_at x (end x) a ≡ Nothing
+    other_unit : is_extractor x a ≡ false → extractor_at x (end x) a ≡ None
     unfolding extractor_at
     other_unit t = by_bool (unit_fault x (end x) a ≡? 0) (λ u. rw (u, t)) (λ u. rw u)
 
-    extractor_none : has a (extractors x) ≡ false → Nothing ≡ extractor_in x a
+    extractor_none : has a (extractors x) ≡ false → None ≡ extractor_in x a
     unfolding extractor_in
     extractor_none t = rw t
 
     module _ (f : check x ≡ ok tt) where
       -- no unit stands past the end
-      pub none_past : end x ≤ a → Nothing ≡ extractor_in x a
+      pub none_past : end x ≤ a → None ≡ extractor_in x a
       unfolding extractors
       none_past h = by_bool (has a (extractors x))
           (λ t. let m = keep_from (is_extractor x) (units x) (has_from a (extractors x) t) in let i = unit_inside x f a m.0 in absurd (omega arith))
@@ -100,7 +100,7 @@ module _ (x : Sample) where
     }
 
     module _ (p : ℕ) (c : Seeking p) where
-      pub seeking_passed : a < p → Nothing ≡ extractor_in x a
+      pub seeking_passed : a < p → None ≡ extractor_in x a
       seeking_passed h = extractor_none (c.same ∙ from_later (end x) p (omega arith) h)
 
       module _ (g : a < end x) where

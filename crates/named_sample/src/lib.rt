@@ -2,7 +2,7 @@
 #![tactic(auto)]
 
 ghost use Rattle.std.specs.Prelude.{◌≡◌};
-ghost use Rattle.words.specs.Refusals.{refused, ok};
+ghost use Rattle.words.specs.Refusals.{ok};
 ghost use Rattle.units.specs.Units.{sample};
 ghost use Rattle.samples.specs.Check.{check};
 ghost use Rattle.bundles.specs.Readers.{first_layout};
@@ -10,28 +10,18 @@ ghost use Rattle.tables.specs.Tables.{layout_in, recording_in};
 ghost use Rattle.resolution_rules.specs.Calls.{named_in, named_call};
 ghost use Rattle.named_sample.specs.Answers.{named_answer_of, extractor_in, name_with};
 
-use filling::Filled;
-use links::Named;
-use numbers::{ByteOffset, Refusal, SampleNumber, refusals};
-use samples::Checked;
+use numbers::{ByteOffset, Fault, Refusal, SampleNumber};
 use unit_steps::Item;
-use units::{Extractor, MaybeExtractor, Track};
-
-// The sample that an extractor names, or a refusal.
-#[derive(Clone, Copy)]
-pub enum NamedSample {
-    Refused(Refusal),
-    Sample(SampleNumber),
-}
+use units::{Extractor, Track};
 
 // The fields of the extractor at a place of a well-formed sample; nothing where none stands there. The walk over its units, included ones
 // too, ends where it has reached or passed the place.
-fn extractor_in(k: Track, x: &[u8], at: ByteOffset) -> MaybeExtractor
+fn extractor_in(k: Track, x: &[u8], at: ByteOffset) -> Option<Extractor>
     requires { check (sample k x.now) ≡ ok tt }
     ensures { result ≡ extractor_in (sample k x.now) at.0 }
 {
     if x.len() <= at.0 {
-        return MaybeExtractor::Nothing;
+        return None;
     }
     let mut p: usize = 0;
     while p < at.0 {
@@ -39,7 +29,7 @@ fn extractor_in(k: Track, x: &[u8], at: ByteOffset) -> MaybeExtractor
         match item {
             // does not come: the sample is well formed
             Item::Nothing => {
-                return MaybeExtractor::Nothing;
+                return None;
             }
             Item::Aggregator(included) => {
                 p = included.0;
@@ -53,65 +43,46 @@ fn extractor_in(k: Track, x: &[u8], at: ByteOffset) -> MaybeExtractor
         }
     }
     if p != at.0 {
-        return MaybeExtractor::Nothing;
+        return None;
     }
     unit_steps::extractor_at(k, x, at, ByteOffset(x.len()))
 }
 
-// A refusal at a place.
-fn refused(number: u8, place: ByteOffset) -> NamedSample
-    ensures { named_answer_of result ≡ refused number place.0 }
-{
-    NamedSample::Refused(Refusal {
-        number: number,
-        place: place,
-    })
-}
-
 // The sample that an extractor at a place of sample n names, by its fields: 23, 24 there, or the sample.
-fn name_with(t: &[u64], n: SampleNumber, at: ByteOffset, f: Extractor) -> NamedSample
+fn name_with(
+    t: &[u64],
+    n: SampleNumber,
+    at: ByteOffset,
+    f: Extractor,
+) -> Result<SampleNumber, Refusal>
     ensures { named_answer_of result ≡ name_with (layout_in t.now) n.0 at.0 f }
 {
     let named = links::name(t, n, f.track_ref_index, f.sample_offset);
-    match named {
-        Named::Refused(number) => refused(number, at),
-        Named::Sample(m) => NamedSample::Sample(m),
-    }
+    numbers::at_place(named, at.0)
 }
 
 // The sample that the extractor at a place of sample n names, by any table: 30, 14 to 22 of the sample, 30 where no extractor stands there,
 // 23, 24.
-fn name_at(b: &[u8], t: &[u64], n: SampleNumber, at: ByteOffset) -> NamedSample
+fn name_at(b: &[u8], t: &[u64], n: SampleNumber, at: ByteOffset) -> Result<SampleNumber, Refusal>
     ensures { named_answer_of result ≡ named_in (recording_in b.now t.now) n.0 at.0 }
 {
-    let fault = judging::number_fault(sample_tables::sample_count(t), n.0);
-    if fault != 0 {
-        return refused(fault, ByteOffset(0));
-    }
+    judging::check_number(sample_tables::sample_count(t), n.0)?;
     let k = delivery::track_of(t, n);
     let x = sample_tables::sample_bytes(b, t, n);
-    let checked = samples::check_sample(k, x);
-    match checked {
-        Checked::Refused(f) => NamedSample::Refused(f),
-        Checked::WellFormed => {
-            let found = extractor_in(k, x, at);
-            match found {
-                MaybeExtractor::Nothing => refused(refusals::NO_SUCH_NUMBER, ByteOffset(0)),
-                MaybeExtractor::Extractor(f) => name_with(t, n, at, f),
-            }
-        }
+    samples::check_sample(k, x)?;
+    let found = extractor_in(k, x, at);
+    match found {
+        None => Err(Refusal::at(Fault::NoSuchNumber, 0)),
+        Some(f) => name_with(t, n, at, f),
     }
 }
 
 // The sample that the extractor at a place of a sample names: 1 to 13, 30, 14 to 22 of the sample, 30 where no extractor stands there,
 // 23, 24.
-pub fn named_sample(b: &[u8], n: SampleNumber, at: ByteOffset) -> NamedSample
+pub fn named_sample(b: &[u8], n: SampleNumber, at: ByteOffset) -> Result<SampleNumber, Refusal>
     ensures { named_answer_of result ≡ named_call first_layout b.now n.0 at.0 }
 {
     let mut t = [0u64; tables::TABLE_SIZE];
-    let filled = filling::fill_table(b, &mut t);
-    match filled {
-        Filled::Refused(f) => NamedSample::Refused(f),
-        Filled::Done => name_at(b, &t, n, at),
-    }
+    filling::fill_table(b, &mut t)?;
+    name_at(b, &t, n, at)
 }

@@ -2,19 +2,16 @@
 #![tactic(auto)]
 
 use numbers::SampleNumber;
-use program_input::decimal::MaybeNumber;
 use program_input::{decimal, filled, limit};
 use std::env::Env;
 use std::io;
 use std::io::{BufWriter, Write};
 
 // The first argument. One that is missing or longer than 4,096 bytes is no number.
-fn argument(rt: &impl Env) -> MaybeNumber {
+fn argument(rt: &impl Env) -> Option<usize> {
     let mut word = [0u8; 4096];
-    match rt.arg(1, &mut word) {
-        Ok(n) => decimal::number_of(&word[..n]),
-        Err(_) => MaybeNumber::Nothing,
-    }
+    let n = rt.arg(1, &mut word).ok()?;
+    decimal::number_of(&word[..n])
 }
 
 // The naming list of sample s of the bundle on standard input.
@@ -29,13 +26,10 @@ fn print_names<W: Write>(rt: &impl Input, to: &mut W, s: SampleNumber) -> io::Re
 }
 
 fn main(rt: HostRuntime) -> io::Result<()> {
-    let asked = argument(&rt);
-    match asked {
-        MaybeNumber::Number(n) => {
-            let mut to = BufWriter::new(rt.alloc(), io::writer(&rt))?;
-            print_names(&rt, &mut to, SampleNumber(n))?;
-            to.flush()
-        }
-        MaybeNumber::Nothing => rt.eprintln("usage: names NUMBER < BUNDLE"),
-    }
+    let Some(n) = argument(&rt) else {
+        return rt.eprintln("usage: names NUMBER < BUNDLE");
+    };
+    let mut to = BufWriter::new(rt.alloc(), io::writer(&rt))?;
+    print_names(&rt, &mut to, SampleNumber(n))?;
+    to.flush()
 }

@@ -10,6 +10,7 @@
 --   counts_bad, counts_good                     what is kept in the table, by the number
 --   names_beside, names_unfit                   the call by a bundle and a table: these fit, or do not
 --   call_filled                                 the call by a table that was filled
+use Rattle.std.specs.Prelude.{Ok}
 use Prim.Native.Nat.{ℕ, zero, suc, ◌+◌, ◌-◌, ◌*◌, ◌≤◌, ◌<◌}
 use mathlib.Core.Path.{◌≡◌, refl, ap, ap₂, sym, ◌∙◌}
 use mathlib.Core.List.{List, [], ◌∷◌, ◌++◌, map, append-nil}
@@ -41,7 +42,6 @@ use Rattle.tables.specs.Tables.{sample_total, layout_in, recording_in, table_mos
 use Rattle.tables.proofs.Layouts.{samples_count, samples_most}
 use Rattle.tables.proofs.KeptCounts.{kept_count_recording, kept_count_layout, kept_count_case, kept_count_set, kept_count_other}
 use Rattle.filling.specs.Filling.{filling, table_after}
-use Rattle.filling.specs.declared.Filled.TheVariants.{Done}
 use Rattle.filling.proofs.Promises.{table_accepted, table_means}
 use Rattle.resolution_rules.specs.Resolving.{own}
 use Rattle.resolution_rules.specs.Calls.{number_fault}
@@ -314,7 +314,7 @@ module _ (b t : List ℕ) (s room : ℕ) where
   names_unfit (inr l) = by_bool (bundle_most <? length b) (λ u. (rw u, rw u)) (λ u. (rw (u, lt-ltb _ _ l), rw (u, lt-ltb _ _ l)))
 
 -- the call by a table that was filled
-module _ (b t : List ℕ) (done : filling first_layout b (length t) ≡ Done) where
+module _ (b t : List ℕ) (done : filling first_layout b (length t) ≡ (Ok tt)) where
   pub call_filled : {u : List ℕ} → u ≡ table_after first_layout b t → (s room : ℕ) → within room (names (recording_in b u) s) ≡ names_call first_layout b s room
   unfolding names_call
   call_filled f s room = rw (f, table_means b t done, table_accepted b t done)

@@ -10,7 +10,7 @@
 --   unfit b t            a bundle too long, or a table too short for any bundle
 --   names_in b t s room  the list by a bundle and any table beside it: 1 where they are unfit, then 30, 29, or the list
 --   table_in b t s       what that leaves of the table
-use Rattle.std.specs.Prelude.{ℕ, zero, suc, ◌+◌, ◌*◌, List, Bool, false, ◌&&◌, ◌||◌, length}
+use Rattle.std.specs.Prelude.{ℕ, zero, suc, ◌+◌, ◌*◌, List, Bool, false, ◌&&◌, ◌||◌, length, None, Option, Some}
 use Rattle.words.specs.Tests.{◌≡?◌, ◌<?◌, pick}
 use Rattle.words.specs.RefusalNumbers.{bundle_too_long}
 use Rattle.words.specs.Refusals.{◌if◌, Answer, ◌and_then◌, ◌at_place◌}
@@ -20,8 +20,6 @@ use Rattle.words.specs.Buffers.{put, within}
 use Rattle.units.specs.Units.{Sample, end}
 use Rattle.units.specs.Steps.{extractor_at}
 use Rattle.units.specs.declared.Extractor as fields
-use Rattle.units.specs.declared.MaybeExtractor.{MaybeExtractor}
-use Rattle.units.specs.declared.MaybeExtractor.TheVariants.{Extractor, Nothing}
 use Rattle.bundles.specs.Limits.{bundle_most, sample_most}
 use Rattle.bundles.specs.Recordings.{Layout, sample_count}
 use Rattle.tables.specs.Tables.{table_most, layout_in, recording_in, with_kept_count}
@@ -30,6 +28,7 @@ use Rattle.copies.specs.Flat.{flat_places}
 use Rattle.numbers.specs.Places.{place_size}
 use Rattle.resolution_rules.specs.Calls.{number_fault}
 use Rattle.naming_list_rules.specs.Naming.{namers_in, sample_size, list_entry_size, names}
+use Rattle.units.specs.declared.Extractor.{Extractor}
 
 module _ (y : Layout) (s n : ℕ) where
   unfoldable pub names_with : fields.Extractor → Bool
@@ -38,9 +37,9 @@ module _ (y : Layout) (s n : ℕ) where
       && (sample_named y n f.track_ref_index f.sample_offset ≡? s)
 
   -- no extractor, or a bad one, names nothing
-  abbrev pub names_by : MaybeExtractor → Bool
-  names_by (Extractor f) = names_with f
-  names_by Nothing = false
+  abbrev pub names_by : Option Extractor → Bool
+  names_by (Some f) = names_with f
+  names_by None = false
 
   unfoldable pub names_at : Sample → ℕ → Bool
   names_at x p = names_by (extractor_at x (end x) p)

@@ -16,12 +16,9 @@ ghost use Rattle.naming_list_rules.specs.Naming.{namer, namers_in, naming_list, 
 ghost use Rattle.naming_list.specs.Entries.{list_entry_in};
 ghost use Rattle.naming_list.specs.Steps.{names_with, names_at, namers_from, list_most, with_entry, counts_upto, counts_for, names_in, table_in};
 
-use filling::Filled;
-use links::Named;
-use numbers::{ByteOffset, PLACE_SIZE, Refusal, SampleNumber, Written, refusals};
-use samples::Checked;
+use numbers::{ByteOffset, Fault, PLACE_SIZE, Refusal, SampleNumber};
 use unit_steps::Item;
-use units::{Extractor, MaybeExtractor, Track};
+use units::{Extractor, Track};
 
 // An entry of the list: the number of the extractor's own sample in 2 bytes, its place there in 4.
 const SAMPLE_SIZE: usize = 2;
@@ -53,8 +50,8 @@ fn names_with(t: &[u64], n: SampleNumber, f: Extractor, s: SampleNumber) -> bool
 {
     let named = links::name(t, n, f.track_ref_index, f.sample_offset);
     match named {
-        Named::Refused(_) => false,
-        Named::Sample(m) => m.0 == s.0,
+        Err(_) => false,
+        Ok(m) => m.0 == s.0,
     }
 }
 
@@ -64,8 +61,8 @@ fn names_at(t: &[u64], n: SampleNumber, k: Track, x: &[u8], at: ByteOffset, s: S
 {
     let found = unit_steps::extractor_at(k, x, at, ByteOffset(x.len()));
     match found {
-        MaybeExtractor::Extractor(f) => names_with(t, n, f, s),
-        MaybeExtractor::Nothing => false,
+        Some(f) => names_with(t, n, f, s),
+        None => false,
     }
 }
 
@@ -150,8 +147,8 @@ fn count_in(b: &[u8], t: &[u64], n: SampleNumber, s: SampleNumber) -> usize
     let x = sample_tables::sample_bytes(b, t, n);
     let checked = samples::check_sample(k, x);
     match checked {
-        Checked::Refused(_) => 0,
-        Checked::WellFormed => {
+        Err(_) => 0,
+        Ok(()) => {
             let mut nothing = [0u8; 1];
             put_namers(&mut nothing, 0, t, n, k, x, s)
         }
@@ -167,12 +164,11 @@ fn count_all(b: &[u8], t: &mut [u64], s: SampleNumber) -> usize
         × (t.new ≡ counts_upto b.now t.old s.0 (sample_count (layout_in t.old))) }
 {
     let total = sample_tables::sample_count(t);
-    let mut count: usize = 0;
-    let mut n: usize = 0;
-    while n < total {
-        n += 1;
-        let found = count_in(b, t, SampleNumber(n), s);
-        sample_tables::keep_count(t, SampleNumber(n), found as u64);
+    let mut count = 0;
+    for n in 0..total {
+        let sample = SampleNumber(n + 1);
+        let found = count_in(b, t, sample, s);
+        sample_tables::keep_count(t, sample, found as u64);
         count += found;
     }
     count
@@ -186,73 +182,56 @@ fn put_list(out: &mut [u8], b: &[u8], t: &[u64], s: SampleNumber)
     ensures { out.new ≡ overwrite out.old (list_bytes (naming_list (recording_in b.now t.now) s.0)) }
 {
     let total = sample_tables::sample_count(t);
-    let mut at: usize = 0;
-    let mut n: usize = 0;
-    while n < total {
-        n += 1;
-        if sample_tables::kept_count(t, SampleNumber(n)) != 0 {
-            let k = delivery::track_of(t, SampleNumber(n));
-            let x = sample_tables::sample_bytes(b, t, SampleNumber(n));
-            let found = put_namers(out, at, t, SampleNumber(n), k, x, s);
+    let mut at = 0;
+    for n in 0..total {
+        let sample = SampleNumber(n + 1);
+        if sample_tables::kept_count(t, sample) != 0 {
+            let k = delivery::track_of(t, sample);
+            let x = sample_tables::sample_bytes(b, t, sample);
+            let found = put_namers(out, at, t, sample, k, x, s);
             at += found * ENTRY_SIZE;
         }
     }
 }
 
-// A refusal at 0.
-fn refused(number: u8) -> Written
-    ensures { answer_of result ≡ refused number 0 }
-{
-    Written::Refused(Refusal {
-        number: number,
-        place: ByteOffset(0),
-    })
-}
-
 // The naming list of sample s: 30, 29, or the list over the start of the buffer.
-fn list_sample(b: &[u8], t: &mut [u64], s: SampleNumber, out: &mut [u8]) -> Written
+fn list_sample(b: &[u8], t: &mut [u64], s: SampleNumber, out: &mut [u8]) -> Result<usize, Refusal>
     requires { (length b.now ≤ bundle_most) × (table_most ≤ length t.old) }
     ensures { Wrote out.old out.new (answer_of result)
         (within (length out.old) (names (recording_in b.now t.old) s.0))
         × (t.new ≡ counts_for b.now t.old s.0) }
 {
-    let fault = judging::number_fault(sample_tables::sample_count(t), s.0);
-    if fault != 0 {
-        return refused(fault);
-    }
+    judging::check_number(sample_tables::sample_count(t), s.0)?;
     let count = count_all(b, t, s);
     let size = count * ENTRY_SIZE;
     if out.len() < size {
-        return refused(refusals::OUTPUT_TOO_LONG);
+        return Err(Refusal::at(Fault::OutputTooLong, 0));
     }
     put_list(out, b, t, s);
-    Written::Count(size)
+    Ok(size)
 }
 
 // The same by a bundle and any table beside it, in which the counts are kept. A bundle too long, or a table too short for any bundle, is refused
 // first.
-pub fn names_in(b: &[u8], t: &mut [u64], s: SampleNumber, out: &mut [u8]) -> Written
+pub fn names_in(b: &[u8], t: &mut [u64], s: SampleNumber, out: &mut [u8]) -> Result<usize, Refusal>
     ensures { Wrote out.old out.new (answer_of result) (names_in b.now t.old s.0 (length out.old))
         × (t.new ≡ table_in b.now t.old s.0) }
 {
     if bundles::BUNDLE_MOST < b.len() {
-        return refused(refusals::BUNDLE_TOO_LONG);
+        return Err(Refusal::at(Fault::BundleTooLong, 0));
     }
     if t.len() < tables::TABLE_SIZE {
-        return refused(refusals::BUNDLE_TOO_LONG);
+        return Err(Refusal::at(Fault::BundleTooLong, 0));
     }
     list_sample(b, t, s, out)
 }
 
 // The extractors that name sample s: 1 to 13, 30, 29; or the list over the start of the buffer, 6 bytes an extractor, and how many bytes
 // that is. After a refusal the buffer is as it was.
-pub fn names(b: &[u8], s: SampleNumber, out: &mut [u8]) -> Written
+pub fn names(b: &[u8], s: SampleNumber, out: &mut [u8]) -> Result<usize, Refusal>
     ensures { Wrote out.old out.new (answer_of result) (names_call first_layout b.now s.0 (length out.old)) }
 {
     let mut t = [0u64; tables::TABLE_SIZE];
-    let filled = filling::fill_table(b, &mut t);
-    match filled {
-        Filled::Refused(f) => Written::Refused(f),
-        Filled::Done => list_sample(b, &mut t, s, out),
-    }
+    filling::fill_table(b, &mut t)?;
+    list_sample(b, &mut t, s, out)
 }

@@ -9,7 +9,11 @@ use mathlib.Core.List.{List, [], ◌∷◌, ◌++◌, append_assoc, append-nil}
 use native.Mathlib.Omega.{arith}
 use native.Mathlib.Numerals.{sub-one}
 use native.Mathlib.Nat.{add-zero}
-use lib.ListN.{length, set}
+use lib.ListN.{length, take, drop, set}
+use lib.Seq.{drop-drop, get_or-drop}
+use Rattle.std.specs.List.{between}
+use Rattle.std.proofs.lemmas.Slice.{between_to_end}
+use borrow.Rule.Slice.PartMut.{put_mid}
 use Rattle.words.specs.Bytes.{byte_at, bytes, big}
 use Rattle.words.specs.Buffers.{write_at, put}
 use Rattle.words.proofs.Bytes.{bytes_length}
@@ -28,9 +32,13 @@ L_most One = omega arith
 L_most Two = omega arith
 L_most Four = omega arith
 
-pub big_4 : (s : List ℕ) (p : ℕ) → big s p 4 ≡ (byte_at s (p + 0) * 256 + byte_at s (p + 1)) * 65536 + (byte_at s (p + 2) * 256 + byte_at s (p + 3))
+pub big_4 :
+    (s r : List ℕ) (p : ℕ) → r ≡ between p (length s) s →
+    byte_at r 0 * 16777216 + byte_at r 1 * 65536 + byte_at r 2 * 256 + byte_at r 3 ≡ big s p 4
 unfolding big
-big_4 s p = omega arith
+big_4 s r p e =
+    let d : r ≡ drop p s = e ∙ between_to_end s p (length s) (omega arith) in
+    rw (d, get_or-drop p s 0 0, get_or-drop p s 1 0, get_or-drop p s 2 0, get_or-drop p s 3 0) (omega arith)
 
 -- v in n bytes over o from p on, written down to the place p + k, with r left of v
 pub record Back (o : List ℕ) (p n v k r : ℕ) (out : List ℕ) : Type 0 where
@@ -59,3 +67,11 @@ pub back_end : (o : List ℕ) (p n v k r : ℕ) (out : List ℕ) → k ≤ 0 →
 unfolding bytes
 back_end o p n v zero r out h l b = b.is ∙ rw (add-zero p, ← b.split) (sym (put_fits o p (bytes n v) (rw (bytes_length n v) l)))
 back_end o p n v (suc k) r out h l b = absurd (omega arith)
+
+-- a slice that was copied over the part from p on
+pub put_part :
+    (o : List ℕ) (p : ℕ) (s new : List ℕ) → new ≡ s → p + length s ≤ length o → put_mid p (p + length s - p) o new ≡ put o p s
+unfolding write_at
+put_part o p s new e h =
+    let n : p + length s - p ≡ length s = omega arith in
+    rw (put_fits o p s h, e, n, drop-drop (length s) p o) (sym (append_assoc (take p o) s (drop (p + length s) o)))

@@ -1,25 +1,20 @@
--- Whether a number is one of a list, found one element after the other. Assumes nothing.
+-- Whether a number is one of a list. Assumes nothing.
 --
---   has_here, has_next, has_none    the element at i is the number; it is not, and the search goes on; none is left
-use Prim.Native.Nat.{ℕ, ◌+◌, ◌<◌}
-use mathlib.Core.Path.{◌≡◌, refl, sym}
-use mathlib.Core.Bool.{true, false}
-use mathlib.Core.List.{List}
-use native.Mathlib.Numerals.{add-one}
-use borrow.Author.Tests.{eq-eqb, ne_eqb}
-use lib.ListN.{length, get_or, drop}
-use lib.Seq.{drop-cons, drop-length}
+--   contains_has    what `contains` answers
+use Prim.Native.Nat.{ℕ}
+use mathlib.Core.Path.{◌≡◌, refl, sym, ap₂}
+use mathlib.Core.Bool.{◌||◌}
+use mathlib.Core.List.{List, [], ◌∷◌}
+use Rattle.std.specs.List.{list_any}
+use Rattle.std.proofs.Math.Dec.{eqb}
+use Rattle.words.proofs.Tests.{bool_same}
+use borrow.Author.Tests.{eq-eqb, eqb-true}
 use Rattle.words.specs.Lists.{some, has}
 
-module _ (n : ℕ) (s : List ℕ) (i : ℕ) where
-  pub has_here : i < length s → get_or s i 0 ≡ n → has n (drop i s) ≡ true
-  unfolding some
-  has_here h e = rw (drop-cons s i 0 h, e, eq-eqb n n refl)
+pub eqb_swap : (a b : ℕ) → eqb a b ≡ eqb b a
+eqb_swap a b = bool_same (eqb a b) (eqb b a) (λ t. eq-eqb b a (sym (eqb-true a b t))) (λ t. eq-eqb a b (sym (eqb-true b a t)))
 
-  pub has_next : i < length s → (get_or s i 0 ≡ n → ⊥) → has n (drop i s) ≡ has n (drop (i + 1) s)
-  unfolding some
-  has_next h f = rw (drop-cons s i 0 h, ne_eqb n (get_or s i 0) (λ e. f (sym e)), add-one i)
-
-  pub has_none : i ≡ length s → has n (drop i s) ≡ false
-  unfolding some
-  has_none e = rw (e, drop-length s)
+pub contains_has : (n : ℕ) (s : List ℕ) → list_any (λ m. eqb m n) s ≡ has n s
+unfolding some
+contains_has n [] = refl
+contains_has n (m ∷ s) = ap₂ (λ x y. x || y) (eqb_swap m n) (contains_has n s)

@@ -1,9 +1,8 @@
 -- What the answer of a call that writes says: a refusal with its number and place, or how much was written.
-use Rattle.std.specs.Prelude.{ℕ}
+use Rattle.std.specs.Prelude.{ℕ, Err, Ok, Result}
 use Rattle.words.specs.Refusals.{Answer, refused, ok}
-use Rattle.numbers.specs.declared.Written.{Written}
-use Rattle.numbers.specs.declared.Written.TheVariants.{Refused, Count}
+use Rattle.numbers.specs.declared.Refusal.{Refusal}
 
-abbrev pub answer_of : Written → Answer ℕ
-answer_of (Refused r) = refused r.number r.place.0
-answer_of (Count n) = ok n
+abbrev pub answer_of : Result ℕ Refusal → Answer ℕ
+answer_of (Err r) = refused r.number r.place.0
+answer_of (Ok n) = ok n

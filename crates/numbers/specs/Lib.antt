@@ -4,3 +4,4 @@ pub mod Sizes
 pub mod Headers
 pub mod Places
 pub mod Answers
+pub mod Faults

@@ -8,17 +8,20 @@ ghost use Rattle.words.specs.Bytes.{byte_at, big, word_at, bytes};
 ghost use Rattle.words.specs.Buffers.{put};
 ghost use Rattle.numbers.specs.Sizes.{in_bytes, extractor_size, least_aggregator, length_size_of};
 ghost use Rattle.numbers.specs.Kinds.{kind_of};
+ghost use Rattle.numbers.specs.Faults.{refusal_at, refused_at};
+
+pub use refusals::Fault;
 
 // The number of a track, from 1.
 #[derive(Clone, Copy)]
 pub struct TrackNumber(pub usize);
 
 // The number of a sample, from 1.
-#[derive(Clone, Copy)]
+#[derive(Clone, Copy, Debug, PartialEq, Eq)]
 pub struct SampleNumber(pub usize);
 
 // An offset in bytes, from 0: a place.
-#[derive(Clone, Copy)]
+#[derive(Clone, Copy, Debug, PartialEq, Eq)]
 pub struct ByteOffset(pub usize);
 
 // The bytes of a place as it is written.
@@ -30,45 +33,51 @@ pub const FORBIDDEN_BIT: u8 = 128;
 pub const NAL_TYPES: u8 = 32;
 
 // A refusal: its number in document 01's table, and its place.
-#[derive(Clone, Copy)]
+#[derive(Clone, Copy, Debug, PartialEq, Eq)]
 pub struct Refusal {
     pub number: u8,
     pub place: ByteOffset,
 }
 
-// What a call that writes answers: a refusal, after which nothing is written, or how much it wrote.
-#[derive(Clone, Copy)]
-pub enum Written {
-    Refused(Refusal),
-    Count(usize),
+impl Refusal {
+    // A fault, at a place.
+    pub fn at(fault: Fault, place: usize) -> Refusal
+        ensures { result ≡ refusal_at fault place }
+    {
+        Refusal {
+            number: fault.number(),
+            place: ByteOffset(place),
+        }
+    }
+}
+
+// What a step answers, its fault at a place.
+pub fn at_place<T>(step: Result<T, Fault>, place: usize) -> Result<T, Refusal>
+    ensures { result ≡ refused_at place step }
+{
+    match step {
+        Ok(value) => Ok(value),
+        Err(fault) => Err(Refusal::at(fault, place)),
+    }
 }
 
 // The kind of a track.
-#[derive(Clone, Copy)]
+#[derive(Clone, Copy, Debug, PartialEq, Eq)]
 pub enum Kind {
     Avc,
     Svc,
 }
 
-// What a number says of a kind.
-#[derive(Clone, Copy)]
-pub enum MaybeKind {
-    Known(Kind),
-    Unknown,
-}
-
 impl Kind {
     // The kind of a number: 0 AVC, 1 SVC.
-    pub fn from_number(n: u32) -> MaybeKind
+    pub fn from_number(n: u32) -> Option<Kind>
         ensures { result ≡ kind_of n }
     {
-        if n == 0 {
-            return MaybeKind::Known(Kind::Avc);
+        match n {
+            0 => Some(Kind::Avc),
+            1 => Some(Kind::Svc),
+            _ => None,
         }
-        if n == 1 {
-            return MaybeKind::Known(Kind::Svc);
-        }
-        MaybeKind::Unknown
     }
 }
 
@@ -80,31 +89,20 @@ pub enum LengthSize {
     Four,
 }
 
-// What a number says of a length size.
-#[derive(Clone, Copy)]
-pub enum MaybeLengthSize {
-    Known(LengthSize),
-    Unknown,
-}
-
 impl LengthSize {
     // The size of the header of units of types 14, 20, 30 (aggregator) and 31 (extractor).
     pub const HEADER: usize = 4;
 
     // The length size of a number: 1, 2 or 4.
-    pub fn from_number(n: u32) -> MaybeLengthSize
+    pub fn from_number(n: u32) -> Option<LengthSize>
         ensures { result ≡ length_size_of n }
     {
-        if n == 1 {
-            return MaybeLengthSize::Known(LengthSize::One);
+        match n {
+            1 => Some(LengthSize::One),
+            2 => Some(LengthSize::Two),
+            4 => Some(LengthSize::Four),
+            _ => None,
         }
-        if n == 2 {
-            return MaybeLengthSize::Known(LengthSize::Two);
-        }
-        if n == 4 {
-            return MaybeLengthSize::Known(LengthSize::Four);
-        }
-        MaybeLengthSize::Unknown
     }
 
     pub fn bytes(self) -> usize
@@ -135,6 +133,7 @@ impl LengthSize {
     pub fn number(self, s: &[u8], at: usize) -> usize
         ensures { result ≡ big s.now at (in_bytes self) }
     {
+        // stays: one call at `self.bytes()` proves, and takes six times as long or more; with the width written out no loop is left
         match self {
             LengthSize::One => number(s, at, 1),
             LengthSize::Two => number(s, at, 2),
@@ -147,22 +146,14 @@ impl LengthSize {
 pub fn byte(s: &[u8], at: usize) -> u8
     ensures { result ≡ byte_at s.now at }
 {
-    if s.len() <= at {
-        return 0;
-    }
-    s[at]
+    s.get(at).copied().unwrap_or(0)
 }
 
 // The byte i bytes after a place, as a number; 0 past the end.
 fn byte_after(s: &[u8], at: usize, i: usize) -> usize
     ensures { (result ≡ byte_at s.now (at + i)) × (result < 256) }
 {
-    if at < s.len() {
-        if i < s.len() - at {
-            return s[at + i] as usize;
-        }
-    }
-    0
+    at.checked_add(i).map_or(0, |p| byte(s, p)) as usize
 }
 
 // The big-endian number of n bytes at a place; 0 for more than 8 bytes.
@@ -172,11 +163,9 @@ pub fn number(s: &[u8], at: usize, n: usize) -> usize
     if 8 < n {
         return 0;
     }
-    let mut v: usize = 0;
-    let mut i: usize = 0;
-    while i < n {
+    let mut v = 0;
+    for i in 0..n {
         v = v * 256 + byte_after(s, at, i);
-        i += 1;
     }
     v
 }
@@ -185,30 +174,18 @@ pub fn number(s: &[u8], at: usize, n: usize) -> usize
 fn number_of_4(s: &[u8], at: usize) -> usize
     ensures { result ≡ big s.now at 4 }
 {
-    if at < s.len() {
-        if 3 < s.len() - at {
-            let high = byte_after(s, at, 0) * 256 + byte_after(s, at, 1);
-            let low = byte_after(s, at, 2) * 256 + byte_after(s, at, 3);
-            return high * 65536 + low;
-        }
+    match s.get(at..) {
+        Some([a, b, c, d, ..]) => u32::from_be_bytes([*a, *b, *c, *d]) as usize,
+        _ => number(s, at, 4),
     }
-    number(s, at, 4)
 }
 
 // A slice over a buffer from a place on, if it fits there.
 pub fn put_bytes(out: &mut [u8], at: usize, s: &[u8])
     ensures { out.new ≡ put out.old at s.now }
 {
-    if out.len() < at {
-        return;
-    }
-    if out.len() - at < s.len() {
-        return;
-    }
-    let mut i: usize = 0;
-    while i < s.len() {
-        out[at + i] = s[i];
-        i += 1;
+    if at <= out.len() && s.len() <= out.len() - at {
+        out[at..at + s.len()].copy_from_slice(s);
     }
 }
 
@@ -216,17 +193,11 @@ pub fn put_bytes(out: &mut [u8], at: usize, s: &[u8])
 pub fn put_number(out: &mut [u8], at: usize, n: usize, v: usize)
     ensures { out.new ≡ put out.old at (bytes n v) }
 {
-    if out.len() < at {
-        return;
-    }
-    if out.len() - at < n {
-        return;
-    }
-    let mut left = n;
-    let mut rest = v;
-    while 0 < left {
-        left -= 1;
-        out[at + left] = (rest % 256) as u8;
-        rest = rest / 256;
+    if at <= out.len() && n <= out.len() - at {
+        let mut rest = v;
+        for i in (0..n).rev() {
+            out[at + i] = (rest % 256) as u8;
+            rest /= 256;
+        }
     }
 }

@@ -2,20 +2,20 @@
 --
 --   Read s n i                  n is the number of the digits before i, and the answer for s follows from it and what stands from i on
 --   read_start, read_digit      nothing is read; one digit more
---   read_low, read_high         a byte that is no digit
+--   read_other                  a byte that is no digit
 --   read_nothing, read_end      there is no digit; all is read
+use Rattle.std.specs.Prelude.{None, Some}
 use Prim.Native.Nat.{ℕ, ◌+◌, ◌≤◌, ◌<◌}
 use mathlib.Core.Path.{◌≡◌, refl, ◌∙◌}
 use mathlib.Core.Bool.{true, false, not}
 use mathlib.Core.List.{List}
 use native.Mathlib.Omega.{arith}
 use native.Mathlib.Numerals.{add-one}
-use borrow.Author.Tests.{le-leb, lt-leb, eq-eqb, ne_eqb}
+use borrow.Author.Tests.{le-leb, eq-eqb, ne_eqb}
 use lib.ListN.{length, get_or, drop}
 use lib.Seq.{drop-cons, drop-length}
 use Rattle.words.specs.Lists.{some}
 use Rattle.program_input.specs.Decimal.{is_digit, with_digit, number_from, number_in}
-use Rattle.program_input.specs.declared.decimal.MaybeNumber.TheVariants.{Number, Nothing}
 
 pub record Read (s : List ℕ) (n i : ℕ) : Type 0 where
   pub inside : i ≤ length s
@@ -34,23 +34,15 @@ module _ (s : List ℕ) (n i : ℕ) (w : Read s n i) (h : i < length s) where
     number = w.number ∙ rw (drop-cons s i 0 h, add-one i);
   }
 
-  low : get_or s i 0 < 48 → some (λ c. not (is_digit c)) s ≡ true
+  other : is_digit (get_or s i 0) ≡ false → some (λ c. not (is_digit c)) s ≡ true
   unfolding some
-  low l = w.others ∙ rw (drop-cons s i 0 h, lt-leb 48 (get_or s i 0) l)
+  other e = w.others ∙ rw (drop-cons s i 0 h, e)
 
-  pub read_low : get_or s i 0 < 48 → number_in s ≡ Nothing
+  pub read_other : is_digit (get_or s i 0) ≡ false → number_in s ≡ None
   unfolding number_in
-  read_low l = rw (ne_eqb (length s) 0 (λ e. absurd (omega arith)), low l)
+  read_other e = rw (ne_eqb (length s) 0 (λ z. absurd (omega arith)), other e)
 
-  high : 57 < get_or s i 0 → some (λ c. not (is_digit c)) s ≡ true
-  unfolding some
-  high l = w.others ∙ rw (drop-cons s i 0 h, le-leb 48 (get_or s i 0) (omega arith), lt-leb (get_or s i 0) 57 l)
-
-  pub read_high : 57 < get_or s i 0 → number_in s ≡ Nothing
-  unfolding number_in
-  read_high l = rw (ne_eqb (length s) 0 (λ e. absurd (omega arith)), high l)
-
-pub read_nothing : (s : List ℕ) → length s ≡ 0 → number_in s ≡ Nothing
+pub read_nothing : (s : List ℕ) → length s ≡ 0 → number_in s ≡ None
 unfolding number_in
 read_nothing s e = rw (eq-eqb (length s) 0 e)
 
@@ -63,6 +55,6 @@ module _ (s : List ℕ) (n i : ℕ) (w : Read s n i) (e : i ≡ length s) where
   unfolding number_from
   all = w.number ∙ rw (e, drop-length s)
 
-  pub read_end : (length s ≡ 0 → ⊥) → number_in s ≡ Number n
+  pub read_end : (length s ≡ 0 → ⊥) → number_in s ≡ Some n
   unfolding number_in
   read_end f = rw (ne_eqb (length s) 0 f, none, all)

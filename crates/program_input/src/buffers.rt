@@ -6,8 +6,5 @@ ghost use Rattle.program_input.specs.Input.{front};
 pub fn first(s: &[u8], n: usize) -> &[u8]
     ensures { result.now ≡ front s.now n }
 {
-    if s.len() < n {
-        return s;
-    }
-    &s[0..n]
+    &s[..n.min(s.len())]
 }

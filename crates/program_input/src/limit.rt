@@ -13,10 +13,7 @@ pub const MOST: usize = 65536;
 pub fn too_big(n: usize, more: usize) -> bool
     ensures { result ≡ too_big n more }
 {
-    if n < MOST {
-        return false;
-    }
-    0 < more
+    MOST <= n && 0 < more
 }
 
 // Whether the reader's input, of which n bytes were read, has more than the programs take. It has not where n is smaller, and no read is
@@ -27,10 +24,10 @@ pub fn is_too_big<R: Read>(reader: &mut R, n: usize) -> io::Result<bool>
     ensures unread { n < input_most → reader.new ≡ reader.old }
     ensures known { IfSome (R.remaining reader.old) (λ s. IfOk result (λ r. r ≡ too_big n (length s))) }
 {
-    let mut more: usize = 0;
-    if MOST <= n {
-        let mut next = [0u8; 1];
-        more = filled::read_full(reader, &mut next)?;
-    }
+    let more = if MOST <= n {
+        filled::read_full(reader, &mut [0; 1])?
+    } else {
+        0
+    };
     Ok(too_big(n, more))
 }

@@ -5,6 +5,7 @@
 --                                                                             refusal number is that of the fault
 --   tracks_section, references_section, samples_section                       the sections one to three
 --   bundle_by, by_bundle                                                      the bundle is refused exactly as BundleRefused says
+use Rattle.std.specs.Prelude.{None, Option, Some}
 use Prim.Native.Nat.{ℕ, ◌+◌, ◌-◌, ◌≤◌, ◌<◌}
 use mathlib.Core.Path.{◌≡◌, refl, sym, ◌∙◌, subst}
 use mathlib.Core.Bool.{Bool, ◌&&◌, not}
@@ -23,8 +24,6 @@ use Rattle.words.proofs.Tests.{by_bool}
 use Rattle.words.proofs.Refusals.{if_none, at_ok, at_from, NoneOr, none_or_if, none_or_or_else, none_or_pick, none_or_some, ok_refused, refused_same, refused_along}
 use Rattle.words.proofs.Lists.{upto_from}
 use Rattle.numbers.specs.Kinds.{kind_of}
-use Rattle.numbers.specs.declared.MaybeKind.{MaybeKind}
-use Rattle.numbers.specs.declared.MaybeKind.TheVariants.{Known, Unknown}
 use Rattle.record_rules.specs.Read.{record_fault, read_record}
 use Rattle.bundles.specs.Limits.{bundle_most, track_most, reference_most, sample_most, count_fault}
 use Rattle.bundles.specs.Recordings.{Entry}
@@ -41,18 +40,19 @@ use Rattle.promise_rules.proofs.RecordLaws.{refused_known, known_refused}
 use Rattle.promise_rules.proofs.ReadLaws.{read_refused}
 use Rattle.promise_rules.proofs.CallLaws.{part_bytes_lem}
 use Rattle.promise_rules.proofs.BundleLaws.{count_at, track_at_lem, reference_at, entry_rules, count_none, track_none, reference_none, entry_none, tracks_of, of_tracks, references_of, of_references, samples_of, of_samples, bytes_none, none_bytes, bytes_are}
+use Rattle.numbers.specs.declared.Kind.{Kind}
 
 -- a record in a bundle: 4, 8 to 13
 module _ (kind : ℕ) (s : List ℕ) (g : Bytes s) where
-  read_some : (k : MaybeKind) → kind_of kind ≡ k → 0 < record_fault_as k s → ReadRefused kind s (record_fault_as k s) 0
+  read_some : (k : Option Kind) → kind_of kind ≡ k → 0 < record_fault_as k s → ReadRefused kind s (record_fault_as k s) 0
   unfolding read_record
-  read_some (Known k) q h = (read_refused kind s g (record_fault k s) 0).0 (known_refused kind k s q refl h)
-  read_some Unknown q h = (read_refused kind s g 4 0).0 (rw q)
+  read_some (Some k) q h = (read_refused kind s g (record_fault k s) 0).0 (known_refused kind k s q refl h)
+  read_some None q h = (read_refused kind s g 4 0).0 (rw q)
 
-  read_is : (k : MaybeKind) → kind_of kind ≡ k → {m : ℕ} → ReadRefused kind s m 0 → (record_fault_as k s ≡ m) × (0 < m)
+  read_is : (k : Option Kind) → kind_of kind ≡ k → {m : ℕ} → ReadRefused kind s m 0 → (record_fault_as k s ≡ m) × (0 < m)
   unfolding read_record
-  read_is (Known k) q {m} w = let i = refused_known kind k s q ((read_refused kind s g m 0).1 w) in (i.0, i.1)
-  read_is Unknown q {m} w = let i = (refused_same (rw q at ((read_refused kind s g m 0).1 w))).0 in (i, omega arith)
+  read_is (Some k) q {m} w = let i = refused_known kind k s q ((read_refused kind s g m 0).1 w) in (i.0, i.1)
+  read_is None q {m} w = let i = (refused_same (rw q at ((read_refused kind s g m 0).1 w))).0 in (i, omega arith)
 
 module _ (b : List ℕ) where
   -- what gives 2 where it is cut, and else n or nothing

@@ -1,4 +1,5 @@
 -- The proofs of what Demands says of bundles. Assumes nothing.
+use Rattle.std.specs.Prelude.{None, Option, Some}
 use Prim.Native.Nat.{ℕ, ◌+◌, ◌-◌, ◌≤◌, ◌<◌}
 use mathlib.Core.Path.{◌≡◌, refl, ap, sym, ◌∙◌, subst}
 use mathlib.Core.Bool.{false}
@@ -20,8 +21,6 @@ use Rattle.words.proofs.Entries.{entries_length}
 use Rattle.numbers.specs.Sizes.{in_bytes, length_size_of}
 use Rattle.numbers.specs.declared.Kind.TheVariants.{Avc, Svc}
 use Rattle.numbers.specs.Kinds.{kind_of}
-use Rattle.numbers.specs.declared.MaybeKind.{MaybeKind}
-use Rattle.numbers.specs.declared.MaybeKind.TheVariants.{Known, Unknown}
 use Rattle.record_rules.specs.Read.{length_size, record_of, read_record}
 use Rattle.record_rules.specs.Answers.{part_bytes}
 use Rattle.record_rules.specs.declared.Fields.{Fields}
@@ -41,6 +40,7 @@ use Rattle.promise_rules.proofs.RecordLaws.{accepted_known, known_accepted, acce
 use Rattle.record_rules.proofs.Answers.{read_unknown}
 use Rattle.promise_rules.specs.Bundles.{two, three, four, entry, track_places, reference_places, total, CountAt, TrackAt, TrackSize, ReferenceAt, EntryAt, TracksOf, ReferencesOf, SamplesOf, BytesOf, BundleOf, TrackMeans, Means}
 use Rattle.promise_rules.proofs.CallLaws.{part_bytes_lem}
+use Rattle.numbers.specs.declared.Kind.{Kind}
 
 -- a record in a bundle
 record Read (kind : ℕ) (s : List ℕ) : Type 0 where
@@ -50,20 +50,20 @@ record Read (kind : ℕ) (s : List ℕ) : Type 0 where
   pub extensions : List ℕ
   pub valid : RecordOf fields sequences pictures extensions kind s
 
-unknown_read : (kind : ℕ) (s : List ℕ) {r : Record} → kind_of kind ≡ Unknown → read_record kind s ≡ ok r → record_fault_as Unknown s ≡ 0
+unknown_read : (kind : ℕ) (s : List ℕ) {r : Record} → kind_of kind ≡ None → read_record kind s ≡ ok r → record_fault_as None s ≡ 0
 unknown_read kind s q e = ok_refused (sym (read_unknown kind s q) ∙ e)
 
-read_of : (kind : ℕ) (s : List ℕ) → Bytes s → (m : MaybeKind) → kind_of kind ≡ m → record_fault_as m s ≡ 0 → Read kind s
-read_of kind s g (Known k) q e =
+read_of : (kind : ℕ) (s : List ℕ) → Bytes s → (m : Option Kind) → kind_of kind ≡ m → record_fault_as m s ≡ 0 → Read kind s
+read_of kind s g (Some k) q e =
     let r = record_of k s in
     let h : Holds kind s r.fields (part_bytes s r.sequences) (part_bytes s r.pictures) (part_bytes s r.extensions) =
     record { found = r; read = known_accepted kind k s q e; fields = refl; sequences = refl; pictures = refl; extensions = refl } in
     record { fields = r.fields; sequences = _; pictures = _; extensions = _; valid = (accepted_exactly r.fields _ _ _ kind s g).0 h }
-read_of kind s g Unknown q e = absurd (omega arith)
+read_of kind s g None q e = absurd (omega arith)
 
-of_read : (kind : ℕ) (s : List ℕ) → Bytes s → (m : MaybeKind) → kind_of kind ≡ m → Read kind s → record_fault_as m s ≡ 0
-of_read kind s g (Known k) q w = (accepted_known kind k s q ((accepted_exactly w.fields _ _ _ kind s g).1 w.valid).read).0
-of_read kind s g Unknown q w = unknown_read kind s q ((accepted_exactly w.fields _ _ _ kind s g).1 w.valid).read
+of_read : (kind : ℕ) (s : List ℕ) → Bytes s → (m : Option Kind) → kind_of kind ≡ m → Read kind s → record_fault_as m s ≡ 0
+of_read kind s g (Some k) q w = (accepted_known kind k s q ((accepted_exactly w.fields _ _ _ kind s g).1 w.valid).read).0
+of_read kind s g None q w = unknown_read kind s q ((accepted_exactly w.fields _ _ _ kind s g).1 w.valid).read
 
 module _ (b : List ℕ) where
   -- the rules, from the definition
@@ -96,14 +96,14 @@ module _ (b : List ℕ) where
   stated (RecordOf.avc rest h x l q e) = h.length_size
   stated (RecordOf.svc bit h x l q e n) = h.length_size
 
-  size_stated : (kind : ℕ) (s : List ℕ) → Bytes s → (m : MaybeKind) → kind_of kind ≡ m → (f : Fields) (a c x : List ℕ) → RecordOf f a c x kind s →
+  size_stated : (kind : ℕ) (s : List ℕ) → Bytes s → (m : Option Kind) → kind_of kind ≡ m → (f : Fields) (a c x : List ℕ) → RecordOf f a c x kind s →
       length_size (known_kind m) s ≡ f.length_size
-  size_stated kind s g (Known k) q f a c x w =
+  size_stated kind s g (Some k) q f a c x w =
       let h = (accepted_exactly f a c x kind s g).1 w in
       ap (λ (r : Record). r.fields.length_size) (accepted_known kind k s q h.read).1 ∙ ap (λ (r : Fields). r.length_size) h.fields
-  size_stated kind s g Unknown q f a c x w =
+  size_stated kind s g None q f a c x w =
       let h = (accepted_exactly f a c x kind s g).1 w in
-      let z : record_fault_as Unknown s ≡ 0 = unknown_read kind s q h.read in absurd (omega arith)
+      let z : record_fault_as None s ≡ 0 = unknown_read kind s q h.read in absurd (omega arith)
 
   kind_stated : {kind : ℕ} {s : List ℕ} → Read kind s → ((kind ≡ 0) × (known_kind (kind_of kind) ≡ Avc)) ⊎ ((kind ≡ 1) × (known_kind (kind_of kind) ≡ Svc))
   kind_stated w = go w.valid

@@ -1,4 +1,5 @@
 -- The proofs of what Demands says of a sample checked outside a bundle. Assumes nothing.
+use Rattle.std.specs.Prelude.{None, Some}
 use Prim.Native.Nat.{ℕ}
 use mathlib.Core.Path.{◌≡◌, refl, sym, ◌∙◌}
 use mathlib.Core.List.Memᴰ
@@ -16,8 +17,6 @@ use Rattle.numbers.specs.declared.Kind.{Kind}
 use Rattle.numbers.specs.declared.Kind.TheVariants.{Avc, Svc}
 use Rattle.numbers.specs.declared.LengthSize.{LengthSize}
 use Rattle.numbers.specs.declared.LengthSize.TheVariants.{One, Two, Four}
-use Rattle.numbers.specs.declared.MaybeKind.TheVariants as kinds
-use Rattle.numbers.specs.declared.MaybeLengthSize.TheVariants as sizes
 use Rattle.units.specs.Units.{Sample}
 use Rattle.samples.specs.Check.{check, check_alone}
 use Rattle.promise_rules.specs.Samples.{Formed, Given}
@@ -28,11 +27,11 @@ use Rattle.promise_rules.proofs.SampleFaultLaws.{form_refused, by_form}
 abbrev pub IsKind : ℕ → Kind → Type 0
 IsKind kind k = ((kind ≡ 0) × (k ≡ Avc)) ⊎ ((kind ≡ 1) × (k ≡ Svc))
 
-pub kind_known : (kind : ℕ) (k : Kind) → IsKind kind k → kind_of kind ≡ kinds.Known k
+pub kind_known : (kind : ℕ) (k : Kind) → IsKind kind k → kind_of kind ≡ Some k
 kind_known kind k (inl w) = rw (w.0, w.1)
 kind_known kind k (inr w) = rw (w.0, w.1)
 
-pub kind_unknown : (kind : ℕ) → (kind ≡ 0 → ⊥) → (kind ≡ 1 → ⊥) → kind_of kind ≡ kinds.Unknown
+pub kind_unknown : (kind : ℕ) → (kind ≡ 0 → ⊥) → (kind ≡ 1 → ⊥) → kind_of kind ≡ None
 kind_unknown kind a b = rw (ne_eqb kind 0 a, ne_eqb kind 1 b)
 
 pub by_kind : {G : Type 0} (kind : ℕ) → ((k : Kind) → IsKind kind k → G) → ((kind ≡ 0 → ⊥) → (kind ≡ 1 → ⊥) → G) → G
@@ -42,12 +41,12 @@ by_kind kind f g = by_bool (kind ≡? 0)
     (λ u. f Svc (inr (eqb-true _ _ u, refl)))
     (λ u. g (eqb-false _ _ t) (eqb-false _ _ u)))
 
-pub size_known : (z : LengthSize) → length_size_of (in_bytes z) ≡ sizes.Known z
+pub size_known : (z : LengthSize) → length_size_of (in_bytes z) ≡ Some z
 size_known One = refl
 size_known Two = refl
 size_known Four = refl
 
-pub by_size : {G : Type 0} (l : ℕ) → ((z : LengthSize) → in_bytes z ≡ l → G) → ((l ∈ (1 ∷ 2 ∷ 4 ∷ []) → ⊥) → length_size_of l ≡ sizes.Unknown → G) → G
+pub by_size : {G : Type 0} (l : ℕ) → ((z : LengthSize) → in_bytes z ≡ l → G) → ((l ∈ (1 ∷ 2 ∷ 4 ∷ []) → ⊥) → length_size_of l ≡ None → G) → G
 by_size l f g = by_bool (l ≡? 1)
     (λ t. f One (sym (eqb-true _ _ t)))
     (λ t. by_bool (l ≡? 2)
@@ -58,7 +57,7 @@ by_size l f g = by_bool (l ≡? 1)
     (λ m. ⊎_elim (eqb-false _ _ t) (λ n. ⊎_elim (eqb-false _ _ u) (λ k. ⊎_elim (eqb-false _ _ v) (λ j. absurd (Memᴰ.not-nil j)) (Memᴰ.cases_cons k)) (Memᴰ.cases_cons n)) (Memᴰ.cases_cons m))
     (rw (t, u, v)))))
 
-pub size_none : (l : ℕ) → (l ∈ (1 ∷ 2 ∷ 4 ∷ []) → ⊥) → length_size_of l ≡ sizes.Unknown
+pub size_none : (l : ℕ) → (l ∈ (1 ∷ 2 ∷ 4 ∷ []) → ⊥) → length_size_of l ≡ None
 size_none l h = by_bool (l ≡? 1)
     (λ t. absurd (h (Memᴰ.head (eqb-true _ _ t))))
     (λ t. by_bool (l ≡? 2)

@@ -5,6 +5,7 @@
 --   byte_judged, set_judged, sets_judged, head_judged, end_judged, bytes_judged  the parts of a record
 --   good_to, to_good                                                             good up to the end of the picture sets
 --   read_refused                                                                 the call
+use Rattle.std.specs.Prelude.{Some}
 use Prim.Native.Nat.{ℕ, zero, suc, ◌+◌, ◌%◌, ◌≤◌, ◌<◌}
 use mathlib.Core.Path.{◌≡◌, refl, sym, ◌∙◌, subst}
 use mathlib.Core.Bool.{Bool, true, false, not}
@@ -24,7 +25,6 @@ use Rattle.words.proofs.Refusals.{refused_along}
 use Rattle.numbers.specs.Kinds.{kind_of}
 use Rattle.numbers.specs.declared.Kind.{Kind}
 use Rattle.numbers.specs.declared.Kind.TheVariants.{Avc, Svc}
-use Rattle.numbers.specs.declared.MaybeKind.TheVariants.{Known}
 use Rattle.sets.specs.Sets.{one_of, set_fault, sets_fault, sets_end}
 use Rattle.sets.specs.declared.SetTypes.{SetTypes}
 use Rattle.record_rules.specs.Layout.{record_layout, fixed_in, picture_types, byte_fault}
@@ -481,12 +481,12 @@ module _ (k : Kind) (s : List ℕ) (bytes : Bytes s) where
 
 -- the call
 module _ (kind : ℕ) (s : List ℕ) (bytes : Bytes s) where
-  refused_as : (k : Kind) {n p : ℕ} → kind_of kind ≡ Known k → read_record kind s ≡ refused n p → BytesRefused k s n × (p ≡ 0)
+  refused_as : (k : Kind) {n p : ℕ} → kind_of kind ≡ Some k → read_record kind s ≡ refused n p → BytesRefused k s n × (p ≡ 0)
   refused_as k is e =
       let w = refused_known kind k s is e in
       (subst (BytesRefused k s) w.0 ((bytes_judged k s bytes).because (omega (arith, w.0, w.1))), w.2)
 
-  as_refused : (k : Kind) {n : ℕ} → kind_of kind ≡ Known k → BytesRefused k s n → read_record kind s ≡ refused n 0
+  as_refused : (k : Kind) {n : ℕ} → kind_of kind ≡ Some k → BytesRefused k s n → read_record kind s ≡ refused n 0
   as_refused k {n} is r = let w = (bytes_judged k s bytes).refuses n r in known_refused kind k s is w.0 w.1
 
   because : (n p : ℕ) → read_record kind s ≡ refused n p → ReadRefused kind s n p

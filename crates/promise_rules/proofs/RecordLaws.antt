@@ -8,6 +8,7 @@
 --   write_refused_exactly                                                    when writing is refused
 --   accepted_known, known_accepted, read_none, refused_known, known_refused  the answer of reading, by the first refusal of the bytes
 --   read_number                                                              with which numbers
+use Rattle.std.specs.Prelude.{Some}
 use Prim.Native.Nat.{ℕ, zero, suc, ◌+◌, ◌-◌, ◌*◌, ◌≤◌, ◌<◌}
 use mathlib.Core.Path.{◌≡◌, refl, sym, ◌∙◌, subst}
 use mathlib.Core.Bool.{true, false, not}
@@ -29,7 +30,6 @@ use Rattle.words.proofs.Buffers.{within_room, within_not}
 use Rattle.numbers.specs.Kinds.{kind_of}
 use Rattle.numbers.specs.declared.Kind.{Kind}
 use Rattle.numbers.specs.declared.Kind.TheVariants.{Avc, Svc}
-use Rattle.numbers.specs.declared.MaybeKind.TheVariants.{Known}
 use Rattle.sets.specs.Sets.{one_of, set_fault, sets_fault, sets_end, sets_fit}
 use Rattle.sets.specs.declared.SetTypes.{SetTypes}
 use Rattle.sets.proofs.Laws.{whole, no_fault, fit_sets, fit_true}
@@ -327,16 +327,16 @@ module _ (f : Fields) (a b x : List ℕ) where
       }
 
 -- what is read
-pub accepted_known : (kind : ℕ) (k : Kind) (s : List ℕ) {r : Record} → kind_of kind ≡ Known k → read_record kind s ≡ ok r → (record_fault k s ≡ 0) × (record_of k s ≡ r)
+pub accepted_known : (kind : ℕ) (k : Kind) (s : List ℕ) {r : Record} → kind_of kind ≡ Some k → read_record kind s ≡ ok r → (record_fault k s ≡ 0) × (record_of k s ≡ r)
 accepted_known kind k s q e = let w = accepted_as k s (sym (answers.read_known kind k s q) ∙ e) in (w.0, sym w.1)
 
-pub known_accepted : (kind : ℕ) (k : Kind) (s : List ℕ) → kind_of kind ≡ Known k → record_fault k s ≡ 0 → read_record kind s ≡ ok (record_of k s)
+pub known_accepted : (kind : ℕ) (k : Kind) (s : List ℕ) → kind_of kind ≡ Some k → record_fault k s ≡ 0 → read_record kind s ≡ ok (record_of k s)
 known_accepted kind k s q e = answers.read_known kind k s q ∙ good_read k s e
 
 -- of a kind's number
 pub record Fitted (kind : ℕ) (f : Fields) (a b x s : List ℕ) : Type 0 where
   pub known : Kind
-  pub is : kind_of kind ≡ Known known
+  pub is : kind_of kind ≡ Some known
   pub fits : fits known f a b x ≡ true
   pub bytes : record_bytes known f a b x ≡ s
 
@@ -411,7 +411,7 @@ module _ (f : Fields) (a b x : List ℕ) where
   )
 
   -- a known kind: fields that fit are written, else 31
-  module _ (kind : ℕ) (k : Kind) (is : kind_of kind ≡ Known k) (valid : fits k f a b x ≡ true → RecordOf f a b x kind (record_bytes k f a b x)) where
+  module _ (kind : ℕ) (k : Kind) (is : kind_of kind ≡ Some k) (valid : fits k f a b x ≡ true → RecordOf f a b x kind (record_bytes k f a b x)) where
     misfit : fits k f a b x ≡ false → (room : ℕ) → write_record kind f a b x room ≡ refused 31 0
     unfolding write_record
     misfit t room = rw (is, write_misfit k f a b x t)
@@ -461,13 +461,13 @@ pub read_none : (kind : ℕ) (s : List ℕ) → (kind ≡ 0 → ⊥) → (kind �
 unfolding read_record
 read_none kind s g h = rw (ne_eqb kind 0 g, ne_eqb kind 1 h)
 
-pub refused_known : (kind : ℕ) (k : Kind) (s : List ℕ) {n p : ℕ} → kind_of kind ≡ Known k → read_record kind s ≡ refused n p → (record_fault k s ≡ n) × (0 < n) × (p ≡ 0)
+pub refused_known : (kind : ℕ) (k : Kind) (s : List ℕ) {n p : ℕ} → kind_of kind ≡ Some k → read_record kind s ≡ refused n p → (record_fault k s ≡ n) × (0 < n) × (p ≡ 0)
 refused_known kind k s {n} {p} is e = refused_as k s (sym (answers.read_known kind k s is) ∙ e)
 
-pub known_refused : (kind : ℕ) (k : Kind) (s : List ℕ) {n : ℕ} → kind_of kind ≡ Known k → record_fault k s ≡ n → 0 < n → read_record kind s ≡ refused n 0
+pub known_refused : (kind : ℕ) (k : Kind) (s : List ℕ) {n : ℕ} → kind_of kind ≡ Some k → record_fault k s ≡ n → 0 < n → read_record kind s ≡ refused n 0
 known_refused kind k s {n} is e l = answers.read_known kind k s is ∙ fault_read k s e l
 
-of_record : (kind : ℕ) (k : Kind) (s : List ℕ) {n p : ℕ} → kind_of kind ≡ Known k → read_record kind s ≡ refused n p → n ∈ record_refusals
+of_record : (kind : ℕ) (k : Kind) (s : List ℕ) {n p : ℕ} → kind_of kind ≡ Some k → read_record kind s ≡ refused n p → n ∈ record_refusals
 of_record kind k s is e =
     let w = refused_known kind k s is e in
     subst (λ (y : ℕ). y ∈ record_refusals) w.0 (none_or_some record_refusals (record_refusal k s) (omega (arith, w.0, w.1)))

@@ -1,4 +1,5 @@
 -- The proofs of what Demands says of the C functions. Assumes nothing.
+use Rattle.std.specs.Prelude.{None, Option, Some}
 use Prim.Native.Nat.{ℕ, suc, ◌≤◌}
 use mathlib.Core.Path.{◌≡◌, refl, sym, ◌∙◌, subst}
 use mathlib.Core.Bool.{true}
@@ -18,8 +19,6 @@ use Rattle.words.proofs.Refusals.{ok_refused, refused_same, NoneOr, none_or_if, 
 use Rattle.words.proofs.Lists.{has_from}
 use Rattle.numbers.specs.Kinds.{number_of_kind, kind_of}
 use Rattle.numbers.specs.declared.Kind.{Kind}
-use Rattle.numbers.specs.declared.MaybeKind.{MaybeKind}
-use Rattle.numbers.specs.declared.MaybeKind.TheVariants.{Known, Unknown}
 use Rattle.record_rules.specs.Read.{read_record}
 use Rattle.record_rules.specs.declared.Record.{Record}
 use Rattle.record_numbers.specs.Numbers.{numbers_of, as_numbers, read_numbers, ◌at◌, flag_most, numbers_fault, fields_from, write_numbers_as, write_numbers}
@@ -190,22 +189,22 @@ fault_31 k ns = none_or_or_else (31 ∷ []) _ _ (none_or_if (31 ∷ []) fields_f
     (none_or_or_else (31 ∷ []) _ _ (none_or_if (31 ∷ []) fields_fit_no_record (flag_most k <? ns at complete_representation) (has_from _ _ refl))
     (none_or_if (31 ∷ []) fields_fit_no_record (trailer_present <? ns at trailer) (has_from _ _ refl)))
 
-pub write_fault : (kind : ℕ) (k : Kind) (ns a c x : List ℕ) (room n : ℕ) → kind_of kind ≡ Known k → numbers_fault k ns ≡ suc n → write_numbers kind ns a c x room ≡ refused (suc n) 0
+pub write_fault : (kind : ℕ) (k : Kind) (ns a c x : List ℕ) (room n : ℕ) → kind_of kind ≡ Some k → numbers_fault k ns ≡ suc n → write_numbers kind ns a c x room ≡ refused (suc n) 0
 unfolding write_numbers write_numbers_as
 write_fault kind k ns a c x room n q e = rw (q, e)
 
-pub write_unknown : (kind : ℕ) (ns a c x : List ℕ) (room : ℕ) → kind_of kind ≡ Unknown → write_numbers kind ns a c x room ≡ refused 4 0
+pub write_unknown : (kind : ℕ) (ns a c x : List ℕ) (room : ℕ) → kind_of kind ≡ None → write_numbers kind ns a c x room ≡ refused 4 0
 unfolding write_numbers
 write_unknown kind ns a c x room q = rw q
 
-write_by : (kind : ℕ) (ns a c x : List ℕ) (room : ℕ) (k : MaybeKind) → kind_of kind ≡ k → {m p : ℕ} → write_numbers kind ns a c x room ≡ refused m p → m ∈ refusal_numbers
+write_by : (kind : ℕ) (ns a c x : List ℕ) (room : ℕ) (k : Option Kind) → kind_of kind ≡ k → {m p : ℕ} → write_numbers kind ns a c x room ≡ refused m p → m ∈ refusal_numbers
 unfolding some
-write_by kind ns a c x room (Known k) q {m} {p} e = by_number (numbers_fault k ns)
+write_by kind ns a c x room (Some k) q {m} {p} e = by_number (numbers_fault k ns)
     (λ z. write_number ((records.write_refused_exactly (fields_from k ns) a c x kind room m p).0 (sym (numbered.write_known kind k ns a c x room q z) ∙ e)))
     (λ n z.
     let w : suc n ∈ (31 ∷ []) = subst (λ (j : ℕ). j ∈ (31 ∷ [])) z (none_or_some (31 ∷ []) (fault_31 k ns) (omega arith)) in
     subst (λ (j : ℕ). j ∈ refusal_numbers) (refused_same (sym (write_fault kind k ns a c x room n q z) ∙ e)).0 (subst (λ (j : ℕ). j ∈ refusal_numbers) (sym (Memᴰ.eq_of_singleton w)) (in_table 31 refl)))
-write_by kind ns a c x room Unknown q {m} {p} e = subst (λ (j : ℕ). j ∈ refusal_numbers) (refused_same (sym (write_unknown kind ns a c x room q) ∙ e)).0 (in_table 4 refl)
+write_by kind ns a c x room None q {m} {p} e = subst (λ (j : ℕ). j ∈ refusal_numbers) (refused_same (sym (write_unknown kind ns a c x room q) ∙ e)).0 (in_table 4 refl)
 
 output_number : (o : List ℕ) {a : Answer (List ℕ)} → OutputAnswer o a → (m p : ℕ) → a ≡ refused m p → m ∈ refusal_numbers
 output_number o (OutputAnswer.write kind ns a c x) m p e = write_by kind ns a c x (length o) (kind_of kind) refl e

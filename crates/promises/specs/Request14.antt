@@ -20,7 +20,7 @@
 -- `tally_counts`, and what refuses a sample), Contents and Request01 to Request05. How long a call takes is measured, and no
 -- theorem shuts out a slow program: what is said here is what the code goes by, that a state is less than a block of steps from
 -- the mark before it (`few_steps`), and that by two states an extractor is answered, whatever the sample named holds.
-use Rattle.std.specs.Prelude.{ℕ, ◌+◌, ◌*◌, ◌/◌, ◌%◌, ◌≤◌, ◌<◌, ◌≡◌, refl, List, [], ◌∷◌, map, ◌↔◌, length}
+use Rattle.std.specs.Prelude.{ℕ, ◌+◌, ◌*◌, ◌/◌, ◌%◌, ◌≤◌, ◌<◌, ◌≡◌, refl, List, [], ◌∷◌, map, ◌↔◌, length, Err, Ok, Result}
 use Rattle.words.specs.Tests.{◌<?◌}
 use Rattle.words.specs.Refusals.{refused, ok}
 use Rattle.words.specs.Lists.{keep, sum}
@@ -36,8 +36,6 @@ use Rattle.bundles.specs.Limits.{bundle_most}
 use Rattle.bundles.specs.Recordings.{sample_count}
 use Rattle.tables.specs.Tables.{layout_in, recording_in, table_most, kept_count_in}
 use Rattle.resolution_rules.specs.Resolving.{delivered, judged}
-use Rattle.mark_rules.specs.declared.CopyCounted.{CopyCounted}
-use Rattle.mark_rules.specs.declared.CopyCounted.TheVariants.{Refused, Units}
 use Rattle.mark_rules.specs.States.{state_step, reach_from, reach, state_at}
 use Rattle.mark_rules.specs.Amounts.{between, copy_between}
 use Rattle.mark_rules.proofs.States as states
@@ -49,6 +47,7 @@ use Rattle.marks.proofs.Marking as marking
 use Rattle.marks.proofs.Copying as marked
 use Rattle.verdicts.specs.Kept.{verdict_in, with_judgements}
 use Rattle.verdicts.proofs.Keeping as keeping
+use Rattle.mark_rules.specs.declared.CopyAmount.{CopyAmount}
 
 -- Any bytes: going on from a state that was kept gives what going from the front gives, and from the last mark at or before a
 -- place the walk comes to it in less steps than a block has bytes
@@ -73,12 +72,12 @@ module _ (x : Sample) (formed : check x ≡ ok tt) where
   -- An extractor is answered by two states: refused as the rules say, or its copy counted
   module _ (o n : ℕ) where
     pub copy_refused : (copy_fault x o n ≡ 0 → ⊥) →
-        copy_between x o n (state_at x o) (state_at x (copy_end x o n)) ≡ Refused (copy_fault x o n)
+        copy_between x o n (state_at x o) (state_at x (copy_end x o n)) ≡ Err (copy_fault x o n)
     copy_refused = copying.states_refused x formed o n
 
     pub copy_counted : copy_fault x o n ≡ 0 →
         copy_between x o n (state_at x o) (state_at x (copy_end x o n))
-        ≡ Units (record { count = length (copied x o n); bytes = sum (map (size x) (copied x o n)) })
+        ≡ Ok (record { count = length (copied x o n); bytes = sum (map (size x) (copied x o n)) })
     copy_counted = copying.states_counted x formed o n
 
     -- by the rows that hold its marks, wherever they stand
@@ -112,19 +111,19 @@ bytes_7 = record { kind = Svc; length_size = One; content = 8 ∷ 126 ∷ 128 �
 abbrev extractor_alone : Sample
 extractor_alone = record { kind = Svc; length_size = One; content = 8 ∷ 127 ∷ 128 ∷ 0 ∷ 3 ∷ 1 ∷ 0 ∷ 0 ∷ 0 ∷ [] }
 
-abbrev told : Sample → ℕ → ℕ → CopyCounted
+abbrev told : Sample → ℕ → ℕ → Result CopyAmount ℕ
 told z o n = copy_between z o n (state_at z o) (state_at z (copy_end z o n))
 
-abbrev units_of : ℕ → ℕ → CopyCounted
-units_of count bytes = Units (record { count = count; bytes = bytes })
+abbrev units_of : ℕ → ℕ → Result CopyAmount ℕ
+units_of count bytes = Ok (record { count = count; bytes = bytes })
 
 -- M9 and its neighbours: data_offset 0 with data_length 0, 6, 9 and 7; 1; from M7's included unit at 6 with 0, 3 and 4; 28
 pub in_numbers :
     (state_at bytes_8 9 ≡ record { place = 9; until = 6; count = 1; bytes = 2; extractors = 0 })
     × (state_at bytes_7 3 ≡ record { place = 6; until = 9; count = 0; bytes = 0; extractors = 0 })
     × (told bytes_8 0 0 ≡ units_of 1 2) × (told bytes_8 0 6 ≡ units_of 0 0) × (told bytes_8 0 9 ≡ units_of 1 2)
-    × (told bytes_8 0 7 ≡ Refused 27) × (told bytes_8 1 0 ≡ Refused 26)
-    × (told bytes_7 6 0 ≡ units_of 1 2) × (told bytes_7 6 3 ≡ units_of 1 2) × (told bytes_7 6 4 ≡ Refused 27)
-    × (told extractor_alone 0 0 ≡ Refused 28)
+    × (told bytes_8 0 7 ≡ Err 27) × (told bytes_8 1 0 ≡ Err 26)
+    × (told bytes_7 6 0 ≡ units_of 1 2) × (told bytes_7 6 3 ≡ units_of 1 2) × (told bytes_7 6 4 ≡ Err 27)
+    × (told extractor_alone 0 0 ≡ Err 28)
 unfolding state_at reach_from state_step copy_between between copy_end size type big
 in_numbers = (refl, refl, refl, refl, refl, refl, refl, refl, refl, refl, refl)

@@ -3,7 +3,6 @@ ghost use Rattle.bundles.specs.Bundles.{bundle_verdict};
 ghost use Rattle.puddockle.specs.Returns.{Returned};
 
 use crate::answer;
-use bundles::Checked;
 
 pub fn puddockle_check_bundle(bundle: &[u8], place: &mut u64) -> u32
     ensures { Returned result place.new (bundle_verdict bundle.now) }
@@ -11,7 +10,7 @@ pub fn puddockle_check_bundle(bundle: &[u8], place: &mut u64) -> u32
     *place = 0;
     let checked = bundles::check_bundle(bundle);
     match checked {
-        Checked::Refused(f) => answer::refused(f, place),
-        Checked::Accepted => 0,
+        Err(f) => answer::refused(f, place),
+        Ok(()) => 0,
     }
 }

@@ -6,7 +6,6 @@ ghost use Rattle.contents.specs.Contents.{counts_call, track_call, reference_cal
 ghost use Rattle.puddockle.specs.Returns.{ReturnedCounts, ReturnedTrack, ReturnedReference, ReturnedSample};
 
 use crate::answer;
-use contents::{CountsFound, ReferenceFound, SampleFound, TrackFound};
 use numbers::{Kind, SampleNumber, TrackNumber};
 
 // The number of a kind.
@@ -34,8 +33,8 @@ pub fn puddockle_counts(
     *samples = 0;
     let found = contents::bundle_counts(bundle);
     match found {
-        CountsFound::Refused(f) => answer::refused(f, place),
-        CountsFound::Counts(c) => {
+        Err(f) => answer::refused(f, place),
+        Ok(c) => {
             *tracks = c.tracks as u64;
             *references = c.references as u64;
             *samples = c.samples as u64;
@@ -60,8 +59,8 @@ pub fn puddockle_track(
     *record_length = 0;
     let found = contents::track_entry(bundle, TrackNumber(track as usize));
     match found {
-        TrackFound::Refused(f) => answer::refused(f, place),
-        TrackFound::Track(e) => {
+        Err(f) => answer::refused(f, place),
+        Ok(e) => {
             let at = e.start;
             let track_kind = e.kind;
             *kind = kind_number(track_kind);
@@ -86,8 +85,8 @@ pub fn puddockle_reference(
     *to = 0;
     let found = contents::reference_entry(bundle, reference as usize);
     match found {
-        ReferenceFound::Refused(f) => answer::refused(f, place),
-        ReferenceFound::Reference(e) => {
+        Err(f) => answer::refused(f, place),
+        Ok(e) => {
             let from_track = e.from;
             let to_track = e.to;
             *from = from_track.0 as u64;
@@ -115,8 +114,8 @@ pub fn puddockle_sample(
     *length = 0;
     let found = contents::sample_entry(bundle, SampleNumber(sample as usize));
     match found {
-        SampleFound::Refused(f) => answer::refused(f, place),
-        SampleFound::Sample(e) => {
+        Err(f) => answer::refused(f, place),
+        Ok(e) => {
             let own_track = e.track;
             let at = e.start;
             *track = own_track.0 as u64;

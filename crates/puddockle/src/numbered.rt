@@ -6,8 +6,6 @@ ghost use Rattle.naming_list_rules.specs.Naming.{names_call};
 ghost use Rattle.puddockle.specs.Returns.{ReturnedOutput, ReturnedPart, ReturnedNamed};
 
 use crate::answer;
-use delivered_unit::UnitPlaced;
-use named_sample::NamedSample;
 use numbers::{ByteOffset, SampleNumber};
 
 pub fn puddockle_resolve(
@@ -53,8 +51,8 @@ pub fn puddockle_unit(
     *size = 0;
     let placed = delivered_unit::unit_place(bundle, SampleNumber(sample as usize), unit as usize);
     match placed {
-        UnitPlaced::Refused(f) => answer::refused(f, place),
-        UnitPlaced::Part(u) => {
+        Err(f) => answer::refused(f, place),
+        Ok(u) => {
             let at = u.start;
             *start = at.0 as u64;
             *size = u.size as u64;
@@ -108,8 +106,8 @@ pub fn puddockle_named(
         ByteOffset(extractor as usize),
     );
     match found {
-        NamedSample::Refused(f) => answer::refused(f, place),
-        NamedSample::Sample(n) => {
+        Err(f) => answer::refused(f, place),
+        Ok(n) => {
             *named = n.0 as u64;
             0
         }

@@ -6,7 +6,6 @@ ghost use Rattle.puddockle.specs.Returns.{ReturnedOutputs};
 
 use crate::answer;
 use numbers::SampleNumber;
-use range::Ranged;
 
 pub fn puddockle_range(
     bundle: &[u8],
@@ -33,8 +32,8 @@ pub fn puddockle_range(
         lines,
     );
     match ranged {
-        Ranged::Refused(f) => answer::refused(f, place),
-        Ranged::Done(c) => {
+        Err(f) => answer::refused(f, place),
+        Ok(c) => {
             *count = c.output as u64;
             *lines_count = c.lines as u64;
             0

@@ -5,7 +5,6 @@ ghost use Rattle.audit_rules.specs.Auditing.{audit_call, tally_call};
 ghost use Rattle.puddockle.specs.Returns.{ReturnedOutput, ReturnedTally};
 
 use crate::answer;
-use audit::Audited;
 
 pub fn puddockle_audit(
     bundle: &[u8],
@@ -27,8 +26,8 @@ pub fn puddockle_audit(
     *refused = 0;
     let audited = audit::audit(bundle, lines);
     match audited {
-        Audited::Refused(f) => answer::refused(f, place),
-        Audited::Done(report) => {
+        Err(f) => answer::refused(f, place),
+        Ok(report) => {
             let tally = report.tally;
             *count = report.count as u64;
             *passed = tally.passed;

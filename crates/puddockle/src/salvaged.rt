@@ -6,7 +6,6 @@ ghost use Rattle.puddockle.specs.Returns.{ReturnedOutputs};
 
 use crate::answer;
 use numbers::SampleNumber;
-use salvage::{Salvaged, SalvagedSample};
 
 pub fn puddockle_salvage(
     bundle: &[u8],
@@ -29,8 +28,8 @@ pub fn puddockle_salvage(
     *names_count = 0;
     let salvaged = salvage::salvage(bundle, SampleNumber(sample as usize), out, changes, names);
     match salvaged {
-        Salvaged::Refused(f) => answer::refused(f, place),
-        Salvaged::Done(c) => {
+        Err(f) => answer::refused(f, place),
+        Ok(c) => {
             *count = c.sample as u64;
             *changes_count = c.changes as u64;
             *names_count = c.names as u64;
@@ -58,8 +57,8 @@ pub fn puddockle_salvage_sample(
     *changes_count = 0;
     let salvaged = salvage::salvage_sample(kind, length_size, sample, out, changes);
     match salvaged {
-        SalvagedSample::Refused(f) => answer::refused(f, place),
-        SalvagedSample::Done(c) => {
+        Err(f) => answer::refused(f, place),
+        Ok(c) => {
             *count = c.sample as u64;
             *changes_count = c.changes as u64;
             0

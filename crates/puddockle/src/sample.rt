@@ -5,7 +5,6 @@ ghost use Rattle.samples.specs.Check.{check_alone};
 ghost use Rattle.puddockle.specs.Returns.{Returned, ReturnedOutput};
 
 use crate::answer;
-use samples::Checked;
 
 pub fn puddockle_check_sample(kind: u32, length_size: u32, sample: &[u8], place: &mut u64) -> u32
     ensures { Returned result place.new (check_alone kind length_size sample.now) }
@@ -13,8 +12,8 @@ pub fn puddockle_check_sample(kind: u32, length_size: u32, sample: &[u8], place:
     *place = 0;
     let checked = samples::check(kind, length_size, sample);
     match checked {
-        Checked::Refused(f) => answer::refused(f, place),
-        Checked::WellFormed => 0,
+        Err(f) => answer::refused(f, place),
+        Ok(()) => 0,
     }
 }
 

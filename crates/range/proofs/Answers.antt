@@ -6,6 +6,7 @@
 --   refused_both, written_both  what was done with both buffers, by how the output was written
 --   no_lines                    29: no room for the lines
 --   filled_range                by a table that was filled
+use Rattle.std.specs.Prelude.{Ok}
 use Prim.Native.Nat.{ℕ, ◌+◌, ◌-◌, ◌*◌, ◌≤◌, ◌<◌}
 use mathlib.Core.Path.{◌≡◌, ap, ap₂, sym, ◌∙◌, subst}
 use mathlib.Core.List.{List, [], ◌∷◌}
@@ -27,7 +28,6 @@ use Rattle.bundles.specs.Recordings.{Recording, sample_count}
 use Rattle.bundles.specs.Readers.{first_layout}
 use Rattle.tables.specs.Tables.{layout_in, recording_in, table_most, kept_count_in}
 use Rattle.filling.specs.Filling.{filling, table_after}
-use Rattle.filling.specs.declared.Filled.TheVariants.{Done}
 use Rattle.filling.proofs.Promises.{table_accepted, table_means}
 use Rattle.resolution_rules.specs.Ranges.{between, range_fault, joined}
 use Rattle.resolution_rules.proofs.Ranges.{range_good, range_bad, by_range, range_there, between_from}
@@ -147,7 +147,7 @@ module _
 
 -- by the table that was filled
 pub filled_range :
-    (b t : List ℕ) → filling first_layout b (length t) ≡ Done → {s : List ℕ} → s ≡ table_after first_layout b t → (first last room lines_room : ℕ) →
+    (b t : List ℕ) → filling first_layout b (length t) ≡ (Ok tt) → {s : List ℕ} → s ≡ table_after first_layout b t → (first last room lines_room : ℕ) →
     within_all (room ∷ lines_room ∷ []) (range (recording_in b s) first last) ≡ range_call first_layout b first last room lines_room
 filled_range b t done f first last room lines_room =
     rw (f, table_means b t done) (sym (range_means first_layout b first last room lines_room (table_accepted b t done)))

@@ -11,31 +11,13 @@ ghost use Rattle.range_rules.specs.Ranges.{range, range_call};
 ghost use Rattle.range.specs.Answers.{counts_of};
 
 use audit_lines::LINE_SIZE;
-use filling::Filled;
-use numbers::{ByteOffset, Refusal, SampleNumber, Written, refusals};
+use numbers::{Fault, Refusal, SampleNumber};
 
 // How many bytes of the joined output and of the lines are written.
 #[derive(Clone, Copy)]
 pub struct Counts {
     pub output: usize,
     pub lines: usize,
-}
-
-// Samples of a range resolved, or refused.
-#[derive(Clone, Copy)]
-pub enum Ranged {
-    Refused(Refusal),
-    Done(Counts),
-}
-
-// A refusal at 0.
-fn refused(number: u8) -> Ranged
-    ensures { counts_of result ≡ refused number 0 }
-{
-    Ranged::Refused(Refusal {
-        number: number,
-        place: ByteOffset(0),
-    })
 }
 
 // Samples first to last of an accepted bundle by its table: 30, 29 if either buffer lacks room, or both outputs. The room for the lines is
@@ -48,32 +30,24 @@ fn range_accepted(
     last: SampleNumber,
     out: &mut [u8],
     lines: &mut [u8],
-) -> Ranged
+) -> Result<Counts, Refusal>
     requires { (length b.now ≤ bundle_most) × (table_most ≤ length t.old) }
     ensures { WroteAll (out.old ∷ lines.old ∷ []) (out.new ∷ lines.new ∷ []) (counts_of result)
         (within_all (length out.old ∷ length lines.old ∷ [])
         (range (recording_in b.now t.old) first.0 last.0)) }
 {
-    let fault = judging::range_fault(sample_tables::sample_count(t), first, last);
-    if fault != 0 {
-        return refused(fault);
-    }
+    judging::check_range(sample_tables::sample_count(t), first, last)?;
     let skipped = first.0 - 1;
     let size = LINE_SIZE * (last.0 - skipped);
     if lines.len() < size {
-        return refused(refusals::OUTPUT_TOO_LONG);
+        return Err(Refusal::at(Fault::OutputTooLong, 0));
     }
-    let joined = resolution::resolve_range(b, t, first, last, out);
-    match joined {
-        Written::Refused(f) => Ranged::Refused(f),
-        Written::Count(count) => {
-            audit::write_lines(t, skipped, last, lines);
-            Ranged::Done(Counts {
-                output: count,
-                lines: size,
-            })
-        }
-    }
+    let count = resolution::resolve_range(b, t, first, last, out)?;
+    audit::write_lines(t, skipped, last, lines);
+    Ok(Counts {
+        output: count,
+        lines: size,
+    })
 }
 
 // Samples first to last of a bundle: 1 to 13, 30, then 29 if either buffer lacks room; or what resolving gives for each, joined, and their
@@ -84,14 +58,11 @@ pub fn range(
     last: SampleNumber,
     out: &mut [u8],
     lines: &mut [u8],
-) -> Ranged
+) -> Result<Counts, Refusal>
     ensures { WroteAll (out.old ∷ lines.old ∷ []) (out.new ∷ lines.new ∷ []) (counts_of result)
         (range_call first_layout b.now first.0 last.0 (length out.old) (length lines.old)) }
 {
     let mut t = [0u64; tables::TABLE_SIZE];
-    let filled = filling::fill_table(b, &mut t);
-    match filled {
-        Filled::Refused(f) => Ranged::Refused(f),
-        Filled::Done => range_accepted(b, &mut t, first, last, out, lines),
-    }
+    filling::fill_table(b, &mut t)?;
+    range_accepted(b, &mut t, first, last, out, lines)
 }

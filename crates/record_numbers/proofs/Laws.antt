@@ -2,24 +2,21 @@
 --
 --   trailer_length, numbers_length           a trailer is 7 numbers, a record 18
 --   trailer_cells                            numbers 11 to 17, one by one
---   copied                                   a turn of the copy
 --   read_refused, read_short, read_fits      a record that is refused, one without room, one with room
 --   read_done                                the call that reads with room
 --   fault_enough, fault_refuses, fault_none  numbers that give fields, and numbers that do not
-use Prim.Native.Nat.{ℕ, zero, suc, ◌+◌, ◌≤◌, ◌<◌}
-use mathlib.Core.Path.{◌≡◌, refl, ap, sym, ◌∙◌}
+use Prim.Native.Nat.{ℕ, ◌≤◌, ◌<◌}
+use mathlib.Core.Path.{◌≡◌, refl, ap, ◌∙◌}
 use mathlib.Core.List.{List, [], ◌∷◌}
 use native.Mathlib.Omega.{arith}
 use borrow.Author.Tests.{ltb-false}
-use native.Mathlib.Nat.{zero-add}
-use lib.ListN.{length, get_or, set}
-use lib.Seq.{paste}
+use lib.ListN.{length, get_or}
 use Rattle.words.specs.Tests.{◌<?◌}
 use Rattle.words.specs.RefusalNumbers.{output_too_long}
-use Rattle.words.specs.Refusals.{refused, ok}
+use Rattle.words.specs.Refusals.{refused, ok, ◌at_place◌}
 use Rattle.words.specs.Buffers.{overwrite, Wrote}
 use Rattle.words.proofs.Refusals.{if_none, or_else_none}
-use Rattle.words.proofs.Buffers.{copy_step, within_room, within_not}
+use Rattle.words.proofs.Buffers.{within_room, within_not}
 use Rattle.numbers.specs.declared.Kind.{Kind}
 use Rattle.record_rules.specs.Read.{read_record}
 use Rattle.record_rules.specs.declared.Trailer.{Trailer}
@@ -43,9 +40,6 @@ pub trailer_cells : (t : Trailer) (x : Part) → let ns = trailer_numbers t x in
 trailer_cells None x = refl
 trailer_cells Absent x = refl
 trailer_cells (Present t) x = refl
-
-pub copied : (o s : List ℕ) (i : ℕ) → i < length o → i < length s → set (paste o 0 s i) i (get_or s i 0) ≡ paste o 0 s (i + 1)
-copied o s i h k = ap (λ (j : ℕ). set (paste o 0 s i) j (get_or s i 0)) (sym (zero-add i)) ∙ copy_step o s 0 i (omega arith) k
 
 module _ (kind : ℕ) (s : List ℕ) (room : ℕ) where
   pub read_refused : {n p : ℕ} → refused n p ≡ read_record kind s → read_numbers kind s room ≡ refused n p
@@ -71,10 +65,9 @@ module _ (k : Kind) (ns : List ℕ) where
   unfolding numbers_fault
   fault_enough e = ltb-false _ _ (if_none _ (length ns <? number_count) (or_else_none _ _ e).0)
 
-  pub fault_refuses : (a b x : List ℕ) (n : ℕ) → n ≡ numbers_fault k ns → (n ≡ 0 → ⊥) → write_numbers_as k ns a b x ≡ refused n 0
+  pub fault_refuses : (a b x : List ℕ) {n p : ℕ} → numbers_fault k ns at_place 0 ≡ refused n p → write_numbers_as k ns a b x ≡ refused n p
   unfolding write_numbers_as
-  fault_refuses a b x zero e f = absurd (f refl)
-  fault_refuses a b x (suc n) e f = rw (← e)
+  fault_refuses a b x e = rw e
 
   pub fault_none : (a b x : List ℕ) → numbers_fault k ns ≡ 0 → write_numbers_as k ns a b x ≡ write_as k (fields_from k ns) a b x
   unfolding write_numbers_as

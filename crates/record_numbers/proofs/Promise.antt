@@ -4,6 +4,7 @@
 --   writes_back       an accepted record, written again from its numbers, gives the same bytes
 --   write_known       the call that writes numbers, by their fields
 --   reads_back        what was written reads back as what was given
+use Rattle.std.specs.Prelude.{Some}
 use Prim.Native.Nat.{ℕ, ◌+◌, ◌-◌, ◌/◌, ◌%◌, ◌≤◌}
 use mathlib.Core.Path.{◌≡◌, refl, sym, ◌∙◌}
 use mathlib.Core.Bool.{false}
@@ -20,7 +21,6 @@ use Rattle.words.proofs.Refusals.{ok_same, ok_refused}
 use Rattle.numbers.specs.Kinds.{kind_of}
 use Rattle.numbers.specs.declared.Kind.{Kind}
 use Rattle.numbers.specs.declared.Kind.TheVariants.{Avc, Svc}
-use Rattle.numbers.specs.declared.MaybeKind.TheVariants.{Known}
 use Rattle.record_rules.specs.Layout.{bit, flag_of}
 use Rattle.record_rules.specs.Trailers.{extension_types}
 use Rattle.sets.specs.Sets.{sets_end}
@@ -86,7 +86,7 @@ numbers_back kind k s r q e =
     rw h (no_fault k s, fields_back k s)
 
 -- the call that writes numbers is the call that writes their fields
-pub write_known : (kind : ℕ) (k : Kind) (ns a b x : List ℕ) (room : ℕ) → kind_of kind ≡ Known k → numbers_fault k ns ≡ 0 → write_numbers kind ns a b x room ≡ write_record kind (fields_from k ns) a b x room
+pub write_known : (kind : ℕ) (k : Kind) (ns a b x : List ℕ) (room : ℕ) → kind_of kind ≡ Some k → numbers_fault k ns ≡ 0 → write_numbers kind ns a b x room ≡ write_record kind (fields_from k ns) a b x room
 unfolding write_numbers write_record
 write_known kind k ns a b x room q e = rw (q, fault_none k ns a b x e)
 
@@ -103,7 +103,7 @@ unfolding read_numbers
 read_numbered kind s room e = numbered room (read_record kind s) e
 
 -- what stands where the numbers of a record say
-module _ (kind : ℕ) (k : Kind) (s : List ℕ) (r : Record) (q : kind_of kind ≡ Known k) (e : read_record kind s ≡ ok r) where
+module _ (kind : ℕ) (k : Kind) (s : List ℕ) (r : Record) (q : kind_of kind ≡ Some k) (e : read_record kind s ≡ ok r) where
   extensions_there : extensions_in s (numbers_of r) ≡ part_bytes s r.extensions
   extensions_there = rw (accepted_as k s (sym (read_known kind k s q) ∙ e)).1 (extensions_back k s)
 
@@ -132,7 +132,7 @@ writes_back kind s ns numbers room g e l =
     (λ q. ok_refused (sym (read_unknown kind s q) ∙ w.1))
 
 -- numbers that are written have no fault
-written_fault : (kind : ℕ) (k : Kind) (ns a b x : List ℕ) (room : ℕ) {s : List ℕ} → kind_of kind ≡ Known k → write_numbers kind ns a b x room ≡ ok s → numbers_fault k ns ≡ 0
+written_fault : (kind : ℕ) (k : Kind) (ns a b x : List ℕ) (room : ℕ) {s : List ℕ} → kind_of kind ≡ Some k → write_numbers kind ns a b x room ≡ ok s → numbers_fault k ns ≡ 0
 unfolding write_numbers write_numbers_as
 written_fault kind k ns a b x room q e =
     by_number (numbers_fault k ns)
@@ -140,7 +140,7 @@ written_fault kind k ns a b x room q e =
     (λ n z. ok_refused (rw (q, z) at e))
 
 -- what is found is what was given
-found_same : (kind : ℕ) (k : Kind) (s ns a b x : List ℕ) (numbers : ℕ) → kind_of kind ≡ Known k → number_count ≤ numbers → Holds kind s (fields_from k ns) a b x → Same kind k s ns a b x numbers
+found_same : (kind : ℕ) (k : Kind) (s ns a b x : List ℕ) (numbers : ℕ) → kind_of kind ≡ Some k → number_count ≤ numbers → Holds kind s (fields_from k ns) a b x → Same kind k s ns a b x numbers
 unfolding numbers_of
 found_same kind k s ns a b x numbers q h w =
     record {

@@ -1,10 +1,9 @@
 -- What is promised of records as numbers. Each is proved under the name given, in proofs/Promise.antt.
-use Rattle.std.specs.Prelude.{ℕ, ◌≤◌, ◌≡◌, List, length}
+use Rattle.std.specs.Prelude.{ℕ, ◌≤◌, ◌≡◌, List, length, Some}
 use Rattle.words.specs.Refusals.{ok}
 use Rattle.words.specs.Bytes.{Bytes, part}
 use Rattle.numbers.specs.Kinds.{kind_of}
 use Rattle.numbers.specs.declared.Kind.{Kind}
-use Rattle.numbers.specs.declared.MaybeKind.TheVariants.{Known}
 use Rattle.record_rules.specs.Read.{read_record}
 use Rattle.record_rules.specs.declared.Record.{Record}
 use Rattle.record_numbers.specs.Indices.{sequence_start, sequence_length, picture_start, picture_length}
@@ -24,7 +23,7 @@ extensions_in s ns = part s (ns at extension_start) (ns at extension_length)
 -- `numbers_back`: the numbers of a record that was read give its fields.
 abbrev pub NumbersBack : Type 0
 NumbersBack =
-    (kind : ℕ) (k : Kind) (s : List ℕ) (r : Record) → kind_of kind ≡ Known k → read_record kind s ≡ ok r →
+    (kind : ℕ) (k : Kind) (s : List ℕ) (r : Record) → kind_of kind ≡ Some k → read_record kind s ≡ ok r →
     (numbers_fault k (numbers_of r) ≡ 0) × (fields_from k (numbers_of r) ≡ r.fields)
 
 -- `writes_back`: an accepted record, written again from its numbers and its own sets with room, gives the same bytes.
@@ -45,5 +44,5 @@ pub record Same (kind : ℕ) (k : Kind) (s ns sequence_sets picture_sets extensi
 abbrev pub ReadsBack : Type 0
 ReadsBack =
     (kind : ℕ) (k : Kind) (s ns sequences pictures extensions : List ℕ) (room numbers : ℕ) →
-    kind_of kind ≡ Known k → number_count ≤ numbers →
+    kind_of kind ≡ Some k → number_count ≤ numbers →
     write_numbers kind ns sequences pictures extensions room ≡ ok s → Same kind k s ns sequences pictures extensions numbers

@@ -1,13 +1,13 @@
 // A record written from its numbers.
 ghost use Rattle.std.specs.Prelude.{◌≡◌, ◌≤◌, length};
+ghost use Rattle.numbers.specs.Faults.{fault_in};
 ghost use Rattle.words.specs.Buffers.{within, Wrote};
-ghost use Rattle.record_rules.specs.Layout.{flag_of};
 ghost use Rattle.numbers.specs.Answers.{answer_of};
 ghost use Rattle.record_numbers.specs.Indices.{number_count};
 ghost use Rattle.record_numbers.specs.Numbers.{flag_most, high_from, trailer_from, numbers_fault, fields_from, write_numbers_as};
 
 use crate::{NUMBER_COUNT, TRAILER_ABSENT, TRAILER_PRESENT};
-use numbers::{ByteOffset, Kind, Refusal, Written, refusals};
+use numbers::{Fault, Kind, Refusal};
 use record_rules::{Fields, Flag, High, Trailer, layouts};
 
 // Where the numbers stand that are looked at.
@@ -39,40 +39,25 @@ const EXTENSION_COUNT_AT: usize = 15;
 fn flag_most(k: Kind) -> u64
     ensures { result ≡ flag_most k }
 {
-    let l = layouts::record_layout(k);
-    if 0 < l.flags {
-        return 1;
+    if 0 < layouts::record_layout(k).flags {
+        1
+    } else {
+        0
     }
-    0
 }
 
-// 31: too few numbers, or one that is no complete_representation or no trailer; or 0.
-fn numbers_fault(k: Kind, numbers: &[u64]) -> u8
-    ensures { result ≡ numbers_fault k numbers.now }
+// 31: too few numbers, or one that is no complete_representation or no trailer.
+#[tactic(auto, using(words::proofs::Tests::tests), unfolding(crate::specs::Numbers::numbers_fault))]
+fn numbers_fault(k: Kind, numbers: &[u64]) -> Result<(), Fault>
+    ensures { fault_in result ≡ numbers_fault k numbers.now }
 {
-    if numbers.len() < NUMBER_COUNT {
-        return refusals::FIELDS_FIT_NO_RECORD;
+    if numbers.len() < NUMBER_COUNT
+        || flag_most(k) < numbers[COMPLETE_AT]
+        || TRAILER_PRESENT < numbers[TRAILER_AT]
+    {
+        return Err(Fault::FieldsFitNoRecord);
     }
-    if flag_most(k) < numbers[COMPLETE_AT] {
-        return refusals::FIELDS_FIT_NO_RECORD;
-    }
-    if TRAILER_PRESENT < numbers[TRAILER_AT] {
-        return refusals::FIELDS_FIT_NO_RECORD;
-    }
-    0
-}
-
-// complete_representation, where a record has one.
-fn flag_from(has: bool, n: u64) -> Flag
-    ensures { result ≡ flag_of has n }
-{
-    if !has {
-        return Flag::Absent;
-    }
-    if n == 0 {
-        return Flag::Clear;
-    }
-    Flag::Set
+    Ok(())
 }
 
 // The values of a trailer.
@@ -93,43 +78,30 @@ fn trailer_from(numbers: &[u64]) -> Trailer
     requires { number_count ≤ length numbers.now }
     ensures { result ≡ trailer_from numbers.now }
 {
-    if numbers[TRAILER_AT] == TRAILER_PRESENT {
-        let high = high_from(numbers);
-        return Trailer::Present(high);
+    match numbers[TRAILER_AT] {
+        TRAILER_PRESENT => Trailer::Present(high_from(numbers)),
+        TRAILER_ABSENT => Trailer::Absent,
+        _ => Trailer::None,
     }
-    if numbers[TRAILER_AT] == TRAILER_ABSENT {
-        return Trailer::Absent;
-    }
-    Trailer::None
 }
 
 // The fields.
+#[tactic(auto, unfolding(crate::specs::Numbers::fields_from))]
 fn fields_from(k: Kind, numbers: &[u64]) -> Fields
     requires { number_count ≤ length numbers.now }
     ensures { result ≡ fields_from k numbers.now }
 {
     let l = layouts::record_layout(k);
-    let complete = flag_from(0 < l.flags, numbers[COMPLETE_AT]);
-    let trailer = trailer_from(numbers);
     Fields {
         profile: numbers[PROFILE_AT] as usize,
         compatibility: numbers[COMPATIBILITY_AT] as usize,
         level: numbers[LEVEL_AT] as usize,
-        complete,
+        complete: Flag::of(0 < l.flags, numbers[COMPLETE_AT]),
         length_size: numbers[LENGTH_SIZE_AT] as usize,
         sequences: numbers[SEQUENCE_COUNT_AT] as usize,
         pictures: numbers[PICTURE_COUNT_AT] as usize,
-        trailer,
+        trailer: trailer_from(numbers),
     }
-}
-
-pub(crate) fn refused(number: u8) -> Written
-    ensures { result ≡ Written.Refused (record { number = number; place = record { 0 = 0 } }) }
-{
-    Written::Refused(Refusal {
-        number,
-        place: ByteOffset(0),
-    })
 }
 
 // A record of a known kind.
@@ -140,13 +112,10 @@ pub(crate) fn write_as(
     pictures: &[u8],
     extensions: &[u8],
     out: &mut [u8],
-) -> Written
+) -> Result<usize, Refusal>
     ensures { Wrote out.old out.new (answer_of result) (within (length out.old) (write_numbers_as k numbers.now sequences.now pictures.now extensions.now)) }
 {
-    let fault = numbers_fault(k, numbers);
-    if fault != 0 {
-        return refused(fault);
-    }
+    numbers::at_place(numbers_fault(k, numbers), 0)?;
     let f = fields_from(k, numbers);
     record_writer::write_as(k, f, sequences, pictures, extensions, out)
 }

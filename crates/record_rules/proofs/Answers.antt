@@ -4,6 +4,7 @@
 --   refused_as, fault_read      refused with the first refusal, at 0
 --   kind_cases                  cases of a kind's number
 --   read_known, read_unknown    the call
+use Rattle.std.specs.Prelude.{None, Option, Some}
 use Prim.Native.Nat.{ℕ, ◌<◌}
 use mathlib.Core.Path.{◌≡◌, refl, sym, ◌∙◌}
 use mathlib.Core.List.{List}
@@ -14,8 +15,6 @@ use Rattle.words.proofs.Tests.{by_number}
 use Rattle.words.proofs.Refusals.{ok_same, ok_refused, refused_same}
 use Rattle.numbers.specs.Kinds.{kind_of}
 use Rattle.numbers.specs.declared.Kind.{Kind}
-use Rattle.numbers.specs.declared.MaybeKind.{MaybeKind}
-use Rattle.numbers.specs.declared.MaybeKind.TheVariants.{Known, Unknown}
 use Rattle.record_rules.specs.Read.{record_fault, record_of, read_as, read_record}
 use Rattle.record_rules.specs.declared.Record.{Record}
 
@@ -39,15 +38,15 @@ module _ (k : Kind) (s : List ℕ) where
   unfolding read_as
   fault_read {n} e l = rw e (by_number n (λ z. absurd (omega arith)) (λ m z. rw z))
 
-pub kind_cases : {G : Type 0} (m : MaybeKind) → ((k : Kind) → m ≡ Known k → G) → (m ≡ Unknown → G) → G
-kind_cases (Known k) f g = f k refl
-kind_cases Unknown f g = g refl
+pub kind_cases : {G : Type 0} (m : Option Kind) → ((k : Kind) → m ≡ Some k → G) → (m ≡ None → G) → G
+kind_cases (Some k) f g = f k refl
+kind_cases None f g = g refl
 
 module _ (kind : ℕ) where
-  pub read_known : (k : Kind) (s : List ℕ) → kind_of kind ≡ Known k → read_record kind s ≡ read_as k s
+  pub read_known : (k : Kind) (s : List ℕ) → kind_of kind ≡ Some k → read_record kind s ≡ read_as k s
   unfolding read_record
   read_known k s e = rw e
 
-  pub read_unknown : (s : List ℕ) → kind_of kind ≡ Unknown → read_record kind s ≡ refused unknown_kind 0
+  pub read_unknown : (s : List ℕ) → kind_of kind ≡ None → read_record kind s ≡ refused unknown_kind 0
   unfolding read_record
   read_unknown s e = rw e

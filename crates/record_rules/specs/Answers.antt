@@ -1,17 +1,16 @@
 -- What the reader's answer says: a refusal with its number and place, or the record. And where a record's sets stand in its bytes.
-use Rattle.std.specs.Prelude.{List, ℕ}
+use Rattle.std.specs.Prelude.{List, ℕ, Err, Ok, Result}
 use Rattle.words.specs.Refusals.{Answer, refused, ok}
 use Rattle.words.specs.Bytes.{part}
 use Rattle.numbers.specs.declared.Kind.{Kind}
 use Rattle.record_rules.specs.Fields.{record_bytes}
 use Rattle.record_rules.specs.declared.Part.{Part}
 use Rattle.record_rules.specs.declared.Record.{Record}
-use Rattle.record_rules.specs.declared.Reading.{Reading}
-use Rattle.record_rules.specs.declared.Reading.TheVariants.{Refused, Accepted}
+use Rattle.numbers.specs.declared.Refusal.{Refusal}
 
-abbrev pub answer_of : Reading → Answer Record
-answer_of (Refused r) = refused r.number r.place.0
-answer_of (Accepted v) = ok v
+abbrev pub answer_of : Result Record Refusal → Answer Record
+answer_of (Err r) = refused r.number r.place.0
+answer_of (Ok v) = ok v
 
 -- the bytes of s at a part, and the bytes that a record of s makes, with its own parts
 abbrev pub part_bytes : List ℕ → Part → List ℕ

@@ -105,18 +105,5 @@ pub fn record_layout(k: Kind) -> RecordLayout
 pub fn trailer_belongs(k: Kind, profile: usize) -> bool
     ensures { result ≡ trailer_belongs k profile }
 {
-    let l = record_layout(k);
-    if !l.trailer {
-        return false;
-    }
-    if profile == 100 {
-        return true;
-    }
-    if profile == 110 {
-        return true;
-    }
-    if profile == 122 {
-        return true;
-    }
-    profile == 144
+    record_layout(k).trailer && matches!(profile, 100 | 110 | 122 | 144)
 }

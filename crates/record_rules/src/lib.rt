@@ -3,6 +3,9 @@
 
 pub mod layouts;
 
+ghost use Rattle.std.specs.Prelude.{◌≡◌, ◌≤◌};
+ghost use Rattle.record_rules.specs.Layout.{bit, flag_of};
+
 use numbers::{ByteOffset, Refusal};
 use sets::SetTypes;
 
@@ -38,6 +41,29 @@ pub enum Flag {
     Absent,
     Clear,
     Set,
+}
+
+impl Flag {
+    // A flag by its bit, where a record has it.
+    pub fn of(has: bool, bit: u64) -> Flag
+        ensures { result ≡ flag_of has bit }
+    {
+        match (has, bit) {
+            (false, _) => Flag::Absent,
+            (true, 0) => Flag::Clear,
+            (true, _) => Flag::Set,
+        }
+    }
+
+    // A flag as a bit.
+    pub fn bit(self) -> u8
+        ensures { (result ≡ bit self) × (result ≤ 1) }
+    {
+        match self {
+            Flag::Absent | Flag::Clear => 0,
+            Flag::Set => 1,
+        }
+    }
 }
 
 // The values of a trailer.
@@ -93,10 +119,4 @@ pub struct Record {
     pub sequences: Part,
     pub pictures: Part,
     pub extensions: Part,
-}
-
-#[derive(Clone, Copy)]
-pub enum Reading {
-    Refused(Refusal),
-    Accepted(Record),
 }

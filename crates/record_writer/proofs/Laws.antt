@@ -4,6 +4,7 @@
 --   front_written, record_written  the writes of a record, one after the other
 --   write_misfit, write_fits       the answer where the fields fit, and where not
 --   room_lacks, room_fits          whether there is room
+use Rattle.std.specs.Prelude.{None, Some}
 use Prim.Native.Nat.{ℕ, ◌+◌, ◌≤◌, ◌<◌}
 use mathlib.Core.Path.{◌≡◌, refl, ap, sym, ◌∙◌}
 use mathlib.Core.Bool.{true, false}
@@ -23,7 +24,6 @@ use Rattle.record_rules.specs.Fields.{head_bytes, record_bytes, fits}
 use Rattle.record_rules.specs.declared.Fields.{Fields}
 use Rattle.record_writer.specs.Write.{write_as}
 use Rattle.record_writer.specs.Steps.{room_for}
-use Rattle.record_writer.specs.declared.Room.TheVariants.{Lacks, Fits}
 
 pub bytes_length : (k : Kind) (f : Fields) (a b x : List ℕ) → length (record_bytes k f a b x) ≡ 7 + length (ending f.trailer).head + length a + length b + length x
 unfolding record_bytes
@@ -70,14 +70,14 @@ module _ (k : Kind) (f : Fields) (a b x : List ℕ) where
   unfolding write_as
   write_fits e = rw e
 
-pub room_lacks : (n room : ℕ) → room_for n room ≡ Lacks → room < n
+pub room_lacks : (n room : ℕ) → room_for n room ≡ None → room < n
 room_lacks n room e =
     by_bool (room <? n)
     (λ t. ltb-true _ _ t)
-    (λ t. let z : Fits n ≡ Lacks = rw t at e in let y : ◌≡◌ {A = ℕ} 0 1 = cc in absurd (omega arith))
+    (λ t. let z : Some n ≡ None = rw t at e in let y : ◌≡◌ {A = ℕ} 0 1 = cc in absurd (omega arith))
 
-pub room_fits : (n room m : ℕ) → room_for n room ≡ Fits m → (n ≤ room) × (m ≡ n)
+pub room_fits : (n room m : ℕ) → room_for n room ≡ Some m → (n ≤ room) × (m ≡ n)
 room_fits n room m e =
     by_bool (room <? n)
-    (λ t. let z : Lacks ≡ Fits m = rw t at e in let y : ◌≡◌ {A = ℕ} 0 1 = cc in absurd (omega arith))
-    (λ t. let z : Fits n ≡ Fits m = rw t at e in (ltb-false _ _ t, cc))
+    (λ t. let z : None ≡ Some m = rw t at e in let y : ◌≡◌ {A = ℕ} 0 1 = cc in absurd (omega arith))
+    (λ t. let z : Some n ≡ Some m = rw t at e in (ltb-false _ _ t, cc))

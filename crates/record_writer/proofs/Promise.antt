@@ -5,6 +5,7 @@
 --   misfits_exactly                        31 arises exactly if no accepted record has those fields and sets
 --   within_ok, written                     what was written, by the answer within its room, and by the fields
 --   read_refusals_lem, write_refusals_lem  every refusal is one of the named, at place 0
+use Rattle.std.specs.Prelude.{None, Some}
 use Prim.Native.Nat.{ℕ, ◌≤◌}
 use mathlib.Core.Path.{◌≡◌, refl, ap, sym, ◌∙◌, subst}
 use mathlib.Core.Bool.{true, false}
@@ -24,7 +25,6 @@ use Rattle.words.proofs.Refusals.{ok_same, ok_refused, none_or_some, refused_sam
 use Rattle.words.proofs.Buffers.{within_room}
 use Rattle.numbers.specs.Kinds.{kind_of}
 use Rattle.numbers.specs.declared.Kind.{Kind}
-use Rattle.numbers.specs.declared.MaybeKind.TheVariants.{Known, Unknown}
 use Rattle.record_rules.specs.Fields.{record_bytes, placed, fits}
 use Rattle.record_rules.specs.declared.Fields.{Fields}
 use Rattle.record_rules.proofs.Answers.{accepted_as, good_read, refused_as, kind_cases, read_known, read_unknown}
@@ -38,16 +38,16 @@ use Rattle.record_writer.proofs.Laws.{write_misfit, write_fits}
 
 -- what writing a kind says of the call with its number
 module _ (kind : ℕ) where
-  write_known : (k : Kind) (f : Fields) (a b x : List ℕ) (room : ℕ) → kind_of kind ≡ Known k → write_record kind f a b x room ≡ within room (write_as k f a b x)
+  write_known : (k : Kind) (f : Fields) (a b x : List ℕ) (room : ℕ) → kind_of kind ≡ Some k → write_record kind f a b x room ≡ within room (write_as k f a b x)
   unfolding write_record
   write_known k f a b x room e = rw e
 
-  write_unknown : (f : Fields) (a b x : List ℕ) (room : ℕ) → kind_of kind ≡ Unknown → write_record kind f a b x room ≡ refused unknown_kind 0
+  write_unknown : (f : Fields) (a b x : List ℕ) (room : ℕ) → kind_of kind ≡ None → write_record kind f a b x room ≡ refused unknown_kind 0
   unfolding write_record
   write_unknown f a b x room e = rw e
 
 -- what an accepted record holds fits, and makes its bytes
-held : (kind : ℕ) (k : Kind) (s : List ℕ) (f : Fields) (a b x : List ℕ) → kind_of kind ≡ Known k → Bytes s → Holds kind s f a b x → (fits k f a b x ≡ true) × (record_bytes k f a b x ≡ s)
+held : (kind : ℕ) (k : Kind) (s : List ℕ) (f : Fields) (a b x : List ℕ) → kind_of kind ≡ Some k → Bytes s → Holds kind s f a b x → (fits k f a b x ≡ true) × (record_bytes k f a b x ≡ s)
 held kind k s f a b x q g h =
     let e = accepted_as k s (sym (read_known kind k s q) ∙ h.read) in
     let z = h.found in
@@ -75,7 +75,7 @@ written k f a b x e =
     (λ t. ok_refused (sym (write_misfit k f a b x t) ∙ e))
 
 -- what fits is held by the bytes that it makes
-holds : (kind : ℕ) (k : Kind) (f : Fields) (a b x : List ℕ) → kind_of kind ≡ Known k → fits k f a b x ≡ true → Holds kind (record_bytes k f a b x) f a b x
+holds : (kind : ℕ) (k : Kind) (f : Fields) (a b x : List ℕ) → kind_of kind ≡ Some k → fits k f a b x ≡ true → Holds kind (record_bytes k f a b x) f a b x
 holds kind k f a b x q t =
     let w = fitting k f a b x t in
     let p = bytes_parts k f a b x w.numbers w.sequences w.pictures w.extensions w.belongs in

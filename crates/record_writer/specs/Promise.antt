@@ -1,12 +1,11 @@
 -- What is promised of reading and writing records. Each is proved under the name given, in proofs/Promise.antt.
-use Rattle.std.specs.Prelude.{ℕ, ◌≤◌, ◌≡◌, List, [], ◌∷◌, length}
+use Rattle.std.specs.Prelude.{ℕ, ◌≤◌, ◌≡◌, List, [], ◌∷◌, length, Some}
 use Rattle.words.specs.RefusalNumbers.{unknown_kind, record_refusals, output_too_long, fields_fit_no_record}
 use Rattle.words.specs.Refusals.{refused, ok}
 use Rattle.words.specs.Lists.{◌∈◌}
 use Rattle.words.specs.Bytes.{Bytes}
 use Rattle.numbers.specs.Kinds.{kind_of}
 use Rattle.numbers.specs.declared.Kind.{Kind}
-use Rattle.numbers.specs.declared.MaybeKind.TheVariants.{Known}
 use Rattle.record_rules.specs.Read.{read_record}
 use Rattle.record_rules.specs.Answers.{part_bytes}
 use Rattle.record_rules.specs.declared.Fields.{Fields}
@@ -39,7 +38,7 @@ ReadsBack =
 abbrev pub MisfitsExactly : Type 0
 MisfitsExactly =
     (kind : ℕ) (k : Kind) (f : Fields) (sequences pictures extensions : List ℕ) (room : ℕ) →
-    kind_of kind ≡ Known k → Bytes sequences → Bytes pictures → Bytes extensions →
+    kind_of kind ≡ Some k → Bytes sequences → Bytes pictures → Bytes extensions →
     (write_record kind f sequences pictures extensions room ≡ refused fields_fit_no_record 0 →
     (s : List ℕ) → Bytes s → Holds kind s f sequences pictures extensions → ⊥)
     × (((s : List ℕ) → Bytes s → Holds kind s f sequences pictures extensions → ⊥) →

@@ -1,16 +1,14 @@
 -- What the steps of the writer promise one another.
-use Rattle.std.specs.Prelude.{ℕ, length}
+use Rattle.std.specs.Prelude.{ℕ, length, None, Option, Some}
 use Rattle.words.specs.Tests.{◌<?◌, pick}
 use Rattle.numbers.specs.declared.Kind.{Kind}
 use Rattle.record_rules.specs.Trailers.{ending}
 use Rattle.record_rules.specs.declared.Trailer.{Trailer}
 use Rattle.record_writer.specs.declared.Facts.{Facts}
-use Rattle.record_writer.specs.declared.Room.{Room}
-use Rattle.record_writer.specs.declared.Room.TheVariants.{Lacks, Fits}
 
 -- n bytes into a buffer
-abbrev pub room_for : ℕ → ℕ → Room
-room_for n room = pick (room <? n) Lacks (Fits n)
+abbrev pub room_for : ℕ → ℕ → Option ℕ
+room_for n room = pick (room <? n) None (Some n)
 
 -- the facts of a trailer at the end of a record of a kind and a profile, in numbers
 abbrev pub facts_of : Kind → ℕ → Trailer → Facts

@@ -15,33 +15,24 @@ fn flag_fits(has: bool, flag: Flag) -> bool
 {
     match flag {
         Flag::Absent => !has,
-        Flag::Clear => has,
-        Flag::Set => has,
+        Flag::Clear | Flag::Set => has,
     }
 }
 
 // Each flag is given exactly where a record of n flags has it.
+#[tactic(auto, unfolding(record_rules::specs::Layout::flags_fit))]
 fn flags_fit(n: usize, f: Fields) -> bool
     ensures { result ≡ flags_fit n 0 (flags_of f) }
 {
-    let complete = f.complete;
-    flag_fits(0 < n, complete)
+    flag_fits(0 < n, f.complete)
 }
 
 // The values of a trailer fit their bits.
+#[tactic(auto, using(words::proofs::Tests::tests), unfolding(words::specs::Tests::all))]
 fn high_fits(t: High) -> bool
     ensures { result ≡ high_numbers_fit t }
 {
-    if 4 <= t.format {
-        return false;
-    }
-    if 8 <= t.luma {
-        return false;
-    }
-    if 8 <= t.chroma {
-        return false;
-    }
-    t.extensions < 256
+    t.format < 4 && t.luma < 8 && t.chroma < 8 && t.extensions < 256
 }
 
 // One row of what is known.
@@ -72,63 +63,33 @@ pub(crate) fn facts_of(k: Kind, profile: usize, trailer: Trailer) -> Facts
 }
 
 // The numbers fit their bits.
+#[tactic(auto, using(words::proofs::Tests::tests), unfolding(words::specs::Tests::all, record_rules::specs::Fields::numbers_fit))]
 fn numbers_fit(k: Kind, f: Fields) -> bool
     ensures { result ≡ numbers_fit k f }
 {
     let l = layouts::record_layout(k);
-    let shape = l.length_size;
-    let count = l.count;
-    if 256 <= f.profile {
-        return false;
-    }
-    if 256 <= f.compatibility {
-        return false;
-    }
-    if 256 <= f.level {
-        return false;
-    }
-    if !flags_fit(l.flags, f) {
-        return false;
-    }
-    if f.length_size <= 0 {
-        return false;
-    }
-    if shape.low < f.length_size {
-        return false;
-    }
-    if count.low <= f.sequences {
-        return false;
-    }
-    if 256 <= f.pictures {
-        return false;
-    }
-    let trailer = f.trailer;
-    let facts = facts_of(k, f.profile, trailer);
-    facts.fits
+    f.profile < 256
+        && f.compatibility < 256
+        && f.level < 256
+        && flags_fit(l.flags, f)
+        && 0 < f.length_size
+        && f.length_size <= l.length_size.low
+        && f.sequences < l.count.low
+        && f.pictures < 256
+        && facts_of(k, f.profile, f.trailer).fits
 }
 
 // Fields and sets fit a record.
+#[tactic(auto, using(words::proofs::Tests::tests, record_rules::proofs::Fits::fits_by_parts_lem), unfolding(words::specs::Tests::all, record_rules::specs::Parts::fits_by_parts))]
 pub(crate) fn fit(k: Kind, f: Fields, sequences: &[u8], pictures: &[u8], extensions: &[u8]) -> bool
     ensures { result ≡ fits k f sequences.now pictures.now extensions.now }
 {
-    if !numbers_fit(k, f) {
-        return false;
-    }
-    if f.length_size == layouts::BAD_SIZE {
-        return false;
-    }
     let l = layouts::record_layout(k);
-    let types = l.sequence;
-    if !sets::are_sets(types, sequences, f.sequences) {
-        return false;
-    }
-    if !sets::are_sets(layouts::PICTURE_TYPES, pictures, f.pictures) {
-        return false;
-    }
-    let trailer = f.trailer;
-    let facts = facts_of(k, f.profile, trailer);
-    if !facts.belongs {
-        return false;
-    }
-    sets::are_sets(layouts::EXTENSION_TYPES, extensions, facts.sets)
+    let facts = facts_of(k, f.profile, f.trailer);
+    numbers_fit(k, f)
+        && f.length_size != layouts::BAD_SIZE
+        && sets::are_sets(l.sequence, sequences, f.sequences)
+        && sets::are_sets(layouts::PICTURE_TYPES, pictures, f.pictures)
+        && facts.belongs
+        && sets::are_sets(layouts::EXTENSION_TYPES, extensions, facts.sets)
 }

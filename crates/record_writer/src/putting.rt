@@ -1,25 +1,13 @@
 // The bytes of a record, put into a buffer that has room.
 ghost use Rattle.std.specs.Prelude.{◌≡◌, true, [], ◌∷◌, ◌++◌, ◌+◌, ◌-◌, ◌≤◌, ◌<◌, length};
 ghost use Rattle.words.specs.Buffers.{write_at, put, overwrite};
-ghost use Rattle.record_rules.specs.Layout.{byte_of, bit};
+ghost use Rattle.record_rules.specs.Layout.{byte_of};
 ghost use Rattle.record_rules.specs.Trailers.{high_bytes, high_numbers_fit, ending};
 ghost use Rattle.record_rules.specs.Fields.{head_bytes, record_bytes, numbers_fit, fits};
 ghost use Rattle.record_writer.specs.Steps.{room_for};
 
-use crate::Room;
 use numbers::Kind;
-use record_rules::{Fields, Flag, High, Shape, Trailer, layouts};
-
-// A flag as a bit.
-fn bit_of(flag: Flag) -> u8
-    ensures { (result ≡ bit flag) × (result ≤ 1) }
-{
-    match flag {
-        Flag::Absent => 0,
-        Flag::Clear => 0,
-        Flag::Set => 1,
-    }
-}
+use record_rules::{Fields, High, Shape, Trailer, layouts};
 
 // The byte of a value, without flags.
 fn byte_of(h: Shape, v: usize) -> u8
@@ -35,12 +23,9 @@ fn head_bytes(k: Kind, f: Fields) -> [u8; 6]
     ensures { result ≡ head_bytes k f }
 {
     let l = layouts::record_layout(k);
-    let shape = l.length_size;
-    let count = l.count;
-    let complete = f.complete;
-    let less_one = byte_of(shape, f.length_size - 1);
-    let fifth = bit_of(complete) * layouts::COMPLETE + less_one;
-    let sixth = byte_of(count, f.sequences);
+    let less_one = byte_of(l.length_size, f.length_size - 1);
+    let fifth = f.complete.bit() * layouts::COMPLETE + less_one;
+    let sixth = byte_of(l.count, f.sequences);
     [
         layouts::VERSION,
         f.profile as u8,
@@ -52,6 +37,7 @@ fn head_bytes(k: Kind, f: Fields) -> [u8; 6]
 }
 
 // The four bytes of a trailer before its sets.
+#[tactic(auto, using(record_rules::proofs::Numbers::high_numbers, record_rules::proofs::Shapes::plain_below, record_rules::proofs::Shapes::sound_chroma, record_rules::proofs::Shapes::sound_depth))]
 fn high_bytes(t: High) -> [u8; 4]
     requires { high_numbers_fit t ≡ true }
     ensures { result ≡ high_bytes t }
@@ -69,22 +55,14 @@ pub(crate) fn room_for(
     sequences: usize,
     pictures: usize,
     extensions: usize,
-) -> Room
+) -> Option<usize>
     ensures { result ≡ room_for (head + sequences + pictures + extensions) room }
 {
-    if room < head {
-        return Room::Lacks;
-    }
-    if room - head < sequences {
-        return Room::Lacks;
-    }
-    if room - head - sequences < pictures {
-        return Room::Lacks;
-    }
-    if room - head - sequences - pictures < extensions {
-        return Room::Lacks;
-    }
-    Room::Fits(head + sequences + pictures + extensions)
+    let n = head
+        .checked_add(sequences)?
+        .checked_add(pictures)?
+        .checked_add(extensions)?;
+    (n <= room).then_some(n)
 }
 
 // The bytes of a trailer before its sets, at a place.
@@ -93,8 +71,7 @@ fn put_trailer(out: &mut [u8], at: usize, t: Trailer)
     ensures { out.new ≡ write_at out.old at (ending t).head }
 {
     match t {
-        Trailer::None => {}
-        Trailer::Absent => {}
+        Trailer::None | Trailer::Absent => {}
         Trailer::Present(high) => {
             let values = high_bytes(high);
             numbers::put_bytes(out, at, &values);
@@ -129,11 +106,10 @@ pub(crate) fn put_record(
         × (length (record_bytes k f sequences.now pictures.now extensions.now) ≤ length out.old) }
     ensures { out.new ≡ overwrite out.old (record_bytes k f sequences.now pictures.now extensions.now) }
 {
-    let trailer = f.trailer;
     let at = layouts::HEAD + sequences.len() + 1;
     let end = at + pictures.len();
     put_front(out, k, f, sequences);
     numbers::put_bytes(out, at, pictures);
-    put_trailer(out, end, trailer);
+    put_trailer(out, end, f.trailer);
     numbers::put_bytes(out, end + head, extensions);
 }

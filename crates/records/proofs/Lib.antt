@@ -1,4 +1,1 @@
--- Laws for the reader.
---
---   Walked       the steps of the reader
 pub mod Walked

@@ -1,6 +1,5 @@
 // The audit of a bundle as text.
 use crate::text;
-use audit::Audited;
 use audit_lines::Line;
 use numbers::SampleNumber;
 use std::io;
@@ -9,20 +8,15 @@ use tally::Tally;
 
 // The line of sample n, as `1 passed 1`, `3 empty` or `4 refused 26 at 0`.
 fn print_line<W: Write>(to: &mut W, n: usize, line: Line) -> io::Result<()> {
-    text::number(to, n)?;
     match line {
-        Line::Passed(units) => {
-            text::text(to, b" passed ")?;
-            text::number(to, units)?;
-            text::end(to)
-        }
-        Line::Empty => text::text(to, b" empty\n"),
+        Line::Passed(units) => writeln!(to, "{n} passed {units}"),
+        Line::Empty => writeln!(to, "{n} empty"),
         Line::Refused(r) => {
-            text::text(to, b" ")?;
+            write!(to, "{n} ")?;
             text::refusal(to, r)
         }
         // does not come: the lines are those of the audit
-        Line::NoLine => text::text(to, b" no line\n"),
+        Line::NoLine => writeln!(to, "{n} no line"),
     }
 }
 
@@ -33,10 +27,7 @@ fn print_lines<W: Write>(
     t: &[u64; tables::TABLE_SIZE],
     lines: &[u8; audit_buffers::LINES_SIZE],
 ) -> io::Result<()> {
-    let total = sample_tables::sample_count(t);
-    let mut n: usize = 0;
-    while n < total {
-        n += 1;
+    for n in 1..=sample_tables::sample_count(t) {
         let x = sample_tables::sample_bytes(b, t, SampleNumber(n));
         print_line(to, n, audit_lines::line_of(lines, SampleNumber(n), x.len()))?;
     }
@@ -45,13 +36,11 @@ fn print_lines<W: Write>(
 
 // The last line.
 fn print_tally<W: Write>(to: &mut W, tally: Tally) -> io::Result<()> {
-    text::text(to, b"passed ")?;
-    text::number(to, tally.passed as usize)?;
-    text::text(to, b" empty ")?;
-    text::number(to, tally.empty as usize)?;
-    text::text(to, b" refused ")?;
-    text::number(to, tally.refused as usize)?;
-    text::end(to)
+    writeln!(
+        to,
+        "passed {} empty {} refused {}",
+        tally.passed, tally.empty, tally.refused
+    )
 }
 
 // The lines of an audited bundle.
@@ -68,10 +57,9 @@ fn print_samples<W: Write>(
 // Prints the audit of a bundle: a line a sample and a line with the tally, or one line where the bundle is refused.
 pub fn print_audit<W: Write>(to: &mut W, b: &[u8]) -> io::Result<()> {
     let mut lines = [0u8; audit_buffers::LINES_SIZE];
-    let audited = audit_buffers::audit_whole(b, &mut lines);
-    match audited {
-        Audited::Refused(r) => text::refused(to, r),
-        Audited::Done(report) => {
+    match audit_buffers::audit_whole(b, &mut lines) {
+        Err(r) => text::refused(to, r),
+        Ok(report) => {
             print_samples(to, b, &lines)?;
             print_tally(to, report.tally)
         }

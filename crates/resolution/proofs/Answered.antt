@@ -4,6 +4,7 @@
 --   call_filled                                      by a table that was filled
 --   stream_refused, stream_filled                    a sample as a byte stream: by what is judged; by a table that was filled
 --   size_refused, -short, -written, size_good        by how long it is judged to be, and what is known then
+use Rattle.std.specs.Prelude.{Ok}
 use Prim.Native.Nat.{ℕ, ◌≤◌, ◌<◌}
 use mathlib.Core.Path.{◌≡◌, refl, ap, sym}
 use mathlib.Core.List.{List}
@@ -19,7 +20,6 @@ use Rattle.bundles.specs.Recordings.{Recording, sample_count}
 use Rattle.bundles.specs.Readers.{first_layout}
 use Rattle.tables.specs.Tables.{recording_in}
 use Rattle.filling.specs.Filling.{filling, table_after}
-use Rattle.filling.specs.declared.Filled.TheVariants.{Done}
 use Rattle.filling.proofs.Promises.{table_accepted, table_means}
 use Rattle.resolution_rules.specs.Resolving.{delivered, judged}
 use Rattle.resolution_rules.specs.Calls.{bytes_of, output, number_fault, resolve, stream, resolve_call, stream_call}
@@ -44,7 +44,7 @@ module _ (r : Recording) (n room : ℕ) (g : number_fault (sample_count r.layout
   sample_resolved e h = rw (g, e) (within_room room (output r (delivered r n)) h)
 
 -- by the table that was filled
-pub call_filled : (b t : List ℕ) → filling first_layout b (length t) ≡ Done → {s : List ℕ} → s ≡ table_after first_layout b t → (n room : ℕ) → within room (resolve (recording_in b s) n) ≡ resolve_call first_layout b n room
+pub call_filled : (b t : List ℕ) → filling first_layout b (length t) ≡ (Ok tt) → {s : List ℕ} → s ≡ table_after first_layout b t → (n room : ℕ) → within room (resolve (recording_in b s) n) ≡ resolve_call first_layout b n room
 call_filled b t done f n room = rw (f, table_means b t done) (sym (call_means first_layout b n room (table_accepted b t done)))
 
 -- a byte stream
@@ -84,5 +84,5 @@ module _ (r : Recording) (n : ℕ) where
       unfolding stream
       size_written h = let w = size_good e in rw (g, j, w.0) (within_room room Stream (rw w.1 at h))
 
-pub stream_filled : (b t : List ℕ) → filling first_layout b (length t) ≡ Done → {s : List ℕ} → s ≡ table_after first_layout b t → (n room : ℕ) → within room (stream (recording_in b s) n) ≡ stream_call first_layout b n room
+pub stream_filled : (b t : List ℕ) → filling first_layout b (length t) ≡ (Ok tt) → {s : List ℕ} → s ≡ table_after first_layout b t → (n room : ℕ) → within room (stream (recording_in b s) n) ≡ stream_call first_layout b n room
 stream_filled b t done f n room = rw (f, table_means b t done) (sym (stream_means first_layout b n room (table_accepted b t done)))

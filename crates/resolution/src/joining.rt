@@ -10,7 +10,6 @@ ghost use Rattle.verdicts.specs.Kept.{judgement_word, JudgedBetween};
 
 use crate::writing::{Framing, write_units_from};
 use numbers::SampleNumber;
-use verdicts::KeptVerdict;
 
 // What sample n gives, by the judgement kept beside it, over a buffer that has room, from a place on; the place after it. A refused sample
 // gives nothing.
@@ -23,8 +22,8 @@ fn write_sample(out: &mut [u8], from: usize, b: &[u8], t: &[u64], n: SampleNumbe
 {
     let judged = verdicts::kept_verdict(t, n);
     match judged {
-        KeptVerdict::Refused(_) => from,
-        KeptVerdict::Units(_) => {
+        Err(_) => from,
+        Ok(_) => {
             let k = delivery::track_of(t, n);
             let x = sample_tables::sample_bytes(b, t, n);
             write_units_from(out, from, b, t, Framing::Lengths, n, k, x)
@@ -38,10 +37,8 @@ pub(crate) fn write_samples(out: &mut [u8], b: &[u8], t: &[u64], first: usize, l
         × (length (joined (recording_in b.now t.now) (between first last)) ≤ length out.old) }
     ensures { out.new ≡ overwrite out.old (joined (recording_in b.now t.now) (between first last)) }
 {
-    let mut at: usize = 0;
-    let mut n = first - 1;
-    while n < last {
-        n += 1;
-        at = write_sample(out, at, b, t, SampleNumber(n));
+    let mut at = 0;
+    for n in first - 1..last {
+        at = write_sample(out, at, b, t, SampleNumber(n + 1));
     }
 }

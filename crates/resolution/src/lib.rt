@@ -13,33 +13,26 @@ ghost use Rattle.resolution_rules.specs.Calls.{resolve_call, stream_call};
 ghost use Rattle.verdicts.specs.Kept.{with_range};
 ghost use Rattle.resolution.specs.Ranges.{resolve_range_in};
 
-use filling::Filled;
-use numbers::{SampleNumber, Written, refusals};
+use numbers::{Fault, Refusal, SampleNumber};
 
 // A sample resolved: 1 to 13, 30, 14 to 28, 29; or each delivered unit after a 4-byte length, over the start of the buffer, and how many
 // bytes that is. After a refusal the buffer is as it was.
-pub fn resolve(b: &[u8], n: SampleNumber, out: &mut [u8]) -> Written
+pub fn resolve(b: &[u8], n: SampleNumber, out: &mut [u8]) -> Result<usize, Refusal>
     ensures { Wrote out.old out.new (answer_of result) (resolve_call first_layout b.now n.0 (length out.old)) }
 {
     let mut t = [0u64; tables::TABLE_SIZE];
-    let filled = filling::fill_table(b, &mut t);
-    match filled {
-        Filled::Refused(f) => Written::Refused(f),
-        Filled::Done => writing::resolve_sample(b, &t, n, out),
-    }
+    filling::fill_table(b, &mut t)?;
+    writing::resolve_sample(b, &t, n, out)
 }
 
 // A sample as a byte stream: 1 to 13, 30, 14 to 28, 32, 29; or each delivered unit after 00 00 00 01, over the start of the buffer, and how
 // many bytes that is. After a refusal the buffer is as it was.
-pub fn stream(b: &[u8], n: SampleNumber, out: &mut [u8]) -> Written
+pub fn stream(b: &[u8], n: SampleNumber, out: &mut [u8]) -> Result<usize, Refusal>
     ensures { Wrote out.old out.new (answer_of result) (stream_call first_layout b.now n.0 (length out.old)) }
 {
     let mut t = [0u64; tables::TABLE_SIZE];
-    let filled = filling::fill_table(b, &mut t);
-    match filled {
-        Filled::Refused(f) => Written::Refused(f),
-        Filled::Done => streaming::stream_sample(b, &t, n, out),
-    }
+    filling::fill_table(b, &mut t)?;
+    streaming::stream_sample(b, &t, n, out)
 }
 
 // Samples first to last resolved one after the other, by a bundle and any table beside it: 30, 29; or what they give, joined over the start of
@@ -52,19 +45,14 @@ pub fn resolve_range(
     first: SampleNumber,
     last: SampleNumber,
     out: &mut [u8],
-) -> Written
+) -> Result<usize, Refusal>
     ensures { Wrote out.old out.new (answer_of result) (within (length out.old) (resolve_range_in b.now t.old first.0 last.0))
         × (t.new ≡ with_range b.now t.old first.0 last.0) }
 {
-    let judged = verdicts::judge_range(b, t, first, last);
-    match judged {
-        Written::Refused(f) => Written::Refused(f),
-        Written::Count(size) => {
-            if out.len() < size {
-                return writing::refused(refusals::OUTPUT_TOO_LONG);
-            }
-            joining::write_samples(out, b, t, first.0, last.0);
-            Written::Count(size)
-        }
+    let size = verdicts::judge_range(b, t, first, last)?;
+    if out.len() < size {
+        return Err(Refusal::at(Fault::OutputTooLong, 0));
     }
+    joining::write_samples(out, b, t, first.0, last.0);
+    Ok(size)
 }

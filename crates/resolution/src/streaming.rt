@@ -13,10 +13,9 @@ ghost use Rattle.resolution_rules.specs.Calls.{span_bytes, stream};
 ghost use Rattle.delivery.specs.Deliveries.{span_for};
 ghost use Rattle.resolution.specs.Streams.{stream_size};
 
-use crate::writing::{Framing, refused, write_units};
+use crate::writing::{Framing, write_units};
 use delivery::{Span, Stepped};
-use judging::Judged;
-use numbers::{ByteOffset, Refusal, SampleNumber, Written, refusals};
+use numbers::{Fault, Refusal, SampleNumber};
 use units::Track;
 
 // Whether a delivered unit can stand in a byte stream. It is searched where it stands.
@@ -31,7 +30,7 @@ fn is_streamable(b: &[u8], t: &[u64], u: Span) -> bool
 }
 
 // 32 of the first unit that can stand in no byte stream, of what sample n delivers, which is x and good; or how long its stream is.
-fn judge_units(b: &[u8], t: &[u64], n: SampleNumber, k: Track, x: &[u8]) -> Written
+fn judge_units(b: &[u8], t: &[u64], n: SampleNumber, k: Track, x: &[u8]) -> Result<usize, Refusal>
     requires { (sample k x.now ≡ sample_of (recording_in b.now t.now) n.0) × (judged (recording_in b.now t.now) n.0 ≡ ok tt) × (length b.now ≤ bundle_most) }
     ensures { answer_of result ≡ stream_size (recording_in b.now t.now) n.0 }
 {
@@ -41,17 +40,14 @@ fn judge_units(b: &[u8], t: &[u64], n: SampleNumber, k: Track, x: &[u8]) -> Writ
         let s = delivery::step(b, t, n, k, x, c);
         match s {
             Stepped::Done => {
-                return Written::Count(size);
+                return Ok(size);
             }
             Stepped::Moved(d) => {
                 c = d;
             }
             Stepped::Unit(u, d) => {
                 if !is_streamable(b, t, u.span) {
-                    return Written::Refused(Refusal {
-                        number: refusals::UNIT_NOT_STREAMABLE,
-                        place: ByteOffset(size),
-                    });
+                    return Err(Refusal::at(Fault::UnitNotStreamable, size));
                 }
                 size += copies::LENGTH_BEFORE + u.span.size;
                 c = d;
@@ -61,28 +57,23 @@ fn judge_units(b: &[u8], t: &[u64], n: SampleNumber, k: Track, x: &[u8]) -> Writ
 }
 
 // Sample n as a byte stream: 30, 14 to 28, 32, 29, or what it delivers over the start of the buffer.
-pub(crate) fn stream_sample(b: &[u8], t: &[u64], n: SampleNumber, out: &mut [u8]) -> Written
+pub(crate) fn stream_sample(
+    b: &[u8],
+    t: &[u64],
+    n: SampleNumber,
+    out: &mut [u8],
+) -> Result<usize, Refusal>
     requires { length b.now ≤ bundle_most }
     ensures { Wrote out.old out.new (answer_of result)
         (within (length out.old) (stream (recording_in b.now t.now) n.0)) }
 {
-    let judged = verdicts::judge(b, t, n);
-    match judged {
-        Judged::Refused(f) => Written::Refused(f),
-        Judged::Good(_) => {
-            let k = delivery::track_of(t, n);
-            let x = sample_tables::sample_bytes(b, t, n);
-            let length = judge_units(b, t, n, k, x);
-            match length {
-                Written::Refused(f) => Written::Refused(f),
-                Written::Count(size) => {
-                    if out.len() < size {
-                        return refused(refusals::OUTPUT_TOO_LONG);
-                    }
-                    write_units(out, b, t, Framing::StartCodes, n, k, x);
-                    Written::Count(size)
-                }
-            }
-        }
+    let _ = verdicts::judge(b, t, n)?;
+    let k = delivery::track_of(t, n);
+    let x = sample_tables::sample_bytes(b, t, n);
+    let size = judge_units(b, t, n, k, x)?;
+    if out.len() < size {
+        return Err(Refusal::at(Fault::OutputTooLong, 0));
     }
+    write_units(out, b, t, Framing::StartCodes, n, k, x);
+    Ok(size)
 }

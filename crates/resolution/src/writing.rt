@@ -13,8 +13,7 @@ ghost use Rattle.delivery.specs.Deliveries.{span_for};
 ghost use Rattle.resolution.specs.Framing.{front_of, framed_unit, framed};
 
 use delivery::{Span, Stepped};
-use judging::Judged;
-use numbers::{ByteOffset, Refusal, SampleNumber, Written, refusals};
+use numbers::{Fault, Refusal, SampleNumber};
 use units::Track;
 
 // What stands in the 4 bytes before each unit: its length, or a start code.
@@ -101,34 +100,24 @@ pub(crate) fn write_units(
     write_units_from(out, 0, b, t, f, n, k, x);
 }
 
-// A refusal at 0.
-pub(crate) fn refused(number: u8) -> Written
-    ensures { answer_of result ≡ refused number 0 }
-{
-    Written::Refused(Refusal {
-        number: number,
-        place: ByteOffset(0),
-    })
-}
-
 // Sample n resolved: 30, 14 to 28, 29, or what it delivers over the start of the buffer.
-pub(crate) fn resolve_sample(b: &[u8], t: &[u64], n: SampleNumber, out: &mut [u8]) -> Written
+pub(crate) fn resolve_sample(
+    b: &[u8],
+    t: &[u64],
+    n: SampleNumber,
+    out: &mut [u8],
+) -> Result<usize, Refusal>
     requires { length b.now ≤ bundle_most }
     ensures { Wrote out.old out.new (answer_of result)
         (within (length out.old) (resolve (recording_in b.now t.now) n.0)) }
 {
-    let judged = verdicts::judge(b, t, n);
-    match judged {
-        Judged::Refused(f) => Written::Refused(f),
-        Judged::Good(a) => {
-            let size = a.own_bytes + a.copied_bytes + copies::LENGTH_BEFORE * a.count;
-            if out.len() < size {
-                return refused(refusals::OUTPUT_TOO_LONG);
-            }
-            let k = delivery::track_of(t, n);
-            let x = sample_tables::sample_bytes(b, t, n);
-            write_units(out, b, t, Framing::Lengths, n, k, x);
-            Written::Count(size)
-        }
+    let a = verdicts::judge(b, t, n)?;
+    let size = a.own_bytes + a.copied_bytes + copies::LENGTH_BEFORE * a.count;
+    if out.len() < size {
+        return Err(Refusal::at(Fault::OutputTooLong, 0));
     }
+    let k = delivery::track_of(t, n);
+    let x = sample_tables::sample_bytes(b, t, n);
+    write_units(out, b, t, Framing::Lengths, n, k, x);
+    Ok(size)
 }

@@ -7,6 +7,7 @@
 --   alone_kind, alone_size, alone_known                                     a sample outside a bundle
 --   numbered_bad, numbered_short, names_refused, names_done, numbered_done  a sample of a recording
 --   call_bundle, call_filled                                                the call on a bundle
+use Rattle.std.specs.Prelude.{None, Ok, Some}
 use Prim.Native.Nat.{ℕ, ◌+◌, ◌≤◌, ◌<◌}
 use mathlib.Core.Path.{◌≡◌, refl, ap, ap₂, sym, ◌∙◌, subst}
 use mathlib.Core.List.{List, [], ◌∷◌, ◌++◌, append-nil}
@@ -28,8 +29,6 @@ use Rattle.numbers.specs.Kinds.{kind_of}
 use Rattle.numbers.specs.Sizes.{length_size_of}
 use Rattle.numbers.specs.declared.Kind.{Kind}
 use Rattle.numbers.specs.declared.LengthSize.{LengthSize}
-use Rattle.numbers.specs.declared.MaybeKind.TheVariants as kinds
-use Rattle.numbers.specs.declared.MaybeLengthSize.TheVariants as length_sizes
 use Rattle.units.specs.Units.{Sample, sample, end, top_units}
 use Rattle.units.specs.declared.Track.{Track}
 use Rattle.samples.specs.Check.{top_verdict}
@@ -38,7 +37,6 @@ use Rattle.bundles.specs.Recordings.{Recording, sample_count}
 use Rattle.bundles.specs.Readers.{Reader, first_layout}
 use Rattle.tables.specs.Tables.{recording_in}
 use Rattle.filling.specs.Filling.{filling, table_after}
-use Rattle.filling.specs.declared.Filled.TheVariants.{Done}
 use Rattle.filling.proofs.Promises.{table_accepted, table_means}
 use Rattle.resolution_rules.specs.Resolving.{sample_of}
 use Rattle.resolution_rules.specs.Calls.{number_fault}
@@ -147,15 +145,15 @@ module _ (x : Sample) (o c : List ℕ) where
 
 -- a sample outside a bundle
 module _ (kind l : ℕ) (s : List ℕ) (room croom : ℕ) where
-  pub alone_kind : kind_of kind ≡ kinds.Unknown → salvage_alone kind l s room croom ≡ refused unknown_kind 0
+  pub alone_kind : kind_of kind ≡ None → salvage_alone kind l s room croom ≡ refused unknown_kind 0
   unfolding salvage_alone
   alone_kind e = rw e
 
-  pub alone_size : {k : Kind} → kind_of kind ≡ kinds.Known k → length_size_of l ≡ length_sizes.Unknown → salvage_alone kind l s room croom ≡ refused bad_length_size 0
+  pub alone_size : {k : Kind} → kind_of kind ≡ Some k → length_size_of l ≡ None → salvage_alone kind l s room croom ≡ refused bad_length_size 0
   unfolding salvage_alone
   alone_size e f = rw (e, f)
 
-  pub alone_known : {k : Kind} {n : LengthSize} → kind_of kind ≡ kinds.Known k → length_size_of l ≡ length_sizes.Known n →
+  pub alone_known : {k : Kind} {n : LengthSize} → kind_of kind ≡ Some k → length_size_of l ≡ Some n →
       salvage_alone kind l s room croom ≡ within_all (room ∷ croom ∷ []) (salvage_of (record { kind = k; length_size = n; content = s }))
   unfolding salvage_alone
   alone_known e f = rw (e, f)
@@ -232,7 +230,7 @@ pub call_bundle : (reader : Reader) (b : List ℕ) {m p : ℕ} (n room croom nro
 unfolding salvage_call
 call_bundle reader b n room croom nroom e = rw e
 
-module _ (b t : List ℕ) (done : filling first_layout b (length t) ≡ Done) where
+module _ (b t : List ℕ) (done : filling first_layout b (length t) ≡ (Ok tt)) where
   pub call_filled : {u : List ℕ} → u ≡ table_after first_layout b t → (n room croom nroom : ℕ) →
       within_all (room ∷ croom ∷ nroom ∷ []) (salvage (recording_in b u) n) ≡ salvage_call first_layout b n room croom nroom
   unfolding salvage_call

@@ -5,7 +5,7 @@
 --   list_size f               how many bytes are listed of it
 --   new_from, list_from y p   what is left, and listed, of the units from p on
 --   counts_of, all_counts_of  the code's answers in these words
-use Rattle.std.specs.Prelude.{ℕ, ◌≡◌, List, [], ◌∷◌, true}
+use Rattle.std.specs.Prelude.{ℕ, ◌≡◌, List, [], ◌∷◌, true, Err, Ok, Result}
 use Rattle.words.specs.Refusals.{Answer, refused, ok}
 use Rattle.words.specs.Lists.{has, each}
 use Rattle.units.specs.Units.{Sample, end, places, top_units}
@@ -13,10 +13,9 @@ use Rattle.samples.specs.Check.{top_verdict}
 use Rattle.salvage_rules.specs.declared.Fate.{Fate}
 use Rattle.salvage_rules.specs.declared.Fate.TheVariants.{Kept, Dropped, Zeroed}
 use Rattle.salvage_rules.specs.Salvage.{new_bytes, change_at, change_size, change_list_bytes}
-use Rattle.salvage.specs.declared.SalvagedSample.{SalvagedSample}
-use Rattle.salvage.specs.declared.SalvagedSample.TheVariants as sample
-use Rattle.salvage.specs.declared.Salvaged.{Salvaged}
-use Rattle.salvage.specs.declared.Salvaged.TheVariants as numbered
+use Rattle.salvage.specs.declared.Counts.{Counts}
+use Rattle.numbers.specs.declared.Refusal.{Refusal}
+use Rattle.salvage.specs.declared.AllCounts.{AllCounts}
 
 abbrev pub TopUnit : Sample → ℕ → Type 0
 TopUnit y p = (top_verdict y ≡ ok tt) × (has p (top_units y) ≡ true)
@@ -37,10 +36,10 @@ new_from y p = each (new_bytes y) (places y p (end y))
 unfoldable pub list_from : Sample → ℕ → List ℕ
 list_from y p = change_list_bytes (each (change_at y) (places y p (end y)))
 
-abbrev pub counts_of : SalvagedSample → Answer (List ℕ)
-counts_of (sample.Refused f) = refused f.number f.place.0
-counts_of (sample.Done c) = ok (c.sample ∷ c.changes ∷ [])
+abbrev pub counts_of : Result Counts Refusal → Answer (List ℕ)
+counts_of (Err f) = refused f.number f.place.0
+counts_of (Ok c) = ok (c.sample ∷ c.changes ∷ [])
 
-abbrev pub all_counts_of : Salvaged → Answer (List ℕ)
-all_counts_of (numbered.Refused f) = refused f.number f.place.0
-all_counts_of (numbered.Done c) = ok (c.sample ∷ c.changes ∷ c.names ∷ [])
+abbrev pub all_counts_of : Result AllCounts Refusal → Answer (List ℕ)
+all_counts_of (Err f) = refused f.number f.place.0
+all_counts_of (Ok c) = ok (c.sample ∷ c.changes ∷ c.names ∷ [])

@@ -21,7 +21,7 @@ fn has_fault_inside(k: Track, y: &[u8], at: usize) -> bool
     let mut q = at + n + LengthSize::HEADER + n;
     while q < end {
         let u = units::judge_included(k, y, ByteOffset(q), ByteOffset(end));
-        if u.fault != 0 {
+        if u.verdict.is_err() {
             return true;
         }
         q = q + n + u.size;
@@ -49,7 +49,7 @@ fn loses_cover(k: Track, y: &[u8], at: usize) -> bool
         if units::type_at(k, y, ByteOffset(q)) == units::AGGREGATOR {
             return true;
         }
-        if units::extractor_fault(k, y, ByteOffset(q)) != 0 {
+        if units::extractor_fault(k, y, ByteOffset(q)).is_err() {
             return true;
         }
         q = q + n + l.number(y, q);
@@ -63,7 +63,7 @@ pub(crate) fn fate_of(k: Track, y: &[u8], at: usize) -> Fate
     ensures { result ≡ fate (sample k y.now) at }
 {
     if units::type_at(k, y, ByteOffset(at)) != units::AGGREGATOR {
-        if units::extractor_fault(k, y, ByteOffset(at)) != 0 {
+        if units::extractor_fault(k, y, ByteOffset(at)).is_err() {
             return Fate::Dropped;
         }
         return Fate::Kept;

@@ -14,11 +14,7 @@ ghost use Rattle.tables.specs.Tables.{table_most, recording_in};
 ghost use Rattle.salvage_rules.specs.Calls.{salvage_of, salvage_alone, salvage, salvage_call};
 ghost use Rattle.salvage.specs.Steps.{counts_of, all_counts_of};
 
-use filling::Filled;
-use numbers::{
-    ByteOffset, Kind, LengthSize, MaybeKind, MaybeLengthSize, Refusal, SampleNumber, Written,
-    refusals,
-};
+use numbers::{Fault, Kind, LengthSize, Refusal, SampleNumber};
 use units::Track;
 
 // How many bytes of the new sample and of the list of changes are written.
@@ -26,12 +22,6 @@ use units::Track;
 pub struct Counts {
     pub sample: usize,
     pub changes: usize,
-}
-
-#[derive(Clone, Copy)]
-pub enum SalvagedSample {
-    Refused(Refusal),
-    Done(Counts),
 }
 
 // The same, and how many bytes of the naming list.
@@ -42,51 +32,26 @@ pub struct AllCounts {
     pub names: usize,
 }
 
-#[derive(Clone, Copy)]
-pub enum Salvaged {
-    Refused(Refusal),
-    Done(AllCounts),
-}
-
 // The most bytes of a sample whose places the list's 4 bytes can say.
 const LISTABLE_MOST: usize = 4294967296;
 
-// A refusal at 0.
-fn sample_refused(number: u8) -> SalvagedSample
-    ensures { counts_of result ≡ refused number 0 }
-{
-    SalvagedSample::Refused(Refusal {
-        number: number,
-        place: ByteOffset(0),
-    })
-}
-
-fn all_refused(number: u8) -> Salvaged
-    ensures { all_counts_of result ≡ refused number 0 }
-{
-    Salvaged::Refused(Refusal {
-        number: number,
-        place: ByteOffset(0),
-    })
-}
-
 // A sample of a track: 29, or the new sample and the list, each over the start of its buffer.
-fn salvage_of(k: Track, s: &[u8], out: &mut [u8], changes: &mut [u8]) -> SalvagedSample
+fn salvage_of(k: Track, s: &[u8], out: &mut [u8], changes: &mut [u8]) -> Result<Counts, Refusal>
     ensures { WroteAll (out.old ∷ changes.old ∷ []) (out.new ∷ changes.new ∷ []) (counts_of result)
         (within_all (length out.old ∷ length changes.old ∷ []) (salvage_of (sample k s.now))) }
 {
     if LISTABLE_MOST < s.len() {
-        return sample_refused(refusals::OUTPUT_TOO_LONG);
+        return Err(Refusal::at(Fault::OutputTooLong, 0));
     }
     let plan = writing::plan_of(k, s);
     if out.len() < plan.sample {
-        return sample_refused(refusals::OUTPUT_TOO_LONG);
+        return Err(Refusal::at(Fault::OutputTooLong, 0));
     }
     if changes.len() < plan.changes {
-        return sample_refused(refusals::OUTPUT_TOO_LONG);
+        return Err(Refusal::at(Fault::OutputTooLong, 0));
     }
     writing::write(k, s, plan.fault, out, changes);
-    SalvagedSample::Done(Counts {
+    Ok(Counts {
         sample: plan.sample,
         changes: plan.changes,
     })
@@ -100,17 +65,17 @@ pub fn salvage_sample(
     s: &[u8],
     out: &mut [u8],
     changes: &mut [u8],
-) -> SalvagedSample
+) -> Result<Counts, Refusal>
     ensures { WroteAll (out.old ∷ changes.old ∷ []) (out.new ∷ changes.new ∷ []) (counts_of result)
         (salvage_alone kind length_size s.now (length out.old) (length changes.old)) }
 {
     let known_kind = Kind::from_number(kind);
     let known_size = LengthSize::from_number(length_size);
     match known_kind {
-        MaybeKind::Unknown => sample_refused(refusals::UNKNOWN_KIND),
-        MaybeKind::Known(k) => match known_size {
-            MaybeLengthSize::Unknown => sample_refused(refusals::BAD_LENGTH_SIZE),
-            MaybeLengthSize::Known(l) => salvage_of(
+        None => Err(Refusal::at(Fault::UnknownKind, 0)),
+        Some(k) => match known_size {
+            None => Err(Refusal::at(Fault::BadLengthSize, 0)),
+            Some(l) => salvage_of(
                 Track {
                     kind: k,
                     length_size: l,
@@ -132,38 +97,30 @@ fn salvage_numbered(
     out: &mut [u8],
     changes: &mut [u8],
     names: &mut [u8],
-) -> Salvaged
+) -> Result<AllCounts, Refusal>
     requires { (length b.now ≤ bundle_most) × (table_most ≤ length t.old) }
     ensures { WroteAll (out.old ∷ changes.old ∷ names.old ∷ []) (out.new ∷ changes.new ∷ names.new ∷ [])
         (all_counts_of result)
         (within_all (length out.old ∷ length changes.old ∷ length names.old ∷ [])
         (salvage (recording_in b.now t.old) n.0)) }
 {
-    let fault = judging::number_fault(sample_tables::sample_count(t), n.0);
-    if fault != 0 {
-        return all_refused(fault);
-    }
+    judging::check_number(sample_tables::sample_count(t), n.0)?;
     let k = delivery::track_of(t, n);
     let s = sample_tables::sample_bytes(b, t, n);
     let plan = writing::plan_of(k, s);
     if out.len() < plan.sample {
-        return all_refused(refusals::OUTPUT_TOO_LONG);
+        return Err(Refusal::at(Fault::OutputTooLong, 0));
     }
     if changes.len() < plan.changes {
-        return all_refused(refusals::OUTPUT_TOO_LONG);
+        return Err(Refusal::at(Fault::OutputTooLong, 0));
     }
-    let listed = naming_list::names_in(b, t, n, names);
-    match listed {
-        Written::Refused(f) => Salvaged::Refused(f),
-        Written::Count(size) => {
-            writing::write(k, s, plan.fault, out, changes);
-            Salvaged::Done(AllCounts {
-                sample: plan.sample,
-                changes: plan.changes,
-                names: size,
-            })
-        }
-    }
+    let size = naming_list::names_in(b, t, n, names)?;
+    writing::write(k, s, plan.fault, out, changes);
+    Ok(AllCounts {
+        sample: plan.sample,
+        changes: plan.changes,
+        names: size,
+    })
 }
 
 // Sample n of a bundle: 1 to 13, 30, then 29 if any of the three buffers lacks room; or the new sample, the list of changes and the naming list
@@ -174,15 +131,12 @@ pub fn salvage(
     out: &mut [u8],
     changes: &mut [u8],
     names: &mut [u8],
-) -> Salvaged
+) -> Result<AllCounts, Refusal>
     ensures { WroteAll (out.old ∷ changes.old ∷ names.old ∷ []) (out.new ∷ changes.new ∷ names.new ∷ [])
         (all_counts_of result)
         (salvage_call first_layout b.now n.0 (length out.old) (length changes.old) (length names.old)) }
 {
     let mut t = [0u64; tables::TABLE_SIZE];
-    let filled = filling::fill_table(b, &mut t);
-    match filled {
-        Filled::Refused(f) => Salvaged::Refused(f),
-        Filled::Done => salvage_numbered(b, &mut t, n, out, changes, names),
-    }
+    filling::fill_table(b, &mut t)?;
+    salvage_numbered(b, &mut t, n, out, changes, names)
 }

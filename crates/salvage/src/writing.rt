@@ -13,7 +13,6 @@ ghost use Rattle.salvage.specs.Steps.{TopUnit, left_size, list_size, list_from};
 use crate::fates;
 use numbers::{LengthSize, PLACE_SIZE};
 use salvage_rules::Fate;
-use samples::Checked;
 use units::Track;
 
 // The changes that are listed: 1 byte, then the place.
@@ -89,8 +88,8 @@ fn first_fault(k: Track, s: &[u8]) -> usize
 {
     let top = samples::check_top(k, s);
     match top {
-        Checked::WellFormed => s.len(),
-        Checked::Refused(r) => {
+        Ok(()) => s.len(),
+        Err(r) => {
             let p = r.place;
             p.0
         }
@@ -117,7 +116,7 @@ pub(crate) fn plan_of(k: Track, s: &[u8]) -> Plan
     let m = measure(k, &s[..fault]);
     let listed = m.changes + tail_size(fault, s.len());
     Plan {
-        fault: fault,
+        fault,
         sample: m.sample,
         changes: listed,
     }

@@ -1,8 +1,9 @@
 -- What a table says of a sample, by the numbers of its row, also where there is no such sample. Assumes nothing.
 --
---   by_number      a sample with number 0, one past the last, or one that there is
---   time_cell      its decode time
---   content_cells  its bytes
+--   by_number                         a sample with number 0, one past the last, or one that there is
+--   cell_none, cell_past, cell_here   a number of its row
+--   time_cell                         its decode time
+--   content_cells                     its bytes
 use Prim.Native.Nat.{ℕ, ◌≤◌, ◌<◌}
 use mathlib.Core.Path.{◌≡◌, ap, sym, ◌∙◌}
 use mathlib.Core.List.{List, []}
@@ -22,15 +23,15 @@ module _ (t : List ℕ) (n : ℕ) where
   by_number P f g h = by_bool (eqb n 0) (λ q. f (eqb-true n 0 q)) (λ q. by_bool (ltb (sample_total t) n)
       (λ r. g (ltb-true (sample_total t) n r)) (λ r. h (pos_of_ne-zero (eqb-false n 0 q)) (ltb-false (sample_total t) n r)))
 
-  cell_none : (column : ℕ) → n ≡ 0 → sample_cell t n column ≡ 0
+  pub cell_none : (column : ℕ) → n ≡ 0 → sample_cell t n column ≡ 0
   unfolding sample_cell
   cell_none column e = rw (eq-eqb n 0 e)
 
-  cell_past : (column : ℕ) → sample_total t < n → sample_cell t n column ≡ 0
+  pub cell_past : (column : ℕ) → sample_total t < n → sample_cell t n column ≡ 0
   unfolding sample_cell
   cell_past column h = by_bool (eqb n 0) (λ q. rw q) (λ q. rw (q, lt-ltb (sample_total t) n h))
 
-  cell_here : (column : ℕ) → 0 < n → n ≤ sample_total t → sample_cell t n column ≡ cell t (sample_row n) column
+  pub cell_here : (column : ℕ) → 0 < n → n ≤ sample_total t → sample_cell t n column ≡ cell t (sample_row n) column
   unfolding sample_cell
   cell_here column p h = rw (ne_eqb n 0 (λ e. omega arith), le-ltb (sample_total t) n h)
 

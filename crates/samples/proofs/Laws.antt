@@ -13,6 +13,7 @@
 --   extractor_step                                 the total step gives the extractors of a well-formed sample
 --   check_refusals                                 a refusal of the check is 14 to 22, at a place in the sample
 --   alone_refusals                                 outside a bundle it is 4 or 11 at 0 besides
+use Rattle.std.specs.Prelude.{None, Option, Some}
 use Prim.Native.Nat.{ℕ, ◌≤◌, ◌<◌}
 use mathlib.Core.Path.{◌≡◌, sym, ◌∙◌}
 use mathlib.Core.List.{List, [], Memᴰ}
@@ -28,14 +29,9 @@ use Rattle.words.proofs.Refusals.{and_ok, at_ok, at_none, first_ok, by_verdict, 
 use Rattle.words.proofs.Lists.{keep_from, Rising}
 use Rattle.numbers.specs.Kinds.{kind_of}
 use Rattle.numbers.specs.Sizes.{extractor_size, length_size_of}
-use Rattle.numbers.specs.declared.MaybeKind.{MaybeKind}
-use Rattle.numbers.specs.declared.MaybeKind.TheVariants as kinds
-use Rattle.numbers.specs.declared.MaybeLengthSize.{MaybeLengthSize}
-use Rattle.numbers.specs.declared.MaybeLengthSize.TheVariants as sizes
 use Rattle.units.specs.Units.{aggregator_type, extractor_type, Sample, end, size, type, next, is_aggregator, is_extractor, unit_fault, places_from, top_units, border}
 use Rattle.units.specs.Aggregators.{included_start, included, cover_end, cover_fault, units, extractors}
 use Rattle.units.specs.Steps.{extractor_of, extractor_at}
-use Rattle.units.specs.declared.MaybeExtractor.TheVariants as extractor
 use Rattle.units.specs.Rules.{Whole, Clear, Tiles}
 use Rattle.units.proofs.Units.{whole_end, whole_wider, whole_aggregator, extractor_size_lem, extractor_none, included_rules, included_none}
 use Rattle.units.proofs.Walks.{in_places, in_top, units_from, places_tile, border_past}
@@ -46,6 +42,8 @@ use Rattle.samples.specs.Check.{inside_verdict, cover_verdict, content_verdict, 
 use Rattle.samples.specs.Rules.{Rules, SampleRefusal, AloneRefusal}
 use Rattle.samples.proofs.Refusals.{unit_form, sample_refusal, content_refusal}
 use Rattle.samples.proofs.Walks.{top_judge, included_judge, top_whole, whole_top, content_ok, content_other}
+use Rattle.numbers.specs.declared.Kind.{Kind}
+use Rattle.numbers.specs.declared.LengthSize.{LengthSize}
 
 module _ (x : Sample) where
   -- both walks passed
@@ -136,7 +134,7 @@ module _ (x : Sample) where
     pub unit_inside : (p : ℕ) → Memᴰ p (units x) → (p < end x) × (next x p ≤ end x)
     unit_inside p m = whole_end x (end x) p (unit_whole p m)
 
-    pub extractor_step : (p : ℕ) → Memᴰ p (extractors x) → extractor_at x (end x) p ≡ extractor.Extractor (extractor_of x p)
+    pub extractor_step : (p : ℕ) → Memᴰ p (extractors x) → extractor_at x (end x) p ≡ Some (extractor_of x p)
     unfolding extractors
     extractor_step p m = let k = keep_from (is_extractor x) (units x) m in let f = found p k.0 in extractor_there x (end x) p f.0 k.1 (extractor_none x p f.1)
 
@@ -151,10 +149,10 @@ module _ (x : Sample) where
       sample_refusal x (unit_fault x (end x) w.0) w.0 (unit_form x (end x) w.0) (in_top x w.0 w.1) w.2)
       (λ v. let w = first_from (content_verdict x) (top_units x) (rw v at e) in content_refusal x (top_whole x v) w.0 n p w.1 w.2)
 
-refusal_of_lem : (k : MaybeKind) (l : MaybeLengthSize) (s : List ℕ) (n p : ℕ) → check_of k l s ≡ refused n p → AloneRefusal s n p
-refusal_of_lem kinds.Unknown l s n p e = let m : n ≡ unknown_kind = cc in inl (Memᴰ.head m, cc)
-refusal_of_lem (kinds.Known k) sizes.Unknown s n p e = let m : n ≡ bad_length_size = cc in inl (Memᴰ.tail (Memᴰ.head m), cc)
-refusal_of_lem (kinds.Known k) (sizes.Known l) s n p e = inr (check_refusals (record { kind = k; length_size = l; content = s }) n p e)
+refusal_of_lem : (k : Option Kind) (l : Option LengthSize) (s : List ℕ) (n p : ℕ) → check_of k l s ≡ refused n p → AloneRefusal s n p
+refusal_of_lem None l s n p e = let m : n ≡ unknown_kind = cc in inl (Memᴰ.head m, cc)
+refusal_of_lem (Some k) None s n p e = let m : n ≡ bad_length_size = cc in inl (Memᴰ.tail (Memᴰ.head m), cc)
+refusal_of_lem (Some k) (Some l) s n p e = inr (check_refusals (record { kind = k; length_size = l; content = s }) n p e)
 
 pub alone_refusals : (k l : ℕ) (s : List ℕ) (n p : ℕ) → check_alone k l s ≡ refused n p → AloneRefusal s n p
 alone_refusals k l s n p e = refusal_of_lem (kind_of k) (length_size_of l) s n p e

@@ -8,18 +8,17 @@
 --   check, well_formed    both walks; a sample without a fault is well formed
 --   check_alone           the check outside a bundle
 --   answer_of             the code's answer in these words
-use Rattle.std.specs.Prelude.{ℕ, List, Bool}
+use Rattle.std.specs.Prelude.{ℕ, List, Bool, Err, Ok, Option, Result}
 use Rattle.words.specs.Tests.{pick}
 use Rattle.words.specs.Refusals.{refused, ok, Verdict, ◌and_then◌, ◌at_place◌, first, passed}
 use Rattle.numbers.specs.Kinds.{kind_of, on_kind}
 use Rattle.numbers.specs.Sizes.{length_size_of, on_length_size}
-use Rattle.numbers.specs.declared.MaybeKind.{MaybeKind}
-use Rattle.numbers.specs.declared.MaybeLengthSize.{MaybeLengthSize}
 use Rattle.units.specs.Units.{Sample, end, next, is_aggregator, unit_fault, top_units}
 use Rattle.units.specs.Extractors.{extractor_fault}
 use Rattle.units.specs.Aggregators.{included, included_fault, cover_fault}
-use Rattle.samples.specs.declared.Checked.{Checked}
-use Rattle.samples.specs.declared.Checked.TheVariants.{WellFormed, Refused}
+use Rattle.numbers.specs.declared.Kind.{Kind}
+use Rattle.numbers.specs.declared.Refusal.{Refusal}
+use Rattle.numbers.specs.declared.LengthSize.{LengthSize}
 
 module _ (x : Sample) where
   -- The inside fault of a top-level unit: an aggregator's included units front to back, each its 14 to 20 and 22; an extractor's 22.
@@ -52,13 +51,13 @@ module _ (x : Sample) where
   well_formed = passed check
 
 -- Outside a bundle the kind and the length size come as numbers: 4 first, then 11, both at 0.
-abbrev pub check_of : MaybeKind → MaybeLengthSize → List ℕ → Verdict
+abbrev pub check_of : Option Kind → Option LengthSize → List ℕ → Verdict
 check_of kind length_size s =
     on_kind kind (λ k. on_length_size length_size (λ l. check (record { kind = k; length_size = l; content = s })))
 
 abbrev pub check_alone : ℕ → ℕ → List ℕ → Verdict
 check_alone kind l s = check_of (kind_of kind) (length_size_of l) s
 
-abbrev pub answer_of : Checked → Verdict
-answer_of WellFormed = ok tt
-answer_of (Refused r) = refused r.number r.place.0
+abbrev pub answer_of : Result (Unit {0}) Refusal → Verdict
+answer_of (Ok tt) = ok tt
+answer_of (Err r) = refused r.number r.place.0

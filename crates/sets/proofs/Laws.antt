@@ -3,16 +3,21 @@
 --   Whole, whole, no_fault                          what a set without a refusal has, both ways
 --   sets_none, sets_here, sets_on                   a walk at its end, at a refusal, and past a set without one
 --   sets_within                                     a walk without a refusal ends in the bytes
---   walk_refused, walk_ended, walk_fault, walk_end  what a walk answers
 --   sets_inside, sets_outside                       sets in a part are those sets in the whole, both ways
---   fit_sets, fit_true                              what `sets_fit` says
+--   fit_sets, fit_true, fit_walk                    what `sets_fit` says, and a walk of it
 use Prim.Native.Nat.{ℕ, zero, suc, ◌+◌, ◌-◌, ◌%◌, ◌≤◌, ◌<◌}
 use mathlib.Core.Path.{◌≡◌, refl, ap, sym, ◌∙◌}
-use mathlib.Core.Bool.{true}
+use mathlib.Core.Bool.{Bool, true}
 use mathlib.Core.List.{List, ◌++◌, map}
 use native.Mathlib.Omega.{arith}
 use native.Mathlib.Numerals.{sub-one}
 use native.Mathlib.Nat.{pos_of_ne-zero}
+use Rattle.std.specs.Prelude.{Result, Ok, Err}
+use Rattle.std.specs.Result.{IfOk, result_eq}
+use Rattle.numbers.specs.Faults.{number_of_fault, fault_in}
+use Rattle.numbers.specs.declared.refusals.Fault.{Fault}
+use Rattle.numbers.proofs.Faults.{fault_some}
+use lib.Dec.{eqb}
 use borrow.Author.Tests.{ltb-false, eqb-true, eqb-false, leb-false, not-false, lt-leb, le-ltb, eq-eqb, ne_eqb}
 use lib.ListN.{length, drop}
 use Rattle.words.specs.Tests.{◌<?◌, ◌≤?◌, ◌≡?◌}
@@ -25,7 +30,7 @@ use Rattle.words.proofs.Refusals.{if_none, or_else_none, or_else_here, first_of_
 use Rattle.words.proofs.Walks.{entries_end, entries_same, entries_shift, skip_shift}
 use Rattle.words.proofs.Positions.{at_append, at_inside}
 use Rattle.words.proofs.Bytes.{big_inside}
-use Rattle.sets.specs.Sets.{one_of, set_end, sets_end, exactly, set_fault, sets_fault, sets_fit, walk_of}
+use Rattle.sets.specs.Sets.{one_of, set_end, sets_end, exactly, set_fault, sets_fault, sets_fit}
 use Rattle.sets.specs.declared.SetTypes.{SetTypes}
 
 -- a set without a refusal
@@ -88,23 +93,6 @@ module _ (types : SetTypes) (s : List ℕ) where
       let b = sets_within n (set_end s p) w.inside a.1 in
       (omega arith, b.1)
 
-  pub walk_refused : (n p : ℕ) {r : ℕ} → r ≡ sets_fault types s n p → (r ≡ 0 → ⊥) → record { fault = r; end = 0 } ≡ walk_of types s n p
-  unfolding walk_of
-  walk_refused n p {r} e f = rw (← e, ne_eqb r 0 f)
-
-  pub walk_ended : (n p : ℕ) {q : ℕ} → sets_fault types s n p ≡ 0 → q ≡ sets_end s n p → record { fault = 0; end = q } ≡ walk_of types s n p
-  unfolding walk_of
-  walk_ended n p {q} e f = rw (e, f)
-
-  -- what a walk's answer says
-  pub walk_fault : (n p : ℕ) → (walk_of types s n p).fault ≡ sets_fault types s n p
-  unfolding walk_of
-  walk_fault n p = by_bool (sets_fault types s n p ≡? 0) (λ t. rw t (sym (eqb-true _ _ t))) (λ t. rw t)
-
-  pub walk_end : (n p : ℕ) → sets_fault types s n p ≡ 0 → (walk_of types s n p).end ≡ sets_end s n p
-  unfolding walk_of
-  walk_end n p e = rw e
-
 -- b stands in s at p
 module _ (types : SetTypes) (s : List ℕ) (p : ℕ) (b r : List ℕ) (h : p ≤ length s) (e : drop p s ≡ b ++ r) where
   -- the sets of s, counted from p on
@@ -159,3 +147,10 @@ fit_sets types s n e = let w = and_both (sets_fault types s n 0 ≡? 0) _ e in (
 pub fit_true : (types : SetTypes) (s : List ℕ) (n : ℕ) → sets_fault types s n 0 ≡ 0 → sets_end s n 0 ≡ length s → sets_fit types s n ≡ true
 unfolding sets_fit exactly
 fit_true types s n e f = rw (e, eq-eqb (sets_end s n 0) (length s) f)
+
+pub fit_walk :
+    (types : SetTypes) (s : List ℕ) (n : ℕ) (same : Fault → Fault → Bool) (r : Result ℕ Fault) → fault_in r ≡ sets_fault types s n 0 →
+    IfOk r (λ end. end ≡ sets_end s n 0) → result_eq eqb same r (Ok (length s)) ≡ sets_fit types s n
+unfolding sets_fit exactly
+fit_walk types s n same (Ok end) e i = rw (← e, i)
+fit_walk types s n same (Err f) e i = let p = fault_some f in rw (← e, ne_eqb (number_of_fault f) 0 (λ z. omega arith))

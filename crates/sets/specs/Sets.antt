@@ -10,16 +10,14 @@
 --   sets_fault types s n p the first refusal of n sets from p on
 --   exactly s n          s is n sets, cut by their lengths, and nothing else
 --   sets_fit types s n   the same, and none of them is refused
---   walk_of types s n p  what a walk over the sets answers
 use Rattle.std.specs.Prelude.{ℕ, ◌+◌, List, Bool, ◌||◌, ◌&&◌, not, length}
-use Rattle.words.specs.Tests.{◌<?◌, ◌≡?◌, pick}
+use Rattle.words.specs.Tests.{◌<?◌, ◌≡?◌}
 use Rattle.words.specs.RefusalNumbers.{record_cut, bad_set}
 use Rattle.words.specs.Refusals.{◌if◌, ◌or_else◌, first_of}
 use Rattle.words.specs.Walks.{entries, skip}
 use Rattle.words.specs.Bytes.{byte_at, big}
 use Rattle.numbers.specs.Headers.{forbidden_bit, nal_type}
 use Rattle.sets.specs.declared.SetTypes.{SetTypes}
-use Rattle.sets.specs.declared.Walk.{Walk}
 
 -- sequence, subset sequence and picture parameter sets, and sequence parameter set extensions
 abbrev pub sequence_set_type : ℕ
@@ -68,9 +66,3 @@ sets_fault types s n p = first_of (set_fault types s) (entries (set_end s) n p)
 
 unfoldable pub sets_fit : SetTypes → List ℕ → ℕ → Bool
 sets_fit types s n = (sets_fault types s n 0 ≡? 0) && exactly s n
-
-unfoldable pub walk_of : SetTypes → List ℕ → ℕ → ℕ → Walk
-walk_of types s n p =
-    pick (sets_fault types s n p ≡? 0)
-    (record { fault = 0; end = sets_end s n p })
-    (record { fault = sets_fault types s n p; end = 0 })

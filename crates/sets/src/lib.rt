@@ -1,10 +1,11 @@
 // Parameter sets as a configuration record holds them: each after its 2-byte length.
 #![tactic(auto)]
 
-ghost use Rattle.std.specs.Prelude.{◌≡◌, ◌≤◌, length};
-ghost use Rattle.sets.specs.Sets.{set_fault, walk_of, sets_fit};
+ghost use Rattle.std.specs.Prelude.{◌≡◌, IfOk};
+ghost use Rattle.numbers.specs.Faults.{fault_in};
+ghost use Rattle.sets.specs.Sets.{set_fault, sets_fault, sets_end, sets_fit};
 
-use numbers::refusals;
+use numbers::Fault;
 
 // The bytes of the length before a set.
 pub const SET_LENGTH_SIZE: usize = 2;
@@ -25,67 +26,46 @@ pub struct SetTypes {
     pub other: u8,
 }
 
-// A walk over sets: its first refusal, 0 for none, and where the sets end, 0 after a refusal.
-#[derive(Clone, Copy)]
-pub struct Walk {
-    pub fault: u8,
-    pub end: usize,
-}
-
-// The first refusal of the set at a place, or 0.
-fn set_fault(types: SetTypes, s: &[u8], at: usize) -> u8
-    ensures { result ≡ set_fault types s.now at }
+// The first refusal of the set at a place.
+#[tactic(auto, using(words::proofs::Tests::tests), unfolding(crate::specs::Sets::set_fault))]
+fn set_fault(types: SetTypes, s: &[u8], at: usize) -> Result<(), Fault>
+    ensures { fault_in result ≡ set_fault types s.now at }
 {
-    if s.len() < at {
-        return refusals::RECORD_CUT;
-    }
-    if s.len() - at < SET_LENGTH_SIZE {
-        return refusals::RECORD_CUT;
+    let left = s.len().saturating_sub(at);
+    if left < SET_LENGTH_SIZE {
+        return Err(Fault::RecordCut);
     }
     let n = numbers::number(s, at, SET_LENGTH_SIZE);
     if n == 0 {
-        return refusals::BAD_SET;
+        return Err(Fault::BadSet);
     }
-    if s.len() - at - SET_LENGTH_SIZE < n {
-        return refusals::RECORD_CUT;
+    if left - SET_LENGTH_SIZE < n {
+        return Err(Fault::RecordCut);
     }
     let h = s[at + SET_LENGTH_SIZE];
-    if numbers::FORBIDDEN_BIT <= h {
-        return refusals::BAD_SET;
+    let unit_type = h % numbers::NAL_TYPES;
+    if numbers::FORBIDDEN_BIT <= h || unit_type != types.one && unit_type != types.other {
+        return Err(Fault::BadSet);
     }
-    if h % numbers::NAL_TYPES == types.one {
-        return 0;
-    }
-    if h % numbers::NAL_TYPES == types.other {
-        return 0;
-    }
-    refusals::BAD_SET
+    Ok(())
 }
 
-// n sets from a place on.
-pub fn walk_sets(types: SetTypes, s: &[u8], n: usize, at: usize) -> Walk
-    ensures { result ≡ walk_of types s.now n at }
+// n sets from a place on: their first refusal, or where they end.
+pub fn walk_sets(types: SetTypes, s: &[u8], n: usize, at: usize) -> Result<usize, Fault>
+    ensures fault { fault_in result ≡ sets_fault types s.now n at }
+    ensures end { IfOk result (λ end. end ≡ sets_end s.now n at) }
 {
     let mut p = at;
-    let mut left = n;
-    while 0 < left {
-        let fault = set_fault(types, s, p);
-        if fault != 0 {
-            return Walk { fault, end: 0 };
-        }
+    for _ in 0..n {
+        set_fault(types, s, p)?;
         p = p + SET_LENGTH_SIZE + numbers::number(s, p, SET_LENGTH_SIZE);
-        left -= 1;
     }
-    Walk { fault: 0, end: p }
+    Ok(p)
 }
 
 // Whether the bytes are n sets and nothing else.
 pub fn are_sets(types: SetTypes, s: &[u8], n: usize) -> bool
     ensures { result ≡ sets_fit types s.now n }
 {
-    let w = walk_sets(types, s, n, 0);
-    if w.fault != 0 {
-        return false;
-    }
-    w.end == s.len()
+    walk_sets(types, s, n, 0) == Ok(s.len())
 }

@@ -3,25 +3,30 @@
 --   sized                                       the size of the sample of units that were read
 --   Measuring, measuring_start, -good, -end     what holds in the loop
 --   measuring_refused                           33 or 34 of a unit
---   sized_refused, sized_fits, sized_long       what is measured, by that size
+--   sized_refused, sized_fits, sized_long, -end what is measured, by that size
+use Rattle.std.specs.Prelude.{None, Option, Some}
+use Rattle.std.specs.Option.{ok_or}
 use Prim.Native.Nat.{ℕ, ◌+◌, ◌≤◌, ◌<◌}
 use mathlib.Core.Path.{◌≡◌, ap, ap₂, sym, ◌∙◌}
 use mathlib.Core.List.{List, map}
 use native.Mathlib.Omega.{arith}
 use native.Mathlib.Nat.{zero-add}
-use borrow.Author.Tests.{le-ltb}
+use borrow.Author.Tests.{le-ltb, ltb-true, ltb-false}
 use lib.ListN.{length}
 use Rattle.words.specs.RefusalNumbers.{output_too_long}
 use Rattle.words.specs.Refusals.{Answer, refused, ok, Verdict, ◌and_then◌}
 use Rattle.words.specs.Buffers.{within, counted}
 use Rattle.words.proofs.Refusals.{by_verdict, ok_refused, ok_same}
 use Rattle.words.proofs.Buffers.{within_room, within_not}
+use Rattle.words.specs.Tests.{◌<?◌}
+use Rattle.words.proofs.Tests.{by_bool}
+use Rattle.numbers.specs.Answers.{answer_of}
+use Rattle.numbers.specs.Faults.{refusal_at}
+use Rattle.numbers.specs.declared.refusals.Fault.TheVariants.{OutputTooLong}
 use Rattle.byte_streams.specs.Reading.{strip, unit_verdict, parts_verdict, units_in, sample_with, sample_made}
 use Rattle.byte_streams.specs.Places.{zeros_end}
 use Rattle.byte_streams.proofs.Samples.{sample_none}
 use Rattle.stream_reader.specs.Steps.{unit_from, next_from, parts_after, capped, add_to}
-use Rattle.stream_reader.specs.declared.Total.{Total}
-use Rattle.stream_reader.specs.declared.Total.TheVariants.{Size}
 use Rattle.stream_reader.proofs.Totals.{sample_size_lem, added_capped}
 use Rattle.stream_reader.proofs.Found.{next_inside, parts_none}
 use Rattle.stream_reader.proofs.Walks.{verdict_end, unit_refused, Step, step}
@@ -51,13 +56,13 @@ module _ (L : ℕ) (s : List ℕ) where
 
   -- the loop
   module _ (room : ℕ) where
-    pub record Measuring (t : Total) (p : ℕ) : Type 0 where
+    pub record Measuring (t : Option ℕ) (p : ℕ) : Type 0 where
       pub inside : p ≤ length s
       pub taken : ℕ
       pub total : t ≡ capped room taken
       pub left : rest p taken ≡ sized L (units_in L s)
 
-    pub measuring_start : (first : ℕ) → first ≡ zeros_end s 0 → Started s → Measuring (Size 0) first
+    pub measuring_start : (first : ℕ) → first ≡ zeros_end s 0 → Started s → Measuring (Some 0) first
     measuring_start first at g = let i = g.inside in record {
       inside = omega arith;
       taken = 0;
@@ -65,7 +70,7 @@ module _ (L : ℕ) (s : List ℕ) where
       left = sym (sized_after first) ∙ ap (sized L) (ap (units_after L s) at ∙ sym (g.units L));
     }
 
-    module _ (t : Total) (p : ℕ) (c : Measuring t p) where
+    module _ (t : Option ℕ) (p : ℕ) (c : Measuring t p) where
       pub measuring_end : length s ≤ p → sized L (units_in L s) ≡ ok c.taken
       measuring_end h =
           let z = ap (λ vs. length (sample_with L (map strip vs))) (parts_none s p h) ∙ ap length (sample_none L) in
@@ -120,3 +125,11 @@ module _ (L room : ℕ) where
   sized_long (ok us) {m} e h =
       let z : length (sample_with L us) ≡ m = ok_same e in
       sym (ap counted (within_not room (sample_with L us) (omega arith)))
+
+  -- by the total, at the end
+  pub sized_end :
+      (a : Answer (List (List ℕ))) (t : Option ℕ) {m : ℕ} → sized L a ≡ ok m → t ≡ capped room m →
+      answer_of (ok_or t (refusal_at OutputTooLong 0)) ≡ counted (within room (sample_made L a))
+  sized_end a t {m} e f = by_bool (room <? m)
+      (λ q. let g : t ≡ None = f ∙ rw q in rw g (sized_long a e (ltb-true room m q)))
+      (λ q. let g : t ≡ Some m = f ∙ rw q in rw g (sized_fits a e (ltb-false room m q)))

@@ -8,15 +8,13 @@
 --   judged_of          what the answer of `judge` says: the same
 --   capped room m      m as a total that there is room for, or too long
 --   add_to room t w n  a total with w and n bytes more
-use Rattle.std.specs.Prelude.{ℕ, ◌+◌, List, [], ◌∷◌, length, drop}
+use Rattle.std.specs.Prelude.{ℕ, ◌+◌, List, [], ◌∷◌, length, drop, None, Option, Some, Err, Ok, Result}
 use Rattle.words.specs.Tests.{◌<?◌, pick}
 use Rattle.words.specs.Refusals.{Answer, refused, ok, ◌and_then◌}
 use Rattle.byte_streams.specs.Reading.{split, strip, unit_verdict}
 use Rattle.byte_streams.specs.Places.{unit_stop, zeros_end}
-use Rattle.stream_reader.specs.declared.Total.{Total}
-use Rattle.stream_reader.specs.declared.Total.TheVariants.{Size, TooLong}
-use Rattle.stream_reader.specs.declared.units.Judged as judged
-use Rattle.stream_reader.specs.declared.units.Judged.TheVariants as judges
+use Rattle.numbers.specs.declared.Refusal.{Refusal}
+use Rattle.stream_reader.specs.declared.units.GoodUnit.{GoodUnit}
 
 unfoldable pub unit_from : List ℕ → ℕ → List ℕ
 unit_from s a = strip (split (drop a s)).before
@@ -30,13 +28,13 @@ parts_after s p = pick (p <? length s) ((split (drop (p + 1) s)).before ∷ (spl
 abbrev pub judgement : ℕ → List ℕ → ℕ → Answer (ℕ × ℕ)
 judgement L s a = unit_verdict L a (unit_from s a) and_then ok (length (unit_from s a), next_from s a)
 
-abbrev pub judged_of : judged.Judged → Answer (ℕ × ℕ)
-judged_of (judges.Refused f) = refused f.number f.place.0
-judged_of (judges.Unit size next) = ok (size, next)
+abbrev pub judged_of : Result GoodUnit Refusal → Answer (ℕ × ℕ)
+judged_of (Err f) = refused f.number f.place.0
+judged_of (Ok u) = ok (u.size, u.next)
 
-abbrev pub capped : ℕ → ℕ → Total
-capped room m = pick (room <? m) TooLong (Size m)
+abbrev pub capped : ℕ → ℕ → Option ℕ
+capped room m = pick (room <? m) None (Some m)
 
-abbrev pub add_to : ℕ → Total → ℕ → ℕ → Total
-add_to room (Size m) w n = capped room (m + w + n)
-add_to room TooLong w n = TooLong
+abbrev pub add_to : ℕ → Option ℕ → ℕ → ℕ → Option ℕ
+add_to room (Some m) w n = capped room (m + w + n)
+add_to room None w n = None

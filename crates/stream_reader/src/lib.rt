@@ -5,7 +5,6 @@ mod units;
 
 ghost use Rattle.std.specs.Prelude.{◌≡◌, ◌≤◌, map, length};
 ghost use Rattle.words.specs.Refusals.{ok};
-ghost use Rattle.words.specs.Refusals as answers;
 ghost use Rattle.words.specs.Bytes.{bytes};
 ghost use Rattle.words.specs.Buffers.{put, overwrite, counted, within, Wrote};
 ghost use Rattle.numbers.specs.Sizes.{in_bytes};
@@ -14,87 +13,42 @@ ghost use Rattle.byte_streams.specs.Reading.{strip, units_in, sample_with, sampl
 ghost use Rattle.byte_streams.specs.Places.{zeros_end};
 ghost use Rattle.stream_reader.specs.Steps.{parts_after, add_to};
 
-use numbers::{ByteOffset, LengthSize, MaybeLengthSize, Refusal, Written, refusals};
-use units::Judged;
-
-// How much a sample takes: a size that there is room for, or more.
-#[derive(Clone, Copy)]
-enum Total {
-    Size(usize),
-    TooLong,
-}
-
-// A refusal at a place.
-fn refused(number: u8, place: usize) -> Written
-    ensures { answer_of result ≡ answers.refused number place }
-{
-    Written::Refused(Refusal {
-        number: number,
-        place: ByteOffset(place),
-    })
-}
+use numbers::{Fault, LengthSize, Refusal};
 
 // A total with w and n bytes more.
-fn added(room: usize, t: Total, w: usize, n: usize) -> Total
+fn added(room: usize, t: Option<usize>, w: usize, n: usize) -> Option<usize>
     ensures { result ≡ add_to room t w n }
 {
-    match t {
-        Total::TooLong => Total::TooLong,
-        Total::Size(m) => {
-            if room < m {
-                return Total::TooLong;
-            }
-            if room - m < w {
-                return Total::TooLong;
-            }
-            if room - m - w < n {
-                return Total::TooLong;
-            }
-            Total::Size(m + w + n)
-        }
-    }
+    let total = t?.checked_add(w)?.checked_add(n)?;
+    if total <= room { Some(total) } else { None }
 }
 
 // 33 or 34, then 29, or how long the sample is. The zeros at the start of the stream end at first.
-fn measure(s: &[u8], l: LengthSize, room: usize, first: usize) -> Written
+fn measure(s: &[u8], l: LengthSize, room: usize, first: usize) -> Result<usize, Refusal>
     requires { first ≡ zeros_end s.now 0 }
     ensures { answer_of result ≡ counted (within room (sample_made (in_bytes l) (units_in (in_bytes l) s.now))) }
 {
     let n = s.len();
-    if first < n {
-        // two zeros and 01 are a start code
-        if first < 2 {
-            return refused(refusals::BAD_BYTE_STREAM, first);
-        }
-        if s[first] != 1 {
-            return refused(refusals::BAD_BYTE_STREAM, first);
-        }
+    // two zeros and 01 are a start code
+    if first < n && (first < 2 || s[first] != 1) {
+        return Err(Refusal::at(Fault::BadByteStream, first));
     }
     let w = l.bytes();
-    let mut t = Total::Size(0);
+    let mut t = Some(0);
     let mut p = first;
     while p < n {
-        let judged = units::judge(s, l, p + 1);
-        match judged {
-            Judged::Refused(f) => {
-                return Written::Refused(f);
-            }
-            Judged::Unit(size, next) => {
-                t = added(room, t, w, size);
-                p = next;
-            }
-        }
+        let unit = units::judge(s, l, p + 1)?;
+        t = added(room, t, w, unit.size);
+        p = unit.next;
     }
-    match t {
-        Total::TooLong => refused(refusals::OUTPUT_TOO_LONG, 0),
-        Total::Size(c) => Written::Count(c),
-    }
+    t.ok_or(Refusal::at(Fault::OutputTooLong, 0))
 }
 
 // The length of a unit over a buffer from a place on, if it fits there: one size at a time, so that none is a loop of unknown length.
 fn put_length(out: &mut [u8], at: usize, l: LengthSize, n: usize)
     ensures { out.new ≡ put out.old at (bytes (in_bytes l) n) }
 {
+    // stays: one call at `l.bytes()` proves, and takes a quarter longer with two and four bytes
     match l {
         LengthSize::One => numbers::put_number(out, at, 1, n),
         LengthSize::Two => numbers::put_number(out, at, 2, n),
@@ -128,22 +82,14 @@ fn write_units(out: &mut [u8], s: &[u8], l: LengthSize, first: usize, size: usiz
 
 // A byte stream as a sample of length size n: 11, then 33 or 34, then 29; or each unit after its length, over the start of the buffer, and
 // how many bytes that is. After a refusal the buffer is as it was.
-pub fn from_stream(n: u32, s: &[u8], out: &mut [u8]) -> Written
+pub fn from_stream(n: u32, s: &[u8], out: &mut [u8]) -> Result<usize, Refusal>
     ensures { Wrote out.old out.new (answer_of result) (from_stream n s.now (length out.old)) }
 {
-    let size = LengthSize::from_number(n);
-    match size {
-        MaybeLengthSize::Unknown => refused(refusals::BAD_LENGTH_SIZE, 0),
-        MaybeLengthSize::Known(l) => {
-            let first = byte_streams::zeros_end(s, 0);
-            let measured = measure(s, l, out.len(), first);
-            match measured {
-                Written::Refused(f) => Written::Refused(f),
-                Written::Count(c) => {
-                    write_units(out, s, l, first, c);
-                    Written::Count(c)
-                }
-            }
-        }
-    }
+    let Some(l) = LengthSize::from_number(n) else {
+        return Err(Refusal::at(Fault::BadLengthSize, 0));
+    };
+    let first = byte_streams::zeros_end(s, 0);
+    let c = measure(s, l, out.len(), first)?;
+    write_units(out, s, l, first, c);
+    Ok(c)
 }

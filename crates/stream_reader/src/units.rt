@@ -7,23 +7,13 @@ ghost use Rattle.numbers.specs.Sizes.{in_bytes};
 ghost use Rattle.byte_streams.specs.Reading.{inside_verdict};
 ghost use Rattle.stream_reader.specs.Steps.{unit_from, judgement, judged_of};
 
-use numbers::{ByteOffset, LengthSize, Refusal, refusals};
+use numbers::{Fault, LengthSize, Refusal};
 
-// A unit judged: a refusal; or its size, and where the next start code ends, at its 01, or the stream does.
+// A good unit: its size, and where the next start code ends, at its 01, or the stream does.
 #[derive(Clone, Copy)]
-pub enum Judged {
-    Refused(Refusal),
-    Unit(usize, usize),
-}
-
-// A refusal at a place.
-fn refuse(number: u8, place: usize) -> Judged
-    ensures { judged_of result ≡ refused number place }
-{
-    Judged::Refused(Refusal {
-        number: number,
-        place: ByteOffset(place),
-    })
+pub struct GoodUnit {
+    pub size: usize,
+    pub next: usize,
 }
 
 // Whether the unit that starts at a place has so many bytes or more: it goes on over bytes that may not stand in it, up to a start code or
@@ -54,42 +44,36 @@ fn has_length(s: &[u8], start: usize, least: usize) -> bool
 fn length_limit(l: LengthSize) -> usize
     ensures { result ≡ 256 ^ in_bytes l }
 {
-    match l {
-        LengthSize::One => 256,
-        LengthSize::Two => 65536,
-        LengthSize::Four => 4294967296,
-    }
+    1 << (8 * l.bytes())
 }
 
 // A unit with a byte that may not stand in it, the first at a place: 34, or 33 there.
-fn judge_bad(s: &[u8], l: LengthSize, start: usize, place: usize) -> Judged
+fn judge_bad(s: &[u8], l: LengthSize, start: usize, place: usize) -> Result<GoodUnit, Refusal>
     requires { (start ≤ length s.now) × (inside_verdict 0 start (unit_from s.now start) ≡ refused bad_byte_stream place) }
     ensures { judged_of result ≡ judgement (in_bytes l) s.now start }
 {
     if has_length(s, start, length_limit(l)) {
-        return refuse(refusals::UNIT_EXCEEDS_LENGTH_SIZE, start);
+        return Err(Refusal::at(Fault::UnitExceedsLengthSize, start));
     }
-    refuse(refusals::BAD_BYTE_STREAM, place)
+    Err(Refusal::at(Fault::BadByteStream, place))
 }
 
 // The unit that starts at a place, just after its start code: 33 or 34, or its size, and where the next start code ends, or the stream.
-pub(crate) fn judge(s: &[u8], l: LengthSize, start: usize) -> Judged
+pub(crate) fn judge(s: &[u8], l: LengthSize, start: usize) -> Result<GoodUnit, Refusal>
     requires { (0 < start) × (start ≤ length s.now) }
     ensures { judged_of result ≡ judgement (in_bytes l) s.now start }
 {
     let stop = byte_streams::unit_stop(s, start);
     let next = byte_streams::zeros_end(s, stop);
-    if next < s.len() {
-        if s[next] != 1 {
-            return judge_bad(s, l, start, next);
-        }
+    if next < s.len() && s[next] != 1 {
+        return judge_bad(s, l, start, next);
     }
     let size = stop - start;
     if size == 0 {
-        return refuse(refusals::BAD_BYTE_STREAM, start - 1);
+        return Err(Refusal::at(Fault::BadByteStream, start - 1));
     }
     if length_limit(l) <= size {
-        return refuse(refusals::UNIT_EXCEEDS_LENGTH_SIZE, start);
+        return Err(Refusal::at(Fault::UnitExceedsLengthSize, start));
     }
-    Judged::Unit(size, next)
+    Ok(GoodUnit { size, next })
 }

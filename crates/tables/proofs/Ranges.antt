@@ -1,10 +1,11 @@
 -- The samples of a track are a range, in any table: a track's samples end where a later track's start. Assumes nothing.
 --
---   after_none, after_more       the end of a track's samples, one later track more
+--   after_first, after_min       the end of a track's samples: with no later track, with one more
 --   after_most                   it is no later than the last sample
 --   owner_is, owner_from         a sample is a track's exactly if it lies in its range
 --   keep_range                   the numbers from one to another
 --   range_samples                the samples of a track, in the layout that a table says, are its range
+use Rattle.std.specs.Prelude.{min}
 use Prim.Native.Nat.{ℕ, zero, suc, ◌+◌, ◌-◌, ◌≤◌, ◌<◌}
 use mathlib.Core.Path.{◌≡◌, refl, ap, sym, ◌∙◌}
 use mathlib.Core.Bool.{Bool, ◌&&◌}
@@ -24,16 +25,13 @@ use Rattle.words.proofs.Rows.{upto_length}
 use Rattle.tables.proofs.Layouts.{samples_count, entry_here}
 
 module _ (t : List ℕ) (k : ℕ) where
-  pub after_none : after_in t k 0 ≡ sample_total t
+  after_none : after_in t k 0 ≡ sample_total t
   unfolding after_in
   after_none = refl
 
   after_suc : (j : ℕ) → after_in t k (suc j) ≡ pick ((k <? suc j) && (before_in t (suc j) <? after_in t k j)) (before_in t (suc j)) (after_in t k j)
   unfolding after_in
   after_suc j = refl
-
-  pub after_more : (j : ℕ) → after_in t k (j + 1) ≡ pick ((k <? j + 1) && (before_in t (j + 1) <? after_in t k j)) (before_in t (j + 1)) (after_in t k j)
-  after_more j = rw (add-one j) (after_suc j)
 
   -- tracks up to k do not count
   after_same : (j : ℕ) → suc j ≤ k → after_in t k (suc j) ≡ after_in t k j
@@ -45,10 +43,15 @@ module _ (t : List ℕ) (k : ℕ) where
       (λ q. let l = ltb-true (before_in t (suc j)) (after_in t k j) q in rw q (omega arith, omega arith))
       (λ q. let l = ltb-false (before_in t (suc j)) (after_in t k j) q in rw q (omega arith, l)))
 
+  pub after_min : (j : ℕ) → k ≤ j → after_in t k (j + 1) ≡ min (after_in t k j) (before_in t (j + 1))
+  after_min j h = rw (add-one j) (after_suc j ∙ rw (lt-ltb k (suc j) (omega arith)) (by_bool (ltb (before_in t (suc j)) (after_in t k j))
+      (λ q. let l = ltb-true (before_in t (suc j)) (after_in t k j) q in let m : before_in t (suc j) ≡ min (after_in t k j) (before_in t (suc j)) = omega arith in rw q m)
+      (λ q. let l = ltb-false (before_in t (suc j)) (after_in t k j) q in let m : after_in t k j ≡ min (after_in t k j) (before_in t (suc j)) = omega arith in rw q m)))
+
   after_both : (j n : ℕ) → n ≤ after_in t k j → n ≤ before_in t (suc j) → n ≤ after_in t k (suc j)
   after_both j n g h = rw (after_suc j) (by_bool ((k <? suc j) && (before_in t (suc j) <? after_in t k j)) (λ q. rw q h) (λ q. rw q g))
 
-  after_first : (j : ℕ) → j ≤ k → after_in t k j ≡ sample_total t
+  pub after_first : (j : ℕ) → j ≤ k → after_in t k j ≡ sample_total t
   after_first zero h = after_none
   after_first (suc j) h = after_same j h ∙ after_first j (omega arith)
 

@@ -1,13 +1,15 @@
 -- The references of a track, in any table, found one after the other. Assumes nothing.
 --
 --   comes_from                                   whether a reference comes from a track
---   counted_none, counted_more, counted_all_lem  how many of the first i references come from a track
+--   counted_none, counted_all_lem                how many of the first i references come from a track
+--   counted_hit, counted_miss                    one reference more
 --   found_here, found_none                       the reference of a number
 use Prim.Native.Nat.{ℕ, ◌+◌, ◌<◌}
 use mathlib.Core.Path.{◌≡◌, refl, sym, ◌∙◌}
 use mathlib.Core.Bool.{Bool, true}
 use mathlib.Core.List.{List, [], ◌∷◌, map}
 use native.Mathlib.Omega.{arith}
+use borrow.Author.Tests.{eq-eqb, ne_eqb}
 use lib.Dec.{eqb}
 use lib.ListN.{length}
 use Rattle.words.specs.Tests.{◌≡?◌, pick}
@@ -30,9 +32,17 @@ module _ (t : List ℕ) (k : ℕ) where
   unfolding counted upto keep
   counted_none = refl
 
-  pub counted_more : (i : ℕ) → counted (i + 1) ≡ pick (cell t (reference_row (i + 1)) from_column ≡? k) (counted i + 1) (counted i)
+  counted_more : (i : ℕ) → counted (i + 1) ≡ pick (cell t (reference_row (i + 1)) from_column ≡? k) (counted i + 1) (counted i)
   unfolding counted
   counted_more i = rw (upto_more i, map_append (reference_in t) (upto i) ((i + 1) ∷ [])) (keep_more (comes_from k) (map (reference_in t) (upto i)) (reference_in t (i + 1)))
+
+  -- one reference more, by the track that it comes from
+  module _ (i : ℕ) {count from : ℕ} (e : count ≡ counted i) (f : from ≡ cell t (reference_row (i + 1)) from_column) where
+    pub counted_hit : from ≡ k → count + 1 ≡ counted (i + 1)
+    counted_hit h = rw (counted_more i, ← f, eq-eqb from k h, e)
+
+    pub counted_miss : (from ≡ k → ⊥) → count ≡ counted (i + 1)
+    counted_miss h = rw (counted_more i, ← f, ne_eqb from k h) e
 
   pub counted_all_lem : length (references_from (layout_in t) k) ≡ counted (reference_total t)
   unfolding references_from layout_in counted

@@ -1,7 +1,7 @@
 // A table of numbers beside a bundle: its numbers, and the tracks and references that it says. Every function takes any table; the crate filling fills one.
 #![tactic(auto)]
 
-ghost use Rattle.std.specs.Prelude.{◌≡◌, ◌+◌, ◌≤◌, ◌<◌, length};
+ghost use Rattle.std.specs.Prelude.{◌≡◌, ◌-◌, ◌≤◌, length};
 ghost use Rattle.words.specs.Tests.{◌≡?◌, pick};
 ghost use Rattle.words.specs.Lists.{nth};
 ghost use Rattle.numbers.specs.Kinds.{kind_of};
@@ -11,7 +11,7 @@ ghost use Rattle.bundles.specs.Recordings.{no_track, no_reference, references_fr
 ghost use Rattle.bundles.specs.Tracks.{known_kind, known_size};
 ghost use Rattle.tables.specs.Tables.{counts_row, at_most, cell, track_total, reference_total, layout_in};
 
-use numbers::{Kind, LengthSize, MaybeKind, MaybeLengthSize, TrackNumber};
+use numbers::{Kind, LengthSize, TrackNumber};
 
 // Rows of four numbers: row 0 has the counts, row k track k, row REFERENCE_ROW + i reference i, row SAMPLE_ROW + n sample n.
 pub const COLUMNS: usize = 4;
@@ -51,29 +51,31 @@ pub struct SampleRange {
     pub after: usize,
 }
 
+impl SampleRange {
+    // How many samples it has.
+    pub fn size(self) -> usize
+        ensures { result ≡ self.after - self.before }
+    {
+        self.after.saturating_sub(self.before)
+    }
+}
+
 // A number of the table, 0 past its end.
 pub fn cell(t: &[u64], row: usize, column: usize) -> usize
     ensures { result ≡ cell t.now row column }
 {
-    if t.len() <= row {
-        return 0;
-    }
-    if t.len() <= column {
+    if t.len() <= row || t.len() <= column {
         return 0;
     }
     let at = row * COLUMNS + column;
-    if t.len() <= at {
-        return 0;
-    }
-    t[at] as usize
+    t.get(at).copied().unwrap_or(0) as usize
 }
 
 // A count of the table, or the most where it is beyond it.
 pub fn count(t: &[u64], column: usize, most: usize) -> usize
     ensures { (result ≡ at_most most (cell t.now counts_row column)) × (result ≤ most) }
 {
-    let n = cell(t, COUNTS_ROW, column);
-    if n <= most { n } else { most }
+    cell(t, COUNTS_ROW, column).min(most)
 }
 
 // The number of tracks, at most as many as there may be.
@@ -94,78 +96,52 @@ pub fn reference_total(t: &[u64]) -> usize
 fn kind_of(n: usize) -> Kind
     ensures { result ≡ known_kind (kind_of n) }
 {
-    if 255 < n {
-        return Kind::Avc;
-    }
-    let known = Kind::from_number(n as u32);
-    match known {
-        MaybeKind::Known(k) => k,
-        MaybeKind::Unknown => Kind::Avc,
-    }
+    u32::try_from(n)
+        .ok()
+        .and_then(Kind::from_number)
+        .unwrap_or(Kind::Avc)
 }
 
 // The length size of a number, 1 where it says none.
 fn size_of(n: usize) -> LengthSize
     ensures { result ≡ known_size (length_size_of n) }
 {
-    if 255 < n {
-        return LengthSize::One;
-    }
-    let known = LengthSize::from_number(n as u32);
-    match known {
-        MaybeLengthSize::Known(l) => l,
-        MaybeLengthSize::Unknown => LengthSize::One,
-    }
+    u32::try_from(n)
+        .ok()
+        .and_then(LengthSize::from_number)
+        .unwrap_or(LengthSize::One)
 }
 
 // The kind of a track; AVC where there is no such track.
 pub fn track_kind(t: &[u64], k: TrackNumber) -> Kind
     ensures { result ≡ (nth (layout_in t.now).tracks k.0 no_track).kind }
 {
-    let n = k.0;
-    if n == 0 {
+    if k.0 == 0 || track_total(t) < k.0 {
         return Kind::Avc;
     }
-    if track_total(t) < n {
-        return Kind::Avc;
-    }
-    kind_of(cell(t, n, KIND))
+    kind_of(cell(t, k.0, KIND))
 }
 
 // The length size of a track; 1 where there is no such track.
 pub fn track_length_size(t: &[u64], k: TrackNumber) -> LengthSize
     ensures { result ≡ (nth (layout_in t.now).tracks k.0 no_track).length_size }
 {
-    let n = k.0;
-    if n == 0 {
+    if k.0 == 0 || track_total(t) < k.0 {
         return LengthSize::One;
     }
-    if track_total(t) < n {
-        return LengthSize::One;
-    }
-    size_of(cell(t, n, SIZE))
-}
-
-// One more where a reference comes from track k.
-fn one_more(from: usize, k: usize, count: usize) -> usize
-    requires { count < reference_most }
-    ensures { (result ≡ pick (from ≡? k) (count + 1) count) × (result ≤ count + 1) }
-{
-    if from == k { count + 1 } else { count }
+    size_of(cell(t, k.0, SIZE))
 }
 
 // How many references a track has.
 pub fn reference_count(t: &[u64], k: TrackNumber) -> usize
     ensures { result ≡ length (references_from (layout_in t.now) k.0) }
 {
-    let n = k.0;
     let total = reference_total(t);
     let mut count: usize = 0;
-    let mut i: usize = 0;
-    while i < total {
-        let from = cell(t, REFERENCE_ROW + (i + 1), FROM);
-        count = one_more(from, n, count);
-        i += 1;
+    for i in 0..total {
+        if cell(t, REFERENCE_ROW + (i + 1), FROM) == k.0 {
+            count += 1;
+        }
     }
     count
 }
@@ -177,17 +153,17 @@ pub fn reference(t: &[u64], k: TrackNumber, index: usize) -> TrackNumber
     if index == 0 {
         return TrackNumber(0);
     }
-    let n = k.0;
     let total = reference_total(t);
     let mut count: usize = 0;
-    let mut i: usize = 0;
-    while i < total {
-        let from = cell(t, REFERENCE_ROW + (i + 1), FROM);
-        count = one_more(from, n, count);
-        if count == index {
-            return TrackNumber(cell(t, REFERENCE_ROW + (i + 1), TO));
+    for i in 0..total {
+        let row = REFERENCE_ROW + (i + 1);
+        if cell(t, row, FROM) == k.0 {
+            count += 1;
         }
-        i += 1;
+        // stays: tested in every round; within the test above it was tried, and is slower
+        if count == index {
+            return TrackNumber(cell(t, row, TO));
+        }
     }
     TrackNumber(0)
 }

@@ -1,6 +1,7 @@
 -- Laws of the tally. Assumes nothing.
 --
 --   tallied_none       the tally of no outcome
+--   tallied_default    the tally of three zeros is that
 --   one_more_below     below the largest number, one more is one more
 --   kept_most          no more outcomes are kept than there are
 --   tallied_more       one outcome more raises the tally
@@ -25,6 +26,12 @@ use Rattle.tally.specs.declared.Outcome.TheVariants.{Passed, Empty, Refused}
 pub tallied_none : tallied [] ≡ record { passed = 0; empty = 0; refused = 0 }
 unfolding tallied keep
 tallied_none = refl
+
+three_zeros : (a b c : ℕ) → a ≡ 0 → b ≡ 0 → c ≡ 0 → tallied [] ≡ record { passed = a; empty = b; refused = c }
+three_zeros a b c e f g = rw (e, f, g) tallied_none
+
+pub tallied_default : (t : Tally) → (t.passed ≡ 0) × ((t.empty ≡ 0) × (t.refused ≡ 0)) → t ≡ tallied []
+tallied_default t e = sym (three_zeros t.passed t.empty t.refused e.0 e.1.0 e.1.1)
 
 pub one_more_below : (n : ℕ) → n < largest → one_more n ≡ n + 1
 unfolding one_more

@@ -13,7 +13,7 @@ pub enum Outcome {
 }
 
 // How many samples passed, how many are empty, how many are refused.
-#[derive(Clone, Copy)]
+#[derive(Clone, Copy, Default)]
 pub struct Tally {
     pub passed: u64,
     pub empty: u64,
@@ -24,21 +24,14 @@ pub struct Tally {
 pub fn start() -> Tally
     ensures { result ≡ tallied [] }
 {
-    Tally {
-        passed: 0,
-        empty: 0,
-        refused: 0,
-    }
+    Tally::default()
 }
 
 // One more, but never past the largest number.
 fn one_more(n: u64) -> u64
     ensures { result ≡ one_more n }
 {
-    if n < 18446744073709551615 {
-        return n + 1;
-    }
-    n
+    n.saturating_add(1)
 }
 
 // By value.
@@ -48,18 +41,15 @@ pub fn raised(t: Tally, o: Outcome) -> Tally
     match o {
         Outcome::Passed => Tally {
             passed: one_more(t.passed),
-            empty: t.empty,
-            refused: t.refused,
+            ..t
         },
         Outcome::Empty => Tally {
-            passed: t.passed,
             empty: one_more(t.empty),
-            refused: t.refused,
+            ..t
         },
         Outcome::Refused => Tally {
-            passed: t.passed,
-            empty: t.empty,
             refused: one_more(t.refused),
+            ..t
         },
     }
 }

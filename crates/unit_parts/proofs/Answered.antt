@@ -3,6 +3,7 @@
 --   sample_refused, room_refused, units_placed  by what is judged
 --   parts_size, parts_fit                       how many numbers that is, and that they fit a word
 --   parts_filled                                by a table that was filled
+use Rattle.std.specs.Prelude.{Ok}
 use Prim.Native.Nat.{ℕ, ◌*◌, ◌≤◌, ◌<◌}
 use mathlib.Core.Path.{◌≡◌, ap, sym, ◌∙◌}
 use mathlib.Core.List.{List}
@@ -19,7 +20,6 @@ use Rattle.bundles.specs.Bundles.{recording_of}
 use Rattle.bundles.specs.Readers.{first_layout}
 use Rattle.tables.specs.Tables.{recording_in, start_in}
 use Rattle.filling.specs.Filling.{filling, table_after}
-use Rattle.filling.specs.declared.Filled.TheVariants.{Done}
 use Rattle.filling.proofs.Promises.{table_accepted, table_means, table_starts}
 use Rattle.resolution_rules.specs.Resolving.{delivered, judged}
 use Rattle.resolution_rules.specs.Calls.{parts_of, number_fault, parts_call}
@@ -67,7 +67,7 @@ starts_same r n f g e = by_count (sample_count r.layout) n
     ∙ sym (parts_good r n h l g j)))
 
 -- by the table that was filled
-pub parts_filled : (b t : List ℕ) → filling first_layout b (length t) ≡ Done → {s : List ℕ} → s ≡ table_after first_layout b t → (n room : ℕ) → within room (parts_of (recording_in b s) n (start_in s)) ≡ parts_call first_layout b n room
+pub parts_filled : (b t : List ℕ) → filling first_layout b (length t) ≡ (Ok tt) → {s : List ℕ} → s ≡ table_after first_layout b t → (n room : ℕ) → within room (parts_of (recording_in b s) n (start_in s)) ≡ parts_call first_layout b n room
 parts_filled b t done f n room =
     let a = table_accepted b t done in
     rw (f, table_means b t done)

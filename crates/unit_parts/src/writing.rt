@@ -12,8 +12,7 @@ ghost use Rattle.delivery.specs.Deliveries.{span_for};
 ghost use Rattle.unit_parts.specs.Answers.{parts_in};
 
 use delivery::{Span, Stepped};
-use judging::Judged;
-use numbers::{ByteOffset, Refusal, SampleNumber, Written, refusals};
+use numbers::{Fault, Refusal, SampleNumber};
 use units::Track;
 
 // How many numbers say where a unit stands: its start and its size.
@@ -56,34 +55,24 @@ fn write_parts(out: &mut [u64], b: &[u8], t: &[u64], n: SampleNumber, k: Track, 
     }
 }
 
-// A refusal at 0.
-fn refused(number: u8) -> Written
-    ensures { answer_of result ≡ refused number 0 }
-{
-    Written::Refused(Refusal {
-        number: number,
-        place: ByteOffset(0),
-    })
-}
-
 // Where the units that sample n delivers stand: 30, 14 to 28, 29, or two numbers a unit over the start of the lent ones.
-pub(crate) fn place_units(b: &[u8], t: &[u64], n: SampleNumber, out: &mut [u64]) -> Written
+pub(crate) fn place_units(
+    b: &[u8],
+    t: &[u64],
+    n: SampleNumber,
+    out: &mut [u64],
+) -> Result<usize, Refusal>
     requires { length b.now ≤ bundle_most }
     ensures { Wrote out.old out.new (answer_of result) (within (length out.old) (parts_of (recording_in b.now t.now) n.0 (start_in t.now))) }
 {
-    let judged = verdicts::judge(b, t, n);
-    match judged {
-        Judged::Refused(f) => Written::Refused(f),
-        Judged::Good(a) => {
-            let units = a.count;
-            let size = PART_NUMBERS * units;
-            if out.len() < size {
-                return refused(refusals::OUTPUT_TOO_LONG);
-            }
-            let k = delivery::track_of(t, n);
-            let x = sample_tables::sample_bytes(b, t, n);
-            write_parts(out, b, t, n, k, x);
-            Written::Count(size)
-        }
+    let a = verdicts::judge(b, t, n)?;
+    let units = a.count;
+    let size = PART_NUMBERS * units;
+    if out.len() < size {
+        return Err(Refusal::at(Fault::OutputTooLong, 0));
     }
+    let k = delivery::track_of(t, n);
+    let x = sample_tables::sample_bytes(b, t, n);
+    write_parts(out, b, t, n, k, x);
+    Ok(size)
 }

@@ -7,7 +7,7 @@ ghost use Rattle.units.specs.Steps.{extractor_at};
 ghost use Rattle.unit_steps.specs.Items.{item_at};
 
 use numbers::{ByteOffset, LengthSize};
-use units::{Extractor, MaybeExtractor, NalUnit, Track};
+use units::{Extractor, NalUnit, Track};
 
 // What stands at a place: nothing that lies in the sample; an aggregator, and where its included units start; an extractor, and where the
 // next unit starts; another unit.
@@ -26,69 +26,51 @@ pub fn item_at(k: Track, s: &[u8], at: ByteOffset) -> Item
     let l = k.length_size;
     let n = l.bytes();
     let p = at.0;
-    if s.len() <= p {
-        return Item::Nothing;
-    }
-    if s.len() - p < n {
+    if s.len().saturating_sub(p) < n {
         return Item::Nothing;
     }
     let start = p + n;
-    let t = numbers::byte(s, start) % numbers::NAL_TYPES;
-    if t == units::AGGREGATOR {
-        let included = start + LengthSize::HEADER + n;
-        return Item::Aggregator(ByteOffset(included));
+    let nal_type = numbers::byte(s, start) % numbers::NAL_TYPES;
+    if nal_type == units::AGGREGATOR {
+        return Item::Aggregator(ByteOffset(start + LengthSize::HEADER + n));
     }
     let size = l.number(s, p);
     if s.len() - start < size {
         return Item::Nothing;
     }
-    let next = start + size;
-    if t == units::EXTRACTOR {
-        return Item::Extractor(ByteOffset(next));
+    let next = ByteOffset(start + size);
+    if nal_type == units::EXTRACTOR {
+        return Item::Extractor(next);
     }
     Item::Unit(NalUnit {
         start: ByteOffset(start),
-        size: size,
-        nal_type: t,
-        next: ByteOffset(next),
+        size,
+        nal_type,
+        next,
     })
 }
 
 // The fields of the extractor at a place, if it is one and has none of 14 to 18 and 22 in what ends at an offset: its length is that of an
 // extractor, it ends at or before that offset, and its first byte is of type 31 without the top bit. Each is read once.
-pub fn extractor_at(k: Track, s: &[u8], at: ByteOffset, end: ByteOffset) -> MaybeExtractor
+pub fn extractor_at(k: Track, s: &[u8], at: ByteOffset, end: ByteOffset) -> Option<Extractor>
     ensures { result ≡ extractor_at (sample k s.now) end.0 at.0 }
 {
     let p = at.0;
-    let e = end.0;
     let l = k.length_size;
     let n = l.bytes();
     let bytes = l.extractor_size();
-    if e <= p {
-        return MaybeExtractor::Nothing;
-    }
-    if e - p < n + bytes {
-        return MaybeExtractor::Nothing;
-    }
-    if l.number(s, p) != bytes {
-        return MaybeExtractor::Nothing;
+    if end.0.saturating_sub(p) < n + bytes || l.number(s, p) != bytes {
+        return None;
     }
     let head = numbers::byte(s, p + n);
-    if numbers::FORBIDDEN_BIT <= head {
-        return MaybeExtractor::Nothing;
-    }
-    if head % numbers::NAL_TYPES != units::EXTRACTOR {
-        return MaybeExtractor::Nothing;
+    if numbers::FORBIDDEN_BIT <= head || head % numbers::NAL_TYPES != units::EXTRACTOR {
+        return None;
     }
     let fields = p + n + LengthSize::HEADER;
-    let index = numbers::byte(s, fields);
-    let offset = numbers::byte(s, fields + 1);
-    let from = l.number(s, fields + 2);
-    let length = l.number(s, fields + 2 + n);
-    MaybeExtractor::Extractor(Extractor {
-        track_ref_index: index,
-        sample_offset: offset,
-        data_offset: ByteOffset(from),
-        data_length: length,
+    Some(Extractor {
+        track_ref_index: numbers::byte(s, fields),
+        sample_offset: numbers::byte(s, fields + 1),
+        data_offset: ByteOffset(l.number(s, fields + 2)),
+        data_length: l.number(s, fields + 2 + n),
     })
 }

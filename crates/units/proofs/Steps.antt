@@ -3,6 +3,7 @@
 --   extractor_there   a whole extractor of the right size is given
 --   extractor_fields  by its bytes: it lies before e, has the right size, no top bit and the type
 --   no_extractor_lem  nothing is given where one of these does not hold
+use Rattle.std.specs.Prelude.{None, Some}
 use Prim.Native.Nat.{ℕ, ◌+◌, ◌≤◌, ◌<◌}
 use mathlib.Core.Path.{◌≡◌}
 use mathlib.Core.Bool.{true}
@@ -14,23 +15,22 @@ use Rattle.numbers.specs.Sizes.{extractor_size}
 use Rattle.units.specs.Units.{Sample, L, size, first_byte, type, extractor_type, is_extractor, unit_fault}
 use Rattle.units.specs.Extractors.{extractor_fault}
 use Rattle.units.specs.Steps.{extractor_of, extractor_at}
-use Rattle.units.specs.declared.MaybeExtractor.TheVariants as extractor
 use Rattle.units.specs.Rules.{Whole}
 use Rattle.units.proofs.Units.{whole, whole_none, extractor_size_lem, extractor_none}
 
 module _ (x : Sample) (e p : ℕ) where
-  pub extractor_there : Whole x e p → is_extractor x p ≡ true → extractor_fault x p ≡ 0 → extractor_at x e p ≡ extractor.Extractor (extractor_of x p)
+  pub extractor_there : Whole x e p → is_extractor x p ≡ true → extractor_fault x p ≡ 0 → extractor_at x e p ≡ Some (extractor_of x p)
   unfolding extractor_at
   extractor_there w t h = rw (eq-eqb (unit_fault x e p) 0 (whole_none x e p w), eq-eqb (extractor_fault x p) 0 h, t)
 
-  pub extractor_fields : p + L x + extractor_size x.length_size ≤ e → size x p ≡ extractor_size x.length_size → first_byte x p < 128 → is_extractor x p ≡ true → extractor_at x e p ≡ extractor.Extractor (extractor_of x p)
+  pub extractor_fields : p + L x + extractor_size x.length_size ≤ e → size x p ≡ extractor_size x.length_size → first_byte x p < 128 → is_extractor x p ≡ true → extractor_at x e p ≡ Some (extractor_of x p)
   extractor_fields i z f t =
       extractor_there
       (record { room = omega arith; inside = omega arith; some = omega arith; top = f; least = rw (eqb-true (type x p) extractor_type t) (omega arith) })
       t
       (extractor_none x p (λ _. z))
 
-  pub no_extractor_lem : (Whole x e p → is_extractor x p ≡ true → size x p ≡ extractor_size x.length_size → ⊥) → extractor_at x e p ≡ extractor.Nothing
+  pub no_extractor_lem : (Whole x e p → is_extractor x p ≡ true → size x p ≡ extractor_size x.length_size → ⊥) → extractor_at x e p ≡ None
   unfolding extractor_at
   no_extractor_lem h = by_bool (unit_fault x e p ≡? 0)
       (λ u. by_bool (is_extractor x p)

@@ -5,15 +5,13 @@
 --   unit_of p         the unit at p
 --   extractor_of p    the fields of the extractor at p
 --   extractor_at e p  the same, if it is one and has none of 14 to 18 and 22
-use Rattle.std.specs.Prelude.{ℕ, ◌+◌}
+use Rattle.std.specs.Prelude.{ℕ, ◌+◌, None, Option, Some}
 use Rattle.words.specs.Tests.{◌≡?◌, pick}
 use Rattle.numbers.specs.declared.ByteOffset.{ByteOffset}
 use Rattle.units.specs.Units.{Sample, L, size, type, next, is_extractor, unit_fault}
 use Rattle.units.specs.Extractors.{track_ref_index, sample_offset, data_offset, data_length, extractor_fault}
 use Rattle.units.specs.declared.NalUnit.{NalUnit}
 use Rattle.units.specs.declared.Extractor.{Extractor}
-use Rattle.units.specs.declared.MaybeExtractor as E
-use Rattle.units.specs.declared.MaybeExtractor.TheVariants as extractor
 
 abbrev pub place : ℕ → ByteOffset
 place p = record { 0 = p }
@@ -30,10 +28,10 @@ module _ (x : Sample) where
     data_length = data_length x p;
   }
 
-  unfoldable pub extractor_at : ℕ → ℕ → E.MaybeExtractor
+  unfoldable pub extractor_at : ℕ → ℕ → Option Extractor
   extractor_at e p =
       pick (unit_fault x e p ≡? 0)
       (pick (is_extractor x p)
-      (pick (extractor_fault x p ≡? 0) (extractor.Extractor (extractor_of p)) extractor.Nothing)
-      extractor.Nothing)
-      extractor.Nothing
+      (pick (extractor_fault x p ≡? 0) (Some (extractor_of p)) None)
+      None)
+      None

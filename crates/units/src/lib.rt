@@ -5,13 +5,13 @@ ghost use Rattle.std.specs.Prelude.{◌≡◌, [], ◌&&◌, not};
 ghost use Rattle.words.specs.Tests.{◌≡?◌};
 ghost use Rattle.words.specs.Refusals.{◌if◌};
 ghost use Rattle.words.specs.RefusalNumbers.{bad_extractor_size};
-ghost use Rattle.numbers.specs.Kinds.{is_avc};
+ghost use Rattle.numbers.specs.Faults.{fault_in};
 ghost use Rattle.numbers.specs.Sizes.{extractor_size};
 ghost use Rattle.units.specs.Units.{sample, size, type, least_size, extractor_type, unit_fault};
 ghost use Rattle.units.specs.Extractors.{extractor_fault};
-ghost use Rattle.units.specs.Aggregators.{is_slice, included_fault};
+ghost use Rattle.units.specs.Aggregators.{included_fault};
 
-use numbers::{ByteOffset, Kind, LengthSize, refusals};
+use numbers::{ByteOffset, Fault, Kind, LengthSize};
 
 // The types of units that the check is about.
 pub const PREFIX: u8 = 14;
@@ -47,16 +47,10 @@ pub struct Extractor {
     pub data_length: usize,
 }
 
-#[derive(Clone, Copy)]
-pub enum MaybeExtractor {
-    Extractor(Extractor),
-    Nothing,
-}
-
-// What a walk needs of a unit: its first refusal, 0 for none, and its size. Its length is read once for both.
+// What a walk needs of a unit: its first refusal, if it has one, and its size, after a refusal too. Its length is read once for both.
 #[derive(Clone, Copy)]
 pub struct JudgedUnit {
-    pub fault: u8,
+    pub verdict: Result<(), Fault>,
     pub size: usize,
 }
 
@@ -64,98 +58,79 @@ pub struct JudgedUnit {
 pub fn type_at(k: Track, s: &[u8], at: ByteOffset) -> u8
     ensures { result ≡ type (sample k s.now) at.0 }
 {
-    let l = k.length_size;
-    let n = l.bytes();
-    let p = at.0;
-    if s.len() <= p {
-        return 0;
-    }
-    if s.len() - p <= n {
-        return 0;
-    }
-    s[p + n] % numbers::NAL_TYPES
+    numbers::byte(s, at.0.saturating_add(k.length_size.bytes())) % numbers::NAL_TYPES
 }
 
 // The least size of a unit of a type.
 fn least_size(k: Track, t: u8) -> usize
     ensures { result ≡ least_size (sample k []) t }
 {
-    let l = k.length_size;
-    if t == AGGREGATOR {
-        return l.least_aggregator();
+    match t {
+        AGGREGATOR => k.length_size.least_aggregator(),
+        PREFIX | SCALABLE_SLICE | EXTRACTOR => LengthSize::HEADER,
+        _ => 1,
     }
-    if t == PREFIX {
-        return LengthSize::HEADER;
-    }
-    if t == SCALABLE_SLICE {
-        return LengthSize::HEADER;
-    }
-    if t == EXTRACTOR {
-        return LengthSize::HEADER;
-    }
-    1
 }
 
-// The first of 14 to 18 for the unit at a place, which has this many bytes, in what ends at an offset; 0 for none.
-fn unit_fault(k: Track, s: &[u8], at: ByteOffset, end: ByteOffset, bytes: usize) -> u8
+// The first of 14 to 18 for the unit at a place, which has this many bytes, in what ends at an offset.
+#[tactic(auto, using(words::proofs::Tests::tests), unfolding(crate::specs::Units::unit_fault))]
+fn unit_fault(
+    k: Track,
+    s: &[u8],
+    at: ByteOffset,
+    end: ByteOffset,
+    bytes: usize,
+) -> Result<(), Fault>
     requires { bytes ≡ size (sample k s.now) at.0 }
-    ensures { result ≡ unit_fault (sample k s.now) end.0 at.0 }
+    ensures { fault_in result ≡ unit_fault (sample k s.now) end.0 at.0 }
 {
-    let p = at.0;
-    let e = end.0;
-    let l = k.length_size;
-    let n = l.bytes();
-    if e <= p {
-        return refusals::LENGTH_FIELD_CUT;
+    let n = k.length_size.bytes();
+    let room = end.0.saturating_sub(at.0);
+    if room < n {
+        return Err(Fault::LengthFieldCut);
     }
-    if e - p < n {
-        return refusals::LENGTH_FIELD_CUT;
-    }
-    if e - p - n < bytes {
-        return refusals::UNIT_TOO_LONG;
+    if room - n < bytes {
+        return Err(Fault::UnitTooLong);
     }
     if bytes == 0 {
-        return refusals::EMPTY_UNIT;
+        return Err(Fault::EmptyUnit);
     }
-    let head = numbers::byte(s, p + n);
+    let head = numbers::byte(s, at.0 + n);
     if numbers::FORBIDDEN_BIT <= head {
-        return refusals::TOP_BIT_SET;
+        return Err(Fault::TopBitSet);
     }
     if bytes < least_size(k, head % numbers::NAL_TYPES) {
-        return refusals::UNIT_TOO_SHORT;
+        return Err(Fault::UnitTooShort);
     }
-    0
+    Ok(())
 }
 
 // The same, and its size.
+#[tactic(auto, unfolding(crate::specs::Units::size))]
 pub fn judge_unit(k: Track, s: &[u8], at: ByteOffset, end: ByteOffset) -> JudgedUnit
-    ensures { (result.fault ≡ unit_fault (sample k s.now) end.0 at.0) × (result.size ≡ size (sample k s.now) at.0) }
+    ensures { (fault_in result.verdict ≡ unit_fault (sample k s.now) end.0 at.0) × (result.size ≡ size (sample k s.now) at.0) }
 {
-    let l = k.length_size;
-    let bytes = l.number(s, at.0);
-    let f = unit_fault(k, s, at, end, bytes);
+    let bytes = k.length_size.number(s, at.0);
     JudgedUnit {
-        fault: f,
+        verdict: unit_fault(k, s, at, end, bytes),
         size: bytes,
     }
 }
 
-// 22 by the size and the type of a unit: an extractor of another size; 0 for none.
-fn size_fault(l: LengthSize, bytes: usize, t: u8) -> u8
-    ensures { result ≡ bad_extractor_size if (t ≡? extractor_type) && not (bytes ≡? extractor_size l) }
+// 22 by the size and the type of a unit: an extractor of another size.
+fn size_fault(l: LengthSize, bytes: usize, t: u8) -> Result<(), Fault>
+    ensures { fault_in result ≡ bad_extractor_size if (t ≡? extractor_type) && not (bytes ≡? extractor_size l) }
 {
-    if t != EXTRACTOR {
-        return 0;
+    if t == EXTRACTOR && bytes != l.extractor_size() {
+        return Err(Fault::BadExtractorSize);
     }
-    if bytes == l.extractor_size() {
-        return 0;
-    }
-    refusals::BAD_EXTRACTOR_SIZE
+    Ok(())
 }
 
-// 22 for the unit at a place; 0 for none.
-pub fn extractor_fault(k: Track, s: &[u8], at: ByteOffset) -> u8
-    ensures { result ≡ extractor_fault (sample k s.now) at.0 }
+// 22 for the unit at a place.
+#[tactic(auto, unfolding(crate::specs::Units::size))]
+pub fn extractor_fault(k: Track, s: &[u8], at: ByteOffset) -> Result<(), Fault>
+    ensures { fault_in result ≡ extractor_fault (sample k s.now) at.0 }
 {
     let l = k.length_size;
     let bytes = l.number(s, at.0);
@@ -163,46 +138,37 @@ pub fn extractor_fault(k: Track, s: &[u8], at: ByteOffset) -> u8
     size_fault(l, bytes, t)
 }
 
-// Whether an aggregator of a track of this kind may not include this type.
-fn barred(kind: Kind, t: u8) -> bool
-    ensures { result ≡ is_avc kind && is_slice t }
-{
-    match kind {
-        Kind::Avc => if 1 <= t { t <= 5 } else { false },
-        Kind::Svc => false,
-    }
-}
-
-// The first of 14 to 20 and 22 for the unit at a place, which has this many bytes, in an aggregator that ends at an offset; 0 for none.
-fn included_fault(k: Track, s: &[u8], at: ByteOffset, end: ByteOffset, bytes: usize) -> u8
+// The first of 14 to 20 and 22 for the unit at a place, which has this many bytes, in an aggregator that ends at an offset.
+#[tactic(auto, using(words::proofs::Tests::tests), unfolding(crate::specs::Aggregators::included_fault))]
+fn included_fault(
+    k: Track,
+    s: &[u8],
+    at: ByteOffset,
+    end: ByteOffset,
+    bytes: usize,
+) -> Result<(), Fault>
     requires { bytes ≡ size (sample k s.now) at.0 }
-    ensures { result ≡ included_fault (sample k s.now) end.0 at.0 }
+    ensures { fault_in result ≡ included_fault (sample k s.now) end.0 at.0 }
 {
-    let f = unit_fault(k, s, at, end, bytes);
-    if f != 0 {
-        return f;
-    }
+    unit_fault(k, s, at, end, bytes)?;
     let t = type_at(k, s, at);
     if t == AGGREGATOR {
-        return refusals::NESTED_AGGREGATOR;
+        return Err(Fault::NestedAggregator);
     }
-    let kind = k.kind;
-    if barred(kind, t) {
-        return refusals::SLICE_IN_AVC_AGGREGATOR;
+    if matches!((k.kind, t), (Kind::Avc, 1..=5)) {
+        return Err(Fault::SliceInAvcAggregator);
     }
-    let l = k.length_size;
-    size_fault(l, bytes, t)
+    size_fault(k.length_size, bytes, t)
 }
 
 // The same, and its size.
+#[tactic(auto, unfolding(crate::specs::Units::size))]
 pub fn judge_included(k: Track, s: &[u8], at: ByteOffset, end: ByteOffset) -> JudgedUnit
-    ensures { (result.fault ≡ included_fault (sample k s.now) end.0 at.0) × (result.size ≡ size (sample k s.now) at.0) }
+    ensures { (fault_in result.verdict ≡ included_fault (sample k s.now) end.0 at.0) × (result.size ≡ size (sample k s.now) at.0) }
 {
-    let l = k.length_size;
-    let bytes = l.number(s, at.0);
-    let f = included_fault(k, s, at, end, bytes);
+    let bytes = k.length_size.number(s, at.0);
     JudgedUnit {
-        fault: f,
+        verdict: included_fault(k, s, at, end, bytes),
         size: bytes,
     }
 }

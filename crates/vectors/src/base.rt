@@ -1,7 +1,6 @@
 // The request `base`: the bytes of a bundle, a sample number and a track number. What the search for the base of the sample in the track
 // finds, by its number within the track, 0 for none, and its rounds.
 use crate::{print, request};
-use filling::Filled;
 use numbers::{SampleNumber, TrackNumber};
 use std::io;
 use std::io::Write;
@@ -13,12 +12,10 @@ pub(crate) fn answer<W: Write>(to: &mut W, fields: &[u8]) -> io::Result<()> {
     let k = request::number(rest, 1);
     let mut t = [0u64; tables::TABLE_SIZE];
     match filling::fill_table(b, &mut t) {
-        Filled::Refused(r) => print::refusal(to, r)?,
-        Filled::Done => {
+        Err(r) => print::refusal(to, r)?,
+        Ok(()) => {
             let search = links::find_base(&t, SampleNumber(n), TrackNumber(k));
-            print::text(to, b"OK")?;
-            print::number(to, search.found)?;
-            print::number(to, search.rounds)?;
+            write!(to, "OK {} {}", search.found, search.rounds)?;
         }
     }
     print::end(to)

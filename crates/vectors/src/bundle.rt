@@ -1,14 +1,13 @@
 // The request `bundle`: the bytes of a bundle.
 use crate::{print, request};
-use bundles::Checked;
 use std::io;
 use std::io::Write;
 
 pub(crate) fn answer<W: Write>(to: &mut W, fields: &[u8]) -> io::Result<()> {
     let b = request::bytes(fields);
     match bundles::check_bundle(b) {
-        Checked::Refused(r) => print::refusal(to, r)?,
-        Checked::Accepted => print::text(to, b"OK")?,
+        Err(r) => print::refusal(to, r)?,
+        Ok(()) => print::text(to, b"OK")?,
     }
     print::end(to)
 }

@@ -1,6 +1,5 @@
 // The request `check`: a kind, a length size, and the bytes of a sample.
 use crate::{print, request};
-use samples::Checked;
 use std::io;
 use std::io::Write;
 
@@ -9,8 +8,8 @@ pub(crate) fn answer<W: Write>(to: &mut W, fields: &[u8]) -> io::Result<()> {
     let length_size = request::as_u32(request::number(fields, 1));
     let s = request::bytes(request::skip_numbers(fields, 2));
     match samples::check(kind, length_size, s) {
-        Checked::Refused(r) => print::refusal(to, r)?,
-        Checked::WellFormed => print::text(to, b"OK")?,
+        Err(r) => print::refusal(to, r)?,
+        Ok(()) => print::text(to, b"OK")?,
     }
     print::end(to)
 }

@@ -8,10 +8,10 @@ pub(crate) fn answer<W: Write>(to: &mut W, fields: &[u8]) -> io::Result<()> {
     let rest = request::skip_numbers(fields, 1);
     let s = request::bytes(rest);
     let room = request::number(request::skip_bytes(rest), 0);
-    let mut out = [print::FILL; 100000];
+    let mut out = [print::FILL; print::ROOM];
     if out.len() < room {
         return print::line(to, b"room too large");
     }
-    let sample = stream_reader::from_stream(length_size, s, &mut out[0..room]);
+    let sample = stream_reader::from_stream(length_size, s, &mut out[..room]);
     print::answered(to, sample, &out)
 }

@@ -27,9 +27,8 @@ use std::io::{BufWriter, Read, Write};
 // At most this many requests are answered: a proved loop has to end, and nothing says that the input does.
 const REQUESTS: usize = 1000000;
 
-// Answers the request of n bytes at the start of the buffer: its kind, then its fields.
-fn answer<W: Write>(to: &mut W, buffer: &[u8; 65536], n: usize) -> io::Result<()> {
-    let s = request::part(buffer, 0, n);
+// Answers a request: its kind, then its fields.
+fn answer<W: Write>(to: &mut W, s: &[u8]) -> io::Result<()> {
     let kind = numbers::byte(s, 0);
     let fields = request::skip(s, 1);
     match kind {
@@ -70,18 +69,17 @@ fn answer_next<R: Read, W: Write>(reader: &mut R, to: &mut W) -> io::Result<bool
         print::line(to, b"request cut")?;
         return Ok(false);
     }
-    let n = numbers::number(&head, 0, 4);
+    let n = u32::from_be_bytes(head) as usize;
     let mut buffer = [0u8; 65536];
     if buffer.len() < n {
         print::line(to, b"request too long")?;
         return Ok(false);
     }
-    let there = filled::read_full(reader, &mut buffer[0..n])?;
-    if there < n {
+    if filled::read_full(reader, &mut buffer[..n])? < n {
         print::line(to, b"request cut")?;
         return Ok(false);
     }
-    answer(to, &buffer, n)?;
+    answer(to, &buffer[..n])?;
     to.flush()?;
     Ok(true)
 }
@@ -89,12 +87,10 @@ fn answer_next<R: Read, W: Write>(reader: &mut R, to: &mut W) -> io::Result<bool
 fn main(rt: HostRuntime) -> io::Result<()> {
     let mut reader = rt.reader();
     let mut to = BufWriter::new(rt.alloc(), io::writer(&rt))?;
-    let mut left = REQUESTS;
-    while 0 < left {
+    for _ in 0..REQUESTS {
         if !answer_next(&mut reader, &mut to)? {
             return to.flush();
         }
-        left -= 1;
     }
     print::line(&mut to, b"too many requests")?;
     to.flush()

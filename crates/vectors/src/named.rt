@@ -1,6 +1,5 @@
 // The request `named`: the bytes of a bundle, a sample number, and the place of an extractor in the sample.
 use crate::{print, request};
-use named_sample::NamedSample;
 use numbers::{ByteOffset, SampleNumber};
 use std::io;
 use std::io::Write;
@@ -11,11 +10,8 @@ pub(crate) fn answer<W: Write>(to: &mut W, fields: &[u8]) -> io::Result<()> {
     let n = request::number(rest, 0);
     let at = request::number(rest, 1);
     match named_sample::named_sample(b, SampleNumber(n), ByteOffset(at)) {
-        NamedSample::Refused(r) => print::refusal(to, r)?,
-        NamedSample::Sample(s) => {
-            print::text(to, b"OK")?;
-            print::number(to, s.0)?;
-        }
+        Err(r) => print::refusal(to, r)?,
+        Ok(s) => write!(to, "OK {}", s.0)?,
     }
     print::end(to)
 }

@@ -9,10 +9,10 @@ pub(crate) fn answer<W: Write>(to: &mut W, fields: &[u8]) -> io::Result<()> {
     let rest = request::skip_bytes(fields);
     let n = request::number(rest, 0);
     let room = request::number(rest, 1);
-    let mut out = [print::FILL; 100000];
+    let mut out = [print::FILL; print::ROOM];
     if out.len() < room {
         return print::line(to, b"room too large");
     }
-    let listed = naming_list::names(b, SampleNumber(n), &mut out[0..room]);
+    let listed = naming_list::names(b, SampleNumber(n), &mut out[..room]);
     print::answered(to, listed, &out)
 }

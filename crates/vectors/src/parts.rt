@@ -1,6 +1,6 @@
 // The request `units`: the bytes of a bundle, a sample number, and the room for where its delivered units stand, in numbers.
 use crate::{print, request};
-use numbers::{SampleNumber, Written};
+use numbers::{Refusal, SampleNumber};
 use std::io;
 use std::io::Write;
 
@@ -9,45 +9,30 @@ const FILL: u64 = 0xEEEEEEEEEEEEEEEE;
 
 // The first n numbers.
 fn print_first<W: Write>(to: &mut W, s: &[u64], n: usize) -> io::Result<()> {
-    let mut i: usize = 0;
-    while i < s.len() {
-        if i == n {
-            return Ok(());
-        }
-        print::number(to, s[i] as usize)?;
-        i += 1;
+    for x in s.iter().take(n) {
+        write!(to, " {x}")?;
     }
     Ok(())
 }
 
-// Whether the numbers from a place on are as they were before the call.
-fn is_kept(s: &[u64], from: usize) -> bool {
-    let mut i = from;
-    while i < s.len() {
-        if s[i] != FILL {
-            return false;
-        }
-        i += 1;
-    }
-    true
-}
-
 // A word where numbers changed from a place on, and the end of the line.
 fn end<W: Write>(to: &mut W, s: &[u64], from: usize) -> io::Result<()> {
-    if !is_kept(s, from) {
-        print::text(to, b" CHANGED")?;
-    }
+    print::changed_from(to, s, from, &FILL)?;
     print::end(to)
 }
 
 // What was answered, and whether the rest of the numbers is as it was.
-fn print_placed<W: Write>(to: &mut W, placed: Written, out: &[u64; 1024]) -> io::Result<()> {
+fn print_placed<W: Write>(
+    to: &mut W,
+    placed: Result<usize, Refusal>,
+    out: &[u64; 1024],
+) -> io::Result<()> {
     match placed {
-        Written::Refused(r) => {
+        Err(r) => {
             print::refusal(to, r)?;
             end(to, out, 0)
         }
-        Written::Count(n) => {
+        Ok(n) => {
             print::text(to, b"OK")?;
             print_first(to, out, n)?;
             end(to, out, n)
@@ -64,6 +49,6 @@ pub(crate) fn answer<W: Write>(to: &mut W, fields: &[u8]) -> io::Result<()> {
     if out.len() < room {
         return print::line(to, b"room too large");
     }
-    let placed = unit_parts::unit_parts(b, SampleNumber(n), &mut out[0..room]);
+    let placed = unit_parts::unit_parts(b, SampleNumber(n), &mut out[..room]);
     print_placed(to, placed, &out)
 }

@@ -1,11 +1,14 @@
 // The parts of an answer line.
 use crate::request;
-use numbers::{Refusal, Written};
+use numbers::Refusal;
 use std::io;
 use std::io::Write;
 
 // What a buffer is filled with before it is lent.
 pub(crate) const FILL: u8 = 0xEE;
+
+// The bytes of a buffer that is lent.
+pub(crate) const ROOM: usize = 100000;
 
 // Text as it stands.
 pub(crate) fn text<W: Write>(to: &mut W, s: &[u8]) -> io::Result<()> {
@@ -25,21 +28,13 @@ pub(crate) fn line<W: Write>(to: &mut W, s: &[u8]) -> io::Result<()> {
 
 // A number, after a space.
 pub(crate) fn number<W: Write>(to: &mut W, n: usize) -> io::Result<()> {
-    text(to, b" ")?;
-    write!(to, "{n}")
-}
-
-// A byte in two hexadecimal digits.
-fn hex<W: Write>(to: &mut W, b: u8) -> io::Result<()> {
-    write!(to, "{b:02x}")
+    write!(to, " {n}")
 }
 
 // Bytes in hexadecimal.
 fn digits<W: Write>(to: &mut W, s: &[u8]) -> io::Result<()> {
-    let mut i: usize = 0;
-    while i < s.len() {
-        hex(to, s[i])?;
-        i += 1;
+    for b in s {
+        write!(to, "{b:02x}")?;
     }
     Ok(())
 }
@@ -47,7 +42,7 @@ fn digits<W: Write>(to: &mut W, s: &[u8]) -> io::Result<()> {
 // Bytes in hexadecimal, after a space; `-` for none.
 pub(crate) fn bytes<W: Write>(to: &mut W, s: &[u8]) -> io::Result<()> {
     text(to, b" ")?;
-    if s.len() == 0 {
+    if s.is_empty() {
         text(to, b"-")?;
     }
     digits(to, s)
@@ -55,30 +50,25 @@ pub(crate) fn bytes<W: Write>(to: &mut W, s: &[u8]) -> io::Result<()> {
 
 // A refusal.
 pub(crate) fn refusal<W: Write>(to: &mut W, r: Refusal) -> io::Result<()> {
-    let place = r.place;
-    text(to, b"R")?;
-    number(to, r.number as usize)?;
-    number(to, place.0)
+    write!(to, "R {} {}", r.number, r.place.0)
 }
 
-// Whether the bytes of a lent buffer from a place on are as they were before the call.
-fn is_kept(s: &[u8], from: usize) -> bool {
-    let mut i = from;
-    while i < s.len() {
-        if s[i] != FILL {
-            return false;
-        }
-        i += 1;
-    }
-    true
-}
-
-// A word where a lent buffer changed from a place on: past the count, or anywhere after a refusal.
-pub(crate) fn changed<W: Write>(to: &mut W, s: &[u8], from: usize) -> io::Result<()> {
-    if !is_kept(s, from) {
+// A word where a lent buffer changed from a place on, which was filled with an element over and over.
+pub(crate) fn changed_from<W: Write, T: PartialEq>(
+    to: &mut W,
+    s: &[T],
+    from: usize,
+    fill: &T,
+) -> io::Result<()> {
+    if s.iter().skip(from).any(|x| x != fill) {
         text(to, b" CHANGED")?;
     }
     Ok(())
+}
+
+// The same of bytes: past the count, or anywhere after a refusal.
+pub(crate) fn changed<W: Write>(to: &mut W, s: &[u8], from: usize) -> io::Result<()> {
+    changed_from(to, s, from, &FILL)
 }
 
 // The line of a call that refused: the refusal, and whether the lent buffer is as it was.
@@ -96,14 +86,14 @@ pub(crate) fn written<W: Write>(to: &mut W, out: &[u8], n: usize) -> io::Result<
     end(to)
 }
 
-// The line of a call that writes to a lent buffer of 100,000 bytes.
+// The line of a call that writes to a lent buffer.
 pub(crate) fn answered<W: Write>(
     to: &mut W,
-    answer: Written,
-    out: &[u8; 100000],
+    answer: Result<usize, Refusal>,
+    out: &[u8],
 ) -> io::Result<()> {
     match answer {
-        Written::Refused(r) => refused(to, r, out),
-        Written::Count(n) => written(to, out, n),
+        Err(r) => refused(to, r, out),
+        Ok(n) => written(to, out, n),
     }
 }

@@ -1,6 +1,6 @@
 // The request `record`: a kind and the bytes of a record.
 use crate::{print, request};
-use record_rules::{Flag, Part, Reading, Record, Trailer};
+use record_rules::{Flag, Part, Record, Trailer};
 use std::io;
 use std::io::Write;
 
@@ -55,8 +55,8 @@ pub(crate) fn answer<W: Write>(to: &mut W, fields: &[u8]) -> io::Result<()> {
     let kind = request::as_u32(request::number(fields, 0));
     let s = request::bytes(request::skip_numbers(fields, 1));
     match records::read(kind, s) {
-        Reading::Refused(r) => print::refusal(to, r)?,
-        Reading::Accepted(r) => print_record(to, s, r)?,
+        Err(r) => print::refusal(to, r)?,
+        Ok(r) => print_record(to, s, r)?,
     }
     print::end(to)
 }

@@ -2,21 +2,12 @@
 
 // n bytes from a place on; none where they do not fit.
 pub(crate) fn part(s: &[u8], at: usize, n: usize) -> &[u8] {
-    if s.len() < at {
-        return &s[..0];
-    }
-    if s.len() - at < n {
-        return &s[..0];
-    }
-    &s[at..at + n]
+    skip(s, at).get(..n).unwrap_or(&[])
 }
 
 // What follows n bytes.
 pub(crate) fn skip(s: &[u8], n: usize) -> &[u8] {
-    if s.len() < n {
-        return &s[..0];
-    }
-    &s[n..]
+    s.get(n..).unwrap_or(&[])
 }
 
 // The number that follows i numbers.
@@ -41,8 +32,5 @@ pub(crate) fn skip_bytes(s: &[u8]) -> &[u8] {
 
 // A number as a u32: one that is too large is the largest u32.
 pub(crate) fn as_u32(n: usize) -> u32 {
-    if n < 4294967296 {
-        return n as u32;
-    }
-    u32::MAX
+    u32::try_from(n).unwrap_or(u32::MAX)
 }

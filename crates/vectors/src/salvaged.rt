@@ -1,25 +1,25 @@
 // The requests `salvage`: a kind, a length size, the bytes of a sample, and the rooms for the new sample and the list of changes; and
 // `salvagein`: the bytes of a bundle, a sample number, and the rooms for these two and for the naming list.
 use crate::{print, request};
-use numbers::SampleNumber;
-use salvage::{Salvaged, SalvagedSample};
+use numbers::{Refusal, SampleNumber};
+use salvage::{AllCounts, Counts};
 use std::io;
 use std::io::Write;
 
 // What was answered, and whether the rest of each buffer is as it was.
 fn print_sample<W: Write>(
     to: &mut W,
-    salvaged: SalvagedSample,
-    out: &[u8; 100000],
-    changes: &[u8; 100000],
+    salvaged: Result<Counts, Refusal>,
+    out: &[u8; print::ROOM],
+    changes: &[u8; print::ROOM],
 ) -> io::Result<()> {
     match salvaged {
-        SalvagedSample::Refused(r) => {
+        Err(r) => {
             print::refusal(to, r)?;
             print::changed(to, out, 0)?;
             print::changed(to, changes, 0)?;
         }
-        SalvagedSample::Done(c) => {
+        Ok(c) => {
             print::text(to, b"OK")?;
             print::bytes(to, request::part(out, 0, c.sample))?;
             print::bytes(to, request::part(changes, 0, c.changes))?;
@@ -32,19 +32,19 @@ fn print_sample<W: Write>(
 
 fn print_all<W: Write>(
     to: &mut W,
-    salvaged: Salvaged,
-    out: &[u8; 100000],
-    changes: &[u8; 100000],
-    names: &[u8; 100000],
+    salvaged: Result<AllCounts, Refusal>,
+    out: &[u8; print::ROOM],
+    changes: &[u8; print::ROOM],
+    names: &[u8; print::ROOM],
 ) -> io::Result<()> {
     match salvaged {
-        Salvaged::Refused(r) => {
+        Err(r) => {
             print::refusal(to, r)?;
             print::changed(to, out, 0)?;
             print::changed(to, changes, 0)?;
             print::changed(to, names, 0)?;
         }
-        Salvaged::Done(c) => {
+        Ok(c) => {
             print::text(to, b"OK")?;
             print::bytes(to, request::part(out, 0, c.sample))?;
             print::bytes(to, request::part(changes, 0, c.changes))?;
@@ -65,8 +65,8 @@ pub(crate) fn sample<W: Write>(to: &mut W, fields: &[u8]) -> io::Result<()> {
     let rooms = request::skip_bytes(rest);
     let room = request::number(rooms, 0);
     let list_room = request::number(rooms, 1);
-    let mut out = [print::FILL; 100000];
-    let mut changes = [print::FILL; 100000];
+    let mut out = [print::FILL; print::ROOM];
+    let mut changes = [print::FILL; print::ROOM];
     if out.len() < room || changes.len() < list_room {
         return print::line(to, b"room too large");
     }
@@ -74,8 +74,8 @@ pub(crate) fn sample<W: Write>(to: &mut W, fields: &[u8]) -> io::Result<()> {
         kind,
         length_size,
         s,
-        &mut out[0..room],
-        &mut changes[0..list_room],
+        &mut out[..room],
+        &mut changes[..list_room],
     );
     print_sample(to, salvaged, &out, &changes)
 }
@@ -87,18 +87,18 @@ pub(crate) fn bundle<W: Write>(to: &mut W, fields: &[u8]) -> io::Result<()> {
     let room = request::number(rest, 1);
     let list_room = request::number(rest, 2);
     let names_room = request::number(rest, 3);
-    let mut out = [print::FILL; 100000];
-    let mut changes = [print::FILL; 100000];
-    let mut names = [print::FILL; 100000];
+    let mut out = [print::FILL; print::ROOM];
+    let mut changes = [print::FILL; print::ROOM];
+    let mut names = [print::FILL; print::ROOM];
     if out.len() < room || changes.len() < list_room || names.len() < names_room {
         return print::line(to, b"room too large");
     }
     let salvaged = salvage::salvage(
         b,
         SampleNumber(n),
-        &mut out[0..room],
-        &mut changes[0..list_room],
-        &mut names[0..names_room],
+        &mut out[..room],
+        &mut changes[..list_room],
+        &mut names[..names_room],
     );
     print_all(to, salvaged, &out, &changes, &names)
 }

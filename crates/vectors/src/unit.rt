@@ -1,6 +1,5 @@
 // The request `unit`: the bytes of a bundle, a sample number, and the number of a delivered unit.
 use crate::{print, request};
-use delivered_unit::UnitFound;
 use numbers::SampleNumber;
 use std::io;
 use std::io::Write;
@@ -11,8 +10,8 @@ pub(crate) fn answer<W: Write>(to: &mut W, fields: &[u8]) -> io::Result<()> {
     let n = request::number(rest, 0);
     let k = request::number(rest, 1);
     match delivered_unit::unit_answer(b, SampleNumber(n), k) {
-        UnitFound::Refused(r) => print::refusal(to, r)?,
-        UnitFound::Span(_) => {
+        Err(r) => print::refusal(to, r)?,
+        Ok(_) => {
             print::text(to, b"OK")?;
             print::bytes(to, delivered_unit::unit_bytes(b, SampleNumber(n), k))?;
         }

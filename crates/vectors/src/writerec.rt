@@ -1,44 +1,30 @@
 // The request `writerec`: a kind, the room, the fields of a record and its sets.
 use crate::{print, request};
-use numbers::Written;
 use record_rules::{Fields, Flag, High, Trailer};
 use std::io;
 use std::io::Write;
 
 // complete_representation: 0 in an AVC record is none.
 fn flag(kind: u32, complete: usize) -> Flag {
-    if complete != 0 {
-        return Flag::Set;
+    match (complete, kind) {
+        (0, 0) => Flag::Absent,
+        (0, _) => Flag::Clear,
+        _ => Flag::Set,
     }
-    if kind == 0 {
-        return Flag::Absent;
-    }
-    Flag::Clear
-}
-
-// The length size, from the length size less one.
-fn size(less_one: usize) -> usize {
-    if less_one == usize::MAX {
-        return less_one;
-    }
-    less_one + 1
 }
 
 // The trailer: none, absent, or there with its values.
 fn trailer(s: &[u8]) -> Trailer {
-    let said = request::number(s, 0);
-    if said == 0 {
-        return Trailer::None;
+    match request::number(s, 0) {
+        0 => Trailer::None,
+        1 => Trailer::Absent,
+        _ => Trailer::Present(High {
+            format: request::number(s, 1),
+            luma: request::number(s, 2),
+            chroma: request::number(s, 3),
+            extensions: request::number(s, 4),
+        }),
     }
-    if said == 1 {
-        return Trailer::Absent;
-    }
-    Trailer::Present(High {
-        format: request::number(s, 1),
-        luma: request::number(s, 2),
-        chroma: request::number(s, 3),
-        extensions: request::number(s, 4),
-    })
 }
 
 // The fields of the record: from profile on, from the number of picture sets on, from the trailer on.
@@ -48,18 +34,11 @@ fn fields_of(kind: u32, front: &[u8], pictures: &[u8], last: &[u8]) -> Fields {
         compatibility: request::number(front, 1),
         level: request::number(front, 2),
         complete: flag(kind, request::number(front, 3)),
-        length_size: size(request::number(front, 4)),
+        // from the length size less one
+        length_size: request::number(front, 4).saturating_add(1),
         sequences: request::number(front, 5),
         pictures: request::number(pictures, 0),
         trailer: trailer(last),
-    }
-}
-
-// What was answered.
-fn print_written<W: Write>(to: &mut W, written: Written, out: &[u8; 1024]) -> io::Result<()> {
-    match written {
-        Written::Refused(r) => print::refused(to, r, out),
-        Written::Count(n) => print::written(to, out, n),
     }
 }
 
@@ -80,6 +59,6 @@ pub(crate) fn answer<W: Write>(to: &mut W, fields: &[u8]) -> io::Result<()> {
     if out.len() < room {
         return print::line(to, b"room too large");
     }
-    let written = record_writer::write(kind, f, a, b, x, &mut out[0..room]);
-    print_written(to, written, &out)
+    let written = record_writer::write(kind, f, a, b, x, &mut out[..room]);
+    print::answered(to, written, &out)
 }

@@ -4,6 +4,7 @@
 --   amount_few                                         no more units and bytes than the sample has
 --   extract_refused, extract_named                     23, 24; what is copied of the sample named
 --   CopyIs, is_refused_lem, is_good, extractor_amount  the extractor at p: its refusal, or how much it copies
+use Rattle.std.specs.Prelude.{Err, Ok, Result}
 use Prim.Native.Nat.{ℕ, ◌+◌, ◌≤◌, ◌<◌}
 use mathlib.Core.Path.{◌≡◌, refl, sym, ◌∙◌}
 use mathlib.Core.List.{List, [], ◌∷◌, map, Memᴰ}
@@ -24,7 +25,6 @@ use Rattle.samples.specs.Check.{check}
 use Rattle.samples.proofs.Laws.{extractor_step}
 use Rattle.bundles.specs.Recordings.{Recording}
 use Rattle.links.specs.Named.{naming}
-use Rattle.links.specs.declared.Named.TheVariants as name
 use Rattle.links.proofs.Naming.{naming_refused, naming_sample}
 use Rattle.numbers.specs.declared.SampleNumber.{SampleNumber}
 use Rattle.copies.specs.Copies.{copied, copy_fault}
@@ -34,13 +34,11 @@ use Rattle.copies.proofs.Sizes.{copied_size_lem}
 use Rattle.resolution_rules.specs.Resolving.{sample_of, span_of, own, named, linked, name_fault_at, copy_fault_at, extract_fault, copied_at}
 use Rattle.resolution_rules.specs.Amounts.{total_size}
 use Rattle.mark_rules.specs.declared.CopyAmount.{CopyAmount}
-use Rattle.mark_rules.specs.declared.CopyCounted.{CopyCounted}
-use Rattle.mark_rules.specs.declared.CopyCounted.TheVariants as counted
 use Rattle.mark_rules.specs.Amounts.{copy_amount}
 use Rattle.mark_rules.proofs.Copying.{amount_refused, amount_units}
 use Rattle.verdicts.specs.Amounts.{extract_amount, amount_by}
 
-pub amount_ill : (z : Sample) (o n : ℕ) {m p : ℕ} → check z ≡ refused m p → counted.Refused named_ill_formed ≡ copy_amount z o n
+pub amount_ill : (z : Sample) (o n : ℕ) {m p : ℕ} → check z ≡ refused m p → Err named_ill_formed ≡ copy_amount z o n
 unfolding copy_amount
 amount_ill z o n e = let f = copy_ill z o n e in rw (f)
 
@@ -61,11 +59,11 @@ amount_few z o n h =
     record { count_few = copied_count z o n c.formed; bytes_few = omega arith }
 
 module _ (r : Recording) (n : ℕ) (f : fields.Extractor) where
-  pub extract_refused : {fault : ℕ} → naming r.layout n f.track_ref_index f.sample_offset ≡ name.Refused fault → counted.Refused fault ≡ extract_amount r n f
+  pub extract_refused : {fault : ℕ} → naming r.layout n f.track_ref_index f.sample_offset ≡ Err fault → Err fault ≡ extract_amount r n f
   unfolding extract_amount
   extract_refused {fault} e = let w = naming_refused r.layout n f.track_ref_index f.sample_offset e in rw (w.0, ne_eqb fault 0 (λ z. omega (arith, w.1)))
 
-  pub extract_named : {m : SampleNumber} → naming r.layout n f.track_ref_index f.sample_offset ≡ name.Sample m → copy_amount (sample_of r m.0) f.data_offset.0 f.data_length ≡ extract_amount r n f
+  pub extract_named : {m : SampleNumber} → naming r.layout n f.track_ref_index f.sample_offset ≡ Ok m → copy_amount (sample_of r m.0) f.data_offset.0 f.data_length ≡ extract_amount r n f
   unfolding extract_amount
   extract_named e = let w = naming_sample r.layout n f.track_ref_index f.sample_offset e in rw (w.0, w.1)
 
@@ -76,24 +74,24 @@ spans_size m z [] = refl
 spans_size m z (q ∷ qs) = let below = spans_size m z qs in omega arith
 
 -- The extractor at p: what an answer of the code says of it.
-pub data CopyIs (r : Recording) (n p most : ℕ) : CopyCounted → Type 0 where
-  faulty : (f : ℕ) → extract_fault r n p ≡ f → 0 < f → CopyIs r n p most (counted.Refused f)
-  good : (a : CopyAmount) → extract_fault r n p ≡ 0 → a.count ≡ length (copied_at r n p) → a.bytes ≡ total_size (copied_at r n p) → Few most a.count a.bytes → CopyIs r n p most (counted.Units a)
+pub data CopyIs (r : Recording) (n p most : ℕ) : Result CopyAmount ℕ → Type 0 where
+  faulty : (f : ℕ) → extract_fault r n p ≡ f → 0 < f → CopyIs r n p most (Err f)
+  good : (a : CopyAmount) → extract_fault r n p ≡ 0 → a.count ≡ length (copied_at r n p) → a.bytes ≡ total_size (copied_at r n p) → Few most a.count a.bytes → CopyIs r n p most (Ok a)
 
 module _ (r : Recording) (n p most : ℕ) where
-  refused_case : (k : CopyCounted) → CopyIs r n p most k → {f : ℕ} → k ≡ counted.Refused f → (extract_fault r n p ≡ f) × (0 < f)
+  refused_case : (k : Result CopyAmount ℕ) → CopyIs r n p most k → {f : ℕ} → k ≡ Err f → (extract_fault r n p ≡ f) × (0 < f)
   refused_case k (CopyIs.faulty g e z) {f} i = let s : g ≡ f = cc in (e ∙ s, omega arith)
   refused_case k (CopyIs.good a e u v w) {f} i = let s : ◌≡◌ {A = ℕ} 0 1 = cc in absurd (omega arith)
 
-  pub is_refused_lem : {k : CopyCounted} → CopyIs r n p most k → {f : ℕ} → k ≡ counted.Refused f → (extract_fault r n p ≡ f) × (0 < f)
+  pub is_refused_lem : {k : Result CopyAmount ℕ} → CopyIs r n p most k → {f : ℕ} → k ≡ Err f → (extract_fault r n p ≡ f) × (0 < f)
   is_refused_lem {k} w e = refused_case k w e
 
-  good_case : (k : CopyCounted) → CopyIs r n p most k → {a : CopyAmount} → k ≡ counted.Units a →
+  good_case : (k : Result CopyAmount ℕ) → CopyIs r n p most k → {a : CopyAmount} → k ≡ Ok a →
       (extract_fault r n p ≡ 0) × (a.count ≡ length (copied_at r n p)) × (a.bytes ≡ total_size (copied_at r n p)) × Few most a.count a.bytes
   good_case k (CopyIs.faulty g e z) {a} i = let s : ◌≡◌ {A = ℕ} 0 1 = cc in absurd (omega arith)
   good_case k (CopyIs.good d e u v w) {a} i = let s : d ≡ a = cc in rw (← s) (e, u, v, w)
 
-  pub is_good : {k : CopyCounted} → CopyIs r n p most k → {a : CopyAmount} → k ≡ counted.Units a →
+  pub is_good : {k : Result CopyAmount ℕ} → CopyIs r n p most k → {a : CopyAmount} → k ≡ Ok a →
       (extract_fault r n p ≡ 0) × (a.count ≡ length (copied_at r n p)) × (a.bytes ≡ total_size (copied_at r n p)) × Few most a.count a.bytes
   is_good {k} w e = good_case k w e
 
@@ -111,7 +109,7 @@ module _ (r : Recording) (n : ℕ) (most : ℕ) (few : (m : ℕ) → end (sample
     abbrev N : ℕ
     N = data_length X p
 
-    extract_by : extract_amount r n (extractor_of X p) ≡ pick (name_fault_at r n p ≡? 0) (copy_amount Z O N) (counted.Refused (name_fault_at r n p))
+    extract_by : extract_amount r n (extractor_of X p) ≡ pick (name_fault_at r n p ≡? 0) (copy_amount Z O N) (Err (name_fault_at r n p))
     unfolding extract_amount name_fault_at named
     extract_by = refl
 

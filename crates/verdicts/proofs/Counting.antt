@@ -5,6 +5,7 @@
 --   counting_skip, -unit, -copy  an aggregator's head; a unit of its own; an extractor
 --   unit_fits, copy_fits         the sums fit
 --   counting_refused, -end       what is judged of the sample
+use Rattle.std.specs.Prelude.{Err, Ok}
 use Prim.Native.Nat.{ℕ, ◌+◌, ◌*◌, ◌≤◌, ◌<◌}
 use mathlib.Core.Path.{◌≡◌, refl, ap, sym, ◌∙◌}
 use mathlib.Core.List.{List, [], ◌∷◌, ◌++◌, append-nil, append_assoc, Memᴰ}
@@ -31,7 +32,6 @@ use Rattle.delivery.specs.declared.Source.TheVariants.{Own}
 use Rattle.delivery.proofs.Deliveries.{own_size, copied_size, own_none, own_add, own_append, copied_none, copied_add, copied_append, copied_own, copied_all, copies_length, deliveries_spans, deliveries_unit, deliveries_extractor, deliveries_own, deliveries_copied}
 use Rattle.delivery.proofs.Passing.{remaining, judged_from, remaining_end, remaining_skip, remaining_take, from_end, from_skip, from_take, remaining_start, from_start, Passing, passing_start, passing_skip, passing_take, passing_mem}
 use Rattle.judging.specs.Steps.{judgement}
-use Rattle.mark_rules.specs.declared.CopyCounted.TheVariants as counted
 use Rattle.mark_rules.specs.declared.CopyAmount.{CopyAmount}
 use Rattle.verdicts.specs.Amounts.{amount_by}
 use Rattle.verdicts.proofs.Copied.{Few, CopyIs, is_refused_lem, is_good, extractor_amount}
@@ -170,13 +170,13 @@ module _ (r : Recording) (n : ℕ) (x : Sample) where
           found : CopyIs r n p bundle_most (amount_by r n (extractor_at x (end x) p))
           found = rw c.passing.same (extractor_amount r n bundle_most few p (rw c.passing.same at c.passing.formed) (rw c.passing.same at listed))
 
-          pub counting_refused : {f : ℕ} → amount_by r n (extractor_at x (end x) p) ≡ counted.Refused f → judgement r n ≡ refused f p
+          pub counting_refused : {f : ℕ} → amount_by r n (extractor_at x (end x) p) ≡ Err f → judgement r n ≡ refused f p
           counting_refused e = let w = is_refused_lem r n p bundle_most found e in faulty _ w.0 w.1
 
-          pub copy_fits : {k : CopyAmount} → amount_by r n (extractor_at x (end x) p) ≡ counted.Units k → (count + k.count ≤ next x p * bundle_most) × (copied + k.bytes ≤ next x p * bundle_most)
+          pub copy_fits : {k : CopyAmount} → amount_by r n (extractor_at x (end x) p) ≡ Ok k → (count + k.count ≤ next x p * bundle_most) × (copied + k.bytes ≤ next x p * bundle_most)
           copy_fits {k} e = let w = is_good r n p bundle_most found e in fits k.count k.bytes w.0 w.1 w.2 w.3
 
-          pub counting_copy : {k : CopyAmount} → amount_by r n (extractor_at x (end x) p) ≡ counted.Units k → Counting (count + k.count) mine (copied + k.bytes) (next x p)
+          pub counting_copy : {k : CopyAmount} → amount_by r n (extractor_at x (end x) p) ≡ Ok k → Counting (count + k.count) mine (copied + k.bytes) (next x p)
           counting_copy {k} e = let w = is_good r n p bundle_most found e in more k.count k.bytes w.0 w.1 w.2 w.3
 
   module _ (count mine copied p : ℕ) (c : Counting count mine copied p) where

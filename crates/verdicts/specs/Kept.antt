@@ -12,7 +12,7 @@
 --   range_size_in b t first last    a bundle too long or a table too short, 30, or how long the joined output of the samples is
 --   with_range b t first last       the table with their judgements; a refusal leaves it as it was
 --   JudgedBetween b t first last    the table keeps the judgement of each of samples first to last
-use Rattle.std.specs.Prelude.{ℕ, zero, suc, ◌+◌, ◌*◌, ◌/◌, ◌%◌, ◌≤◌, ◌≡◌, List, length}
+use Rattle.std.specs.Prelude.{ℕ, zero, suc, ◌+◌, ◌*◌, ◌/◌, ◌%◌, ◌≤◌, ◌≡◌, List, length, Err, Ok, Result}
 use Rattle.words.specs.Tests.{◌<?◌, ◌≡?◌, pick}
 use Rattle.words.specs.Refusals.{Answer, refused, ok, passed}
 use Rattle.bundles.specs.Limits.{bundle_most}
@@ -23,8 +23,7 @@ use Rattle.resolution_rules.specs.Ranges.{between, joined}
 use Rattle.judging.specs.Steps.{on_range_in, judgement}
 use Rattle.judging.specs.declared.Amount.{Amount}
 use Rattle.verdicts.specs.Surveys.{packing, packed}
-use Rattle.verdicts.specs.declared.KeptVerdict.{KeptVerdict}
-use Rattle.verdicts.specs.declared.KeptVerdict.TheVariants.{Refused, Units}
+use Rattle.numbers.specs.declared.Refusal.{Refusal}
 
 abbrev pub judgement_word : Answer Amount → ℕ
 judgement_word (refused n p) = packed n p
@@ -38,9 +37,9 @@ units_of (ok a) = ok a.count
 unfoldable pub verdict_in : ℕ → Answer ℕ
 verdict_in w = pick (w % packing ≡? 0) (ok (w / packing)) (refused (w % packing) (w / packing))
 
-abbrev pub kept_answer : KeptVerdict → Answer ℕ
-kept_answer (Refused f) = refused f.number f.place.0
-kept_answer (Units k) = ok k
+abbrev pub kept_answer : Result ℕ Refusal → Answer ℕ
+kept_answer (Err f) = refused f.number f.place.0
+kept_answer (Ok k) = ok k
 
 abbrev pub judged_size : Answer Amount → ℕ
 judged_size (refused n p) = 0

@@ -19,20 +19,12 @@ ghost use Rattle.judging.specs.Steps.{judgement, judgement_in, answer_of};
 ghost use Rattle.verdicts.specs.Surveys.{word_most, Ready};
 ghost use Rattle.verdicts.specs.Kept.{judgement_word, judged_size, sample_output_most, judgements_upto, judgements_between, with_judgements, range_size_in, with_range, verdict_in, kept_answer};
 
-use judging::Judged;
-use numbers::{ByteOffset, Refusal, SampleNumber, Written, refusals};
-use samples::Checked;
+use judging::Amount;
+use numbers::{ByteOffset, Fault, Refusal, SampleNumber};
 use units::Track;
 
-// What is kept of a sample that was judged: its refusal, or how many units it delivers.
-#[derive(Clone, Copy)]
-pub enum KeptVerdict {
-    Refused(Refusal),
-    Units(usize),
-}
-
 // Sample n, which is x and well formed. Those that its extractors name are checked and marked first, each once.
-fn judge_formed(b: &[u8], t: &[u64], n: SampleNumber, k: Track, x: &[u8]) -> Judged
+fn judge_formed(b: &[u8], t: &[u64], n: SampleNumber, k: Track, x: &[u8]) -> Result<Amount, Refusal>
     requires { (sample k x.now ≡ sample_of (recording_in b.now t.now) n.0) × (check (sample k x.now) ≡ ok tt) × (length b.now ≤ bundle_most) }
     ensures { answer_of result ≡ judgement (recording_in b.now t.now) n.0 }
 {
@@ -43,39 +35,34 @@ fn judge_formed(b: &[u8], t: &[u64], n: SampleNumber, k: Track, x: &[u8]) -> Jud
 }
 
 // 30 for the number, 14 to 28 of sample n, or how much it delivers. A bundle too long is refused first: its amounts would not fit.
-pub fn judge(b: &[u8], t: &[u64], n: SampleNumber) -> Judged
+pub fn judge(b: &[u8], t: &[u64], n: SampleNumber) -> Result<Amount, Refusal>
     ensures { answer_of result ≡ judgement_in b.now t.now n.0 }
 {
-    let checked = judging::form::check_form(b, t, n);
-    match checked {
-        Checked::Refused(f) => Judged::Refused(f),
-        Checked::WellFormed => {
-            let k = delivery::track_of(t, n);
-            let x = sample_tables::sample_bytes(b, t, n);
-            judge_formed(b, t, n, k, x)
-        }
-    }
+    judging::form::check_form(b, t, n)?;
+    let k = delivery::track_of(t, n);
+    let x = sample_tables::sample_bytes(b, t, n);
+    judge_formed(b, t, n, k, x)
 }
 
 // A judgement as it is kept in one number: the refusal, then its place; or 0, then how many units are delivered.
-fn judgement_word(judged: Judged) -> u64
+fn judgement_word(judged: Result<Amount, Refusal>) -> u64
     requires { judgement_word (answer_of judged) ≤ word_most }
     ensures { result ≡ judgement_word (answer_of judged) }
 {
     match judged {
-        Judged::Refused(f) => surveys::word(f.number as u64, f.place.0),
-        Judged::Good(a) => surveys::word(0, a.count),
+        Err(f) => surveys::word(f.number as u64, f.place.0),
+        Ok(a) => surveys::word(0, a.count),
     }
 }
 
 // How many bytes a judged sample adds to the output of a range.
-fn judged_size(judged: Judged) -> usize
+fn judged_size(judged: Result<Amount, Refusal>) -> usize
     requires { judged_size (answer_of judged) ≤ sample_output_most }
     ensures { result ≡ judged_size (answer_of judged) }
 {
     match judged {
-        Judged::Refused(_) => 0,
-        Judged::Good(a) => a.own_bytes + a.copied_bytes + copies::LENGTH_BEFORE * a.count,
+        Err(_) => 0,
+        Ok(a) => a.own_bytes + a.copied_bytes + copies::LENGTH_BEFORE * a.count,
     }
 }
 
@@ -94,11 +81,10 @@ fn keep_range(
         × (t.new ≡ judgements_between b.now t.old first last) }
 {
     let mut size: usize = 0;
-    let mut n = first - 1;
-    while n < last {
-        n += 1;
-        let judged = measuring::judge_known(b, t, forms, rows, SampleNumber(n));
-        sample_tables::keep_count(t, SampleNumber(n), judgement_word(judged));
+    for before in first - 1..last {
+        let n = SampleNumber(before + 1);
+        let judged = measuring::judge_known(b, t, forms, rows, n);
+        sample_tables::keep_count(t, n, judgement_word(judged));
         size += judged_size(judged);
     }
     size
@@ -127,51 +113,43 @@ pub fn judge_all(b: &[u8], t: &mut [u64])
     keep_all(b, t, &forms, &rows);
 }
 
-// A refusal at 0.
-fn refused(number: u8) -> Written
-    ensures { written.answer_of result ≡ refused number 0 }
-{
-    Written::Refused(Refusal {
-        number: number,
-        place: ByteOffset(0),
-    })
-}
-
 // Samples first to last judged, each judgement kept beside its sample in the table: 30, or how long their joined output is. Each is checked
 // once, and so are those that their extractors name. A bundle too long, or a table too short for any bundle, is refused first. After a
 // refusal the table is as it was.
-pub fn judge_range(b: &[u8], t: &mut [u64], first: SampleNumber, last: SampleNumber) -> Written
+pub fn judge_range(
+    b: &[u8],
+    t: &mut [u64],
+    first: SampleNumber,
+    last: SampleNumber,
+) -> Result<usize, Refusal>
     ensures { (written.answer_of result ≡ range_size_in b.now t.old first.0 last.0)
         × (t.new ≡ with_range b.now t.old first.0 last.0) }
 {
     if bundles::BUNDLE_MOST < b.len() {
-        return refused(refusals::BUNDLE_TOO_LONG);
+        return Err(Refusal::at(Fault::BundleTooLong, 0));
     }
     if t.len() < tables::TABLE_SIZE {
-        return refused(refusals::BUNDLE_TOO_LONG);
+        return Err(Refusal::at(Fault::BundleTooLong, 0));
     }
-    let fault = judging::range_fault(sample_tables::sample_count(t), first, last);
-    if fault != 0 {
-        return refused(fault);
-    }
+    judging::check_range(sample_tables::sample_count(t), first, last)?;
     let mut forms = [0u64; surveys::FORMS_SIZE];
     let mut rows = [0u32; surveys::ROWS_SIZE];
     surveys::mark_range(b, t, first.0, last.0, &mut forms, &mut rows);
-    Written::Count(keep_range(b, t, &forms, &rows, first.0, last.0))
+    Ok(keep_range(b, t, &forms, &rows, first.0, last.0))
 }
 
 // What is kept beside sample n, read as a judgement.
-pub fn kept_verdict(t: &[u64], n: SampleNumber) -> KeptVerdict
+pub fn kept_verdict(t: &[u64], n: SampleNumber) -> Result<usize, Refusal>
     ensures { kept_answer result ≡ verdict_in (kept_count_in t.now n.0) }
 {
     let word = sample_tables::kept_count(t, n);
     let value = (word / surveys::PACKING) as usize;
     let number = (word % surveys::PACKING) as u8;
     if number == 0 {
-        return KeptVerdict::Units(value);
+        return Ok(value);
     }
-    KeptVerdict::Refused(Refusal {
-        number: number,
+    Err(Refusal {
+        number,
         place: ByteOffset(value),
     })
 }

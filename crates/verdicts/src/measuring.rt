@@ -1,6 +1,7 @@
 // A sample measured: what its own units and the copies of its extractors come to, by what is known of the samples that they name.
 ghost use Rattle.std.specs.Prelude.{◌≡◌, ◌≤◌, length};
-ghost use Rattle.words.specs.Refusals.{refused, ok};
+ghost use Rattle.words.specs.Refusals.{ok};
+ghost use Rattle.numbers.specs.Faults.{numbered};
 ghost use Rattle.units.specs.Units.{sample};
 ghost use Rattle.units.specs.Steps.{extractor_at};
 ghost use Rattle.samples.specs.Check.{check};
@@ -13,22 +14,26 @@ ghost use Rattle.verdicts.specs.Surveys.{Tells, Ready};
 ghost use Rattle.verdicts.specs.Amounts.{extract_amount, amount_by};
 
 use crate::surveys::{FORMED, PACKING, known};
-use judging::{Amount, Judged};
-use links::Named;
-use mark_rules::{CopyAmount, CopyCounted};
-use numbers::{ByteOffset, Refusal, SampleNumber, refusals};
-use samples::Checked;
+use judging::Amount;
+use mark_rules::CopyAmount;
+use numbers::{ByteOffset, Fault, Refusal, SampleNumber};
 use unit_steps::Item;
-use units::{Extractor, MaybeExtractor, Track};
+use units::{Extractor, Track};
 
 // A copy of a sample of which nothing is known: it is checked, and gone over from its front.
-fn copy_unknown(k: Track, z: &[u8], rows: &[u32], offset: ByteOffset, length: usize) -> CopyCounted
-    ensures { result ≡ copy_amount (sample k z.now) offset.0 length }
+fn copy_unknown(
+    k: Track,
+    z: &[u8],
+    rows: &[u32],
+    offset: ByteOffset,
+    length: usize,
+) -> Result<CopyAmount, Fault>
+    ensures { numbered result ≡ copy_amount (sample k z.now) offset.0 length }
 {
     let checked = samples::check_sample(k, z);
     match checked {
-        Checked::Refused(_) => CopyCounted::Refused(refusals::NAMED_ILL_FORMED),
-        Checked::WellFormed => marks::copy_of(k, z, rows, rows.len(), offset, length),
+        Err(_) => Err(Fault::NamedIllFormed),
+        Ok(()) => marks::copy_of(k, z, rows, rows.len(), offset, length),
     }
 }
 
@@ -40,15 +45,15 @@ fn copy_known(
     form: u64,
     offset: ByteOffset,
     length: usize,
-) -> CopyCounted
+) -> Result<CopyAmount, Fault>
     requires { Tells (sample k z.now) form rows.now }
-    ensures { result ≡ copy_amount (sample k z.now) offset.0 length }
+    ensures { numbered result ≡ copy_amount (sample k z.now) offset.0 length }
 {
     if form == 0 {
         return copy_unknown(k, z, rows, offset, length);
     }
     if form % PACKING != FORMED {
-        return CopyCounted::Refused(refusals::NAMED_ILL_FORMED);
+        return Err(Fault::NamedIllFormed);
     }
     let base = (form / PACKING) as usize;
     marks::copy_of(k, z, rows, base, offset, length)
@@ -62,19 +67,14 @@ fn extract(
     rows: &[u32],
     n: SampleNumber,
     f: Extractor,
-) -> CopyCounted
+) -> Result<CopyAmount, Fault>
     requires { Ready b.now t.now forms.now rows.now }
-    ensures { result ≡ extract_amount (recording_in b.now t.now) n.0 f }
+    ensures { numbered result ≡ extract_amount (recording_in b.now t.now) n.0 f }
 {
-    let named = links::name(t, n, f.track_ref_index, f.sample_offset);
-    match named {
-        Named::Refused(fault) => CopyCounted::Refused(fault),
-        Named::Sample(m) => {
-            let k = delivery::track_of(t, m);
-            let z = sample_tables::sample_bytes(b, t, m);
-            copy_known(k, z, rows, known(forms, m), f.data_offset, f.data_length)
-        }
-    }
+    let m = links::name(t, n, f.track_ref_index, f.sample_offset)?;
+    let k = delivery::track_of(t, m);
+    let z = sample_tables::sample_bytes(b, t, m);
+    copy_known(k, z, rows, known(forms, m), f.data_offset, f.data_length)
 }
 
 // What the extractor at a place of sample n copies, which is x; nothing where there is none.
@@ -87,35 +87,25 @@ fn amount_at(
     k: Track,
     x: &[u8],
     at: ByteOffset,
-) -> CopyCounted
+) -> Result<CopyAmount, Fault>
     requires { Ready b.now t.now forms.now rows.now }
-    ensures { result ≡ amount_by (recording_in b.now t.now) n.0 (extractor_at (sample k x.now) (length x.now) at.0) }
+    ensures { numbered result ≡ amount_by (recording_in b.now t.now) n.0 (extractor_at (sample k x.now) (length x.now) at.0) }
 {
     let fields = unit_steps::extractor_at(k, x, at, ByteOffset(x.len()));
     match fields {
-        MaybeExtractor::Nothing => CopyCounted::Units(CopyAmount { count: 0, bytes: 0 }),
-        MaybeExtractor::Extractor(f) => extract(b, t, forms, rows, n, f),
+        None => Ok(CopyAmount { count: 0, bytes: 0 }),
+        Some(f) => extract(b, t, forms, rows, n, f),
     }
 }
 
 // A sample that is good.
-fn good(count: usize, own: usize, copied: usize) -> Judged
+fn good(count: usize, own: usize, copied: usize) -> Result<Amount, Refusal>
     ensures { answer_of result ≡ ok (record { count = count; own_bytes = own; copied_bytes = copied }) }
 {
-    Judged::Good(Amount {
-        count: count,
+    Ok(Amount {
+        count,
         own_bytes: own,
         copied_bytes: copied,
-    })
-}
-
-// A sample that is refused.
-fn refused(number: u8, place: usize) -> Judged
-    ensures { answer_of result ≡ refused number place }
-{
-    Judged::Refused(Refusal {
-        number: number,
-        place: ByteOffset(place),
     })
 }
 
@@ -128,7 +118,7 @@ pub(crate) fn measure(
     n: SampleNumber,
     k: Track,
     x: &[u8],
-) -> Judged
+) -> Result<Amount, Refusal>
     requires { (sample k x.now ≡ sample_of (recording_in b.now t.now) n.0) × (check (sample k x.now) ≡ ok tt)
         × (length b.now ≤ bundle_most) × Ready b.now t.now forms.now rows.now }
     ensures { answer_of result ≡ judgement (recording_in b.now t.now) n.0 }
@@ -149,16 +139,10 @@ pub(crate) fn measure(
             }
             Item::Extractor(next) => {
                 let copy = amount_at(b, t, forms, rows, n, k, x, ByteOffset(p));
-                match copy {
-                    CopyCounted::Refused(fault) => {
-                        return refused(fault, p);
-                    }
-                    CopyCounted::Units(a) => {
-                        count += a.count;
-                        copied += a.bytes;
-                        p = next.0;
-                    }
-                }
+                let a = numbers::at_place(copy, p)?;
+                count += a.count;
+                copied += a.bytes;
+                p = next.0;
             }
             Item::Unit(u) => {
                 count += 1;
@@ -177,7 +161,7 @@ pub(crate) fn judge_known(
     forms: &[u64],
     rows: &[u32],
     n: SampleNumber,
-) -> Judged
+) -> Result<Amount, Refusal>
     requires { (length b.now ≤ bundle_most) × Ready b.now t.now forms.now rows.now }
     ensures { answer_of result ≡ judgement (recording_in b.now t.now) n.0 }
 {
@@ -188,11 +172,11 @@ pub(crate) fn judge_known(
         return measure(b, t, forms, rows, n, k, x);
     }
     if form != 0 {
-        return refused((form % PACKING) as u8, (form / PACKING) as usize);
+        return Err(Refusal {
+            number: (form % PACKING) as u8,
+            place: ByteOffset((form / PACKING) as usize),
+        });
     }
-    let checked = samples::check_sample(k, x);
-    match checked {
-        Checked::Refused(f) => Judged::Refused(f),
-        Checked::WellFormed => measure(b, t, forms, rows, n, k, x),
-    }
+    samples::check_sample(k, x)?;
+    measure(b, t, forms, rows, n, k, x)
 }

@@ -4,11 +4,9 @@ ghost use Rattle.units.specs.Units.{sample};
 ghost use Rattle.bundles.specs.Limits.{bundle_most};
 ghost use Rattle.verdicts.specs.Surveys.{packed, word_most, rows_most, Told, Survey, Ready};
 
-use links::Named;
 use numbers::{ByteOffset, SampleNumber};
-use samples::Checked;
 use unit_steps::Item;
-use units::{MaybeExtractor, Track};
+use units::Track;
 
 // As many numbers are enough for the forms of all samples, numbered from 1.
 pub(crate) const FORMS_SIZE: usize = bundles::SAMPLE_MOST + 1;
@@ -48,8 +46,8 @@ fn mark_one(k: Track, x: &[u8], rows: &mut [u32], base: usize) -> u64
 {
     let checked = samples::check_sample(k, x);
     match checked {
-        Checked::Refused(f) => word(f.number as u64, f.place.0),
-        Checked::WellFormed => {
+        Err(f) => word(f.number as u64, f.place.0),
+        Ok(()) => {
             let most = rows.len() / marks::ROW;
             if most < base + x.len() / marks::BLOCK {
                 return 0;
@@ -96,10 +94,8 @@ pub(crate) fn mark_all(b: &[u8], t: &[u64], forms: &mut [u64], rows: &mut [u32])
 {
     let count = sample_tables::sample_count(t);
     let mut used: usize = 0;
-    let mut n: usize = 0;
-    while n < count {
-        n += 1;
-        used = mark_sample(b, t, forms, rows, used, SampleNumber(n));
+    for n in 0..count {
+        used = mark_sample(b, t, forms, rows, used, SampleNumber(n + 1));
     }
 }
 
@@ -120,12 +116,12 @@ fn mark_linked(
 {
     let fields = unit_steps::extractor_at(k, x, at, ByteOffset(x.len()));
     match fields {
-        MaybeExtractor::Nothing => used,
-        MaybeExtractor::Extractor(f) => {
+        None => used,
+        Some(f) => {
             let named = links::name(t, n, f.track_ref_index, f.sample_offset);
             match named {
-                Named::Refused(_) => used,
-                Named::Sample(m) => mark_sample(b, t, forms, rows, used, m),
+                Err(_) => used,
+                Ok(m) => mark_sample(b, t, forms, rows, used, m),
             }
         }
     }
@@ -218,9 +214,7 @@ pub(crate) fn mark_range(
     ensures { Ready b.now t.now forms.new rows.new }
 {
     let mut used: usize = 0;
-    let mut n = first - 1;
-    while n < last {
-        n += 1;
-        used = mark_with_named(b, t, SampleNumber(n), forms, rows, used);
+    for n in first - 1..last {
+        used = mark_with_named(b, t, SampleNumber(n + 1), forms, rows, used);
     }
 }

@@ -1,4 +1,5 @@
 -- A bundle that is refused is so by its own refusal; the table has room for any. Assumes nothing.
+use Rattle.std.proofs.lemmas.Result.{err_from_is_err_and}
 use native.Mathlib.Omega.{arith}
 use mathlib.Core.Path.{sym, ◌∙◌}
 use lib.ListN.{length}
@@ -10,16 +11,18 @@ use Rattle.audit.proofs.Answered.{lines_filled, tally_filled}
 use Rattle.audit.proofs.audit.Goals as goal
 
 pub audit_accepted-requires : goal.audit_accepted-requires
-audit_accepted-requires c = (table_short _ _ (sym c.fill_table-filled.ensures.0 ∙ c.in-Done.is), omega (arith, c.fill_table-filled.auto.t))
+audit_accepted-requires c = (table_short _ _ (sym c.fill_table.ensures.0 ∙ c.in_ok-fill_table.was), omega (arith, c.fill_table.auto.t))
 
-pub returns-in-Refused : goal.returns-in-Refused
-returns-in-Refused c = let a = c.args in
-    let v = table_refuses a.b.now _ c.in-Refused.f (omega arith) (sym c.fill_table-filled.ensures.0 ∙ c.in-Refused.is) in
-    (refuse (audit_bundle first_layout a.b.now _ v), sym (tally_bundle first_layout a.b.now _ v))
+pub returns-in_err-fill_table : goal.returns-in_err-fill_table
+returns-in_err-fill_table c =
+    let p = err_from_is_err_and c.from_residual.result c.from_residual.ensures.1 in
+    rw (p.1, p.2) (let a = c.args in
+    let v = table_refuses a.b.now _ _ (omega arith) (sym c.fill_table.ensures.0 ∙ c.in_err-fill_table.was) in
+    (refuse (audit_bundle first_layout a.b.now _ v), sym (tally_bundle first_layout a.b.now _ v)))
 
-pub returns-in-Done : goal.returns-in-Done
-returns-in-Done c = let a = c.args in
+pub returns : goal.returns
+returns c = let a = c.args in
     let room = length a.lines.now in
-    let done = sym c.fill_table-filled.ensures.0 ∙ c.in-Done.is in
+    let done = sym c.fill_table.ensures.0 ∙ c.in_ok-fill_table.was in
     let e = c.audit_accepted.ensures in
-    (rw (← lines_filled _ _ done c.fill_table-filled.ensures.1 room) e.0, e.1 ∙ tally_filled _ _ done c.fill_table-filled.ensures.1 room)
+    (rw (← lines_filled _ _ done c.fill_table.ensures.1 room) e.0, e.1 ∙ tally_filled _ _ done c.fill_table.ensures.1 room)

@@ -31,7 +31,7 @@ pub overflow_mul-size : goal.overflow_mul-size
 overflow_mul-size c = let h = samples_most c.args.t.now in let e = c.sample_count-count.ensures in omega arith
 
 pub returns-then-out-size : goal.returns-then-out-size
-returns-then-out-size c = let h = rw (count (goal.at.returns-then-out-size c).After-sample_count-count) at c.if-out-size.true in (rw c.refused.ensures.0 (refuse (lines_not _ _ h)), c.refused.ensures.1 ∙ sym (tally_not _ _ h))
+returns-then-out-size c = let h = rw (count (goal.at.returns-then-out-size c).After-sample_count-count) at c.if-out-size.true in (rw c.at.ensures (refuse (lines_not _ _ h)), rw c.at.ensures (sym (tally_not _ _ h)))
 
 pub audit_samples-tally-requires : goal.audit_samples-tally-requires
 audit_samples-tally-requires c = let e = c.judge_all.ensures in

@@ -3,7 +3,7 @@ use Rattle.words.proofs.Tests.{tests}
 use Rattle.audit.proofs.outcome.Goals as goal
 
 pub returns-then-size-eq0 : goal.returns-then-size-eq0
-returns-then-size-eq0 c = rw c.in-Units.is (search tests)
+returns-then-size-eq0 c = rw c.in-Ok.is (search tests)
 
 pub returns-else-size-eq0 : goal.returns-else-size-eq0
-returns-else-size-eq0 c = rw c.in-Units.is (search tests)
+returns-else-size-eq0 c = rw c.in-Ok.is (search tests)

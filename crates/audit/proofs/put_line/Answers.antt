@@ -2,10 +2,10 @@
 use Rattle.audit_rules.specs.Auditing.{line_bytes}
 use Rattle.audit.proofs.put_line.Goals as goal
 
-pub returns-in-Refused : goal.returns-in-Refused
+pub returns-in-Err : goal.returns-in-Err
 unfolding line_bytes
-returns-in-Refused c = rw (c.put_numbers.ensures, c.in-Refused.is)
+returns-in-Err c = rw (c.put_numbers.ensures, c.in-Err.is)
 
-pub returns-in-Units : goal.returns-in-Units
+pub returns-in-Ok : goal.returns-in-Ok
 unfolding line_bytes
-returns-in-Units c = rw (c.put_numbers-in-Units.ensures, c.in-Units.is)
+returns-in-Ok c = rw (c.put_numbers-in-Ok.ensures, c.in-Ok.is)

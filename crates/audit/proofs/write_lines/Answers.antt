@@ -23,9 +23,6 @@ put_line-requires c = let r = lining_room c.args.t.now c.args.skipped c.args.las
 pub overflow_add-at : goal.overflow_add-at
 overflow_add-at c = let r = lining_room c.args.t.now c.args.skipped c.args.last.0 c.args.lines.now c.loop-n.lines c.loop-n.n c.loop-n.at c.loop-n.invariant c.loop-n-test.true in let k = c.well_formed.0 in omega arith
 
-pub loop-n-smaller : goal.loop-n-smaller
-loop-n-smaller c = omega (arith, c.loop-n-test.true)
-
 pub loop-n-preserved : goal.loop-n-preserved
 loop-n-preserved c = lining_more c.args.t.now c.args.skipped c.args.last.0 c.args.lines.now c.loop-n.lines c.loop-n.n c.loop-n.at c.loop-n.invariant c.loop-n-test.true c.kept_verdict.ensures _ (c.put_line.ensures ∙ ap (put c.loop-n.lines c.loop-n.at) (line_for_lem c.kept_verdict.result))
 

@@ -10,34 +10,30 @@ use Rattle.bundles.specs.Bundles.{bytes_verdict}
 use Rattle.words.specs.Lists.{sum}
 use Rattle.words.specs.Refusals.{ok}
 use Rattle.bundles.proofs.Sections.{samples_good}
-use Rattle.bundles.proofs.Checking.{ended, refused_there}
+use Rattle.bundles.proofs.Checking.{ended}
 use Rattle.bundles.proofs.check_contents.Goals as goal
-use Rattle.bundles.proofs.check_contents.Goals.{After-number-n, In-Ended}
+use Rattle.bundles.proofs.check_contents.Goals.{After-number-n, In_ok-total}
 
 -- section three is accepted, and its sum
-total-is : (c : In-Ended) → (samples_verdict c.args.b.now ≡ ok tt) × (c.in-Ended.total ≡ sum (lengths c.args.b.now))
-total-is c = ended (samples_verdict c.args.b.now) (rw c.in-Ended.is at c.check_samples.ensures)
+total-is : (c : In_ok-total) → (samples_verdict c.args.b.now ≡ ok tt) × (c.in_ok-total.total ≡ sum (lengths c.args.b.now))
+total-is c = ended (samples_verdict c.args.b.now) (rw c.in_ok-total.was at c.check_samples.ensures)
 
-few : (c : In-Ended) → (c.args.at + sample_count_size ≤ length c.args.b.now) × (entry_count c.args.b.now ≤ sample_most)
+few : (c : In_ok-total) → (c.args.at + sample_count_size ≤ length c.args.b.now) × (entry_count c.args.b.now ≤ sample_most)
 few c = let s = (samples_good c.args.b.now (total-is c).0).count in rw c.requires (s.inside, s.few)
 
 counted : (c : After-number-n) → c.number-n.result ≡ entry_count c.args.b.now
 counted c = rw (← c.requires) c.number-n.ensures
 
 pub overflow_add-at : goal.overflow_add-at
-overflow_add-at c = let h = few (goal.at.overflow_add-at c).In-Ended in omega arith
+overflow_add-at c = let h = few (goal.at.overflow_add-at c).In_ok-total in omega arith
 
 pub overflow_mul-n : goal.overflow_mul-n
-overflow_mul-n c = let h = few (goal.at.overflow_mul-n c).In-Ended in let e = counted (goal.at.overflow_mul-n c).After-number-n in omega arith
+overflow_mul-n c = let h = few (goal.at.overflow_mul-n c).In_ok-total in let e = counted (goal.at.overflow_mul-n c).After-number-n in omega arith
 
-pub overflow_add-at-in-Ended : goal.overflow_add-at-in-Ended
-overflow_add-at-in-Ended c = let h = few (goal.at.overflow_add-at-in-Ended c).In-Ended in let e = counted (goal.at.overflow_add-at-in-Ended c).After-number-n in omega arith
+pub overflow_add-at-2 : goal.overflow_add-at-2
+overflow_add-at-2 c = let h = few (goal.at.overflow_add-at-2 c).In_ok-total in let e = counted (goal.at.overflow_add-at-2 c).After-number-n in omega arith
 
-pub returns-in-Refused : goal.returns-in-Refused
-returns-in-Refused c = let b = c.args.b.now in
-    rw (refused_there (sum (lengths b)) (samples_verdict b) (rw c.in-Refused.is at c.check_samples.ensures))
-
-pub returns-in-Ended : goal.returns-in-Ended
+pub returns : goal.returns
 unfolding bytes_verdict byte_count_at
-returns-in-Ended c = let t = total-is (goal.at.returns-in-Ended c).In-Ended in
-    rw (t.0, ← t.1, ← counted (goal.at.returns-in-Ended c).After-number-n, ← c.requires) c.check_bytes.ensures
+returns c = let t = total-is (goal.at.returns c).In_ok-total in
+    rw (t.0, ← t.1, ← counted (goal.at.returns c).After-number-n, ← c.requires) c.check_bytes.ensures

@@ -1,44 +1,57 @@
--- The loop's invariant: the walk over the references has passed i of them and come to the place p. Assumes nothing.
+-- The loop's invariant: the walk over the references has passed some of them and come to the place p. Assumes nothing.
 use native.Mathlib.Omega.{arith}
-use mathlib.Core.Path.{◌≡◌, refl, sym, ◌∙◌}
+use mathlib.Core.Path.{◌≡◌, refl, ◌∙◌}
 use Prim.Native.Nat.{◌+◌, ◌*◌}
+use Rattle.std.proofs.lemmas.Result.{err_from_is_err_and}
 use Rattle.words.proofs.Walks.{skip_stride}
-use Rattle.bundles.specs.Limits.{reference_most}
+use Rattle.words.proofs.Entries.{walked_start, walked_next, walked_end}
+use Rattle.numbers.proofs.Faults.{place_none, place_value, place_fault}
+use Rattle.bundles.specs.Limits.{count_fault, reference_most}
 use Rattle.bundles.specs.Fields.{reference_count_size, reference_size}
-use Rattle.bundles.specs.References.{references_verdict, samples_at}
-use Rattle.words.proofs.Entries.{walked_start, walked_next, walked_refused, walked_end}
+use Rattle.bundles.specs.References.{references_verdict, samples_at, reference_fault}
 use Rattle.bundles.proofs.Sections.{count_good, reference_good}
-use Rattle.bundles.proofs.Checking.{at_count, at_entry, at_end}
+use Rattle.bundles.proofs.Checking.{at_count, at_entry, at_end, walked_fault}
 use Rattle.bundles.proofs.check_references.Goals as goal
+use Rattle.bundles.proofs.check_references.Goals.{In_ok-n, In_ok-at_place}
 
-pub returns-then-fault-ne0 : goal.returns-then-fault-ne0
+-- the count has no refusal, and what it is
+counted : (c : In_ok-n) → count_fault c.args.b.now c.args.at reference_count_size 0 reference_most ≡ 0
+counted c = place_none c.count_at-count.result c.args.at c.in_ok-n.ensures c.count_at-count.ensures.fault
+
+-- the reference at hand has none
+here : (c : In_ok-at_place) → reference_fault c.args.b.now c.loop.p ≡ 0
+here c = place_none c.reference_fault.result c.loop.p c.in_ok-at_place.ensures c.reference_fault.ensures
+
+pub returns-in_err-n : goal.returns-in_err-n
 unfolding references_verdict
-returns-then-fault-ne0 c = rw (c.refuse.ensures, ← c.requires.0) (at_count _ _ _ c.count_fault-fault.ensures c.if-fault-ne0.true)
+returns-in_err-n c =
+    let p = err_from_is_err_and c.from_residual.result c.from_residual.ensures.1 in
+    rw (p.1, p.2, ← c.requires.0) (at_count _ _ _ _ (place_fault c.count_at-count.result c.args.at c.in_err-n.ensures c.count_at-count.ensures.fault))
 
 pub overflow_add-p : goal.overflow_add-p
-overflow_add-p c = let h = count_good c.args.b.now c.args.at reference_count_size 0 reference_most (sym c.count_fault-fault.ensures ∙ c.if-fault-ne0.false) in omega arith
+overflow_add-p c = let h = count_good c.args.b.now c.args.at reference_count_size 0 reference_most (counted (goal.at.overflow_add-p c).In_ok-n) in omega arith
 
-pub loop-i-init : goal.loop-i-init
-loop-i-init c = walked_start
+pub loop-init : goal.loop-init
+loop-init c = walked_start
 
-pub reference_fault-fault-requires : goal.reference_fault-fault-requires
-reference_fault-fault-requires c = c.requires.1
-
-pub returns-then-fault-ne0-2 : goal.returns-then-fault-ne0-2
+pub returns-in_err-at_place : goal.returns-in_err-at_place
 unfolding references_verdict
-returns-then-fault-ne0-2 c = let w = walked_refused c.loop-i.invariant c.loop-i-test.true c.reference_fault-fault.ensures c.if-fault-ne0-2.true in
-    rw (c.refuse-then-fault-ne0-2.ensures, ← c.requires.0) (at_entry _ _ _ c.count_fault-fault.ensures c.if-fault-ne0.false (rw c.number-n.ensures at w))
+returns-in_err-at_place c =
+    let p = err_from_is_err_and c.from_residual-in_err-at_place.result c.from_residual-in_err-at_place.ensures.1 in
+    let n = place_value c.count_at-count.result _ c.args.at c.in_ok-n.ensures c.count_at-count.ensures.value in
+    let w = walked_fault c.loop.invariant c.loop-test.true (place_fault c.reference_fault.result c.loop.p c.in_err-at_place.ensures c.reference_fault.ensures) in
+    rw (p.1, p.2, ← c.requires.0) (at_entry _ _ _ _ (counted (goal.at.returns-in_err-at_place c).In_ok-n) (rw n at w))
 
-pub overflow_add-p-in-loop-i : goal.overflow_add-p-in-loop-i
-overflow_add-p-in-loop-i c = let h = reference_good c.args.b.now c.loop-i.p (sym c.reference_fault-fault.ensures ∙ c.if-fault-ne0-2.false) in omega arith
+pub overflow_add-p-in-loop : goal.overflow_add-p-in-loop
+overflow_add-p-in-loop c = let h = reference_good c.args.b.now c.loop.p (here (goal.at.overflow_add-p-in-loop c).In_ok-at_place) in omega arith
 
-pub loop-i-preserved : goal.loop-i-preserved
-loop-i-preserved c = walked_next c.loop-i.invariant c.loop-i-test.true (sym c.reference_fault-fault.ensures ∙ c.if-fault-ne0-2.false) refl
+pub loop-preserved : goal.loop-preserved
+loop-preserved c = walked_next c.loop.invariant c.loop-test.true (here (goal.at.loop-preserved c).In_ok-at_place) refl
 
 pub returns : goal.returns
 unfolding references_verdict samples_at
-returns c = let w = walked_end c.loop-i.invariant c.loop-i-test.false in
-    let a = c.args in
-    let g = rw c.number-n.ensures at w.0 in
-    let e : c.loop-i.p ≡ a.at + reference_count_size + c.number-n.result * reference_size = w.1 ∙ skip_stride reference_size c.number-n.result (a.at + reference_count_size) in
-    rw (← c.requires.0, e, c.number-n.ensures) (at_end _ _ _ c.count_fault-fault.ensures c.if-fault-ne0.false g)
+returns c = let a = c.args in
+    let n = place_value c.count_at-count.result _ a.at c.in_ok-n.ensures c.count_at-count.ensures.value in
+    let w = walked_end c.loop.invariant (omega arith) in
+    let e : c.loop.p ≡ a.at + reference_count_size + c.in_ok-n.n * reference_size = w.1 ∙ skip_stride reference_size c.in_ok-n.n (a.at + reference_count_size) in
+    rw (← c.requires.0, e, n) (at_end _ _ _ _ (counted (goal.at.returns c).In_ok-n) (rw n at w.0))

@@ -1,45 +1,33 @@
 -- A unit that is found lies in the sample, so its part does. Assumes nothing.
 use native.Mathlib.Omega.{arith}
 use native.Mathlib.Nat.{add-sub_cancel_left}
-use mathlib.Core.Path.{◌≡◌, sym, ◌∙◌}
+use mathlib.Core.Path.{sym, ◌∙◌}
 use Prim.Native.Nat.{◌≤◌}
 use lib.ListN.{length}
-use Rattle.words.specs.Lists.{nth}
-use Rattle.units.specs.Units.{sample, end, size, next}
-use Rattle.copies.specs.Extracted.{plain_units}
-use Rattle.copies.specs.Range.{copy_end_in}
+use Rattle.units.specs.Units.{sample, size, next}
 use Rattle.copies.proofs.Ranges.{in_most}
 use Rattle.copies.proofs.Plain.{unit_past, unit_place, plain_inside}
 use Rattle.copies.proofs.copied_unit.Goals as goal
-use Rattle.copies.proofs.copied_unit.Goals.{After-place_among-at, Else-z-at}
+use Rattle.copies.proofs.copied_unit.Goals.{In-Some}
 
--- where it stands
-place : (c : After-place_among-at) → let a = c.args in let x = sample a.k a.z.now in c.place_among-at.result ≡ nth (plain_units x a.offset.0 (copy_end_in x a.offset.0 a.length)) a.i (end x)
-place c = rw c.copy_end_in-to.ensures at c.place_among-at.ensures
+inside : (c : In-Some) → let a = c.args in next (sample a.k a.z.now) c.in-Some.at ≤ length a.z.now
+inside c = plain_inside _ _ _ _ _ c.in-Some.ensures.0 c.in-Some.ensures.1
 
-place_Else1 : (c : Else-z-at) → let a = c.args in let x = sample a.k a.z.now in c.place_among-at.result ≡ nth (plain_units x a.offset.0 (copy_end_in x a.offset.0 a.length)) a.i (end x)
-place_Else1 c = rw c.copy_end_in-to.ensures at c.place_among-at.ensures
+pub place_among-requires : goal.place_among-requires
+place_among-requires c = rw c.copy_end_in-to.ensures (in_most _ _ _)
 
-inside : (c : Else-z-at) → let a = c.args in next (sample a.k a.z.now) c.place_among-at.result ≤ length a.z.now
-inside c = plain_inside _ _ _ _ _ (place_Else1 c) (let h = c.if-z-at.false in omega arith)
-
-pub place_among-at-requires : goal.place_among-at-requires
-place_among-at-requires c = rw c.copy_end_in-to.ensures (in_most _ _ _)
-
-pub returns-then-z-at : goal.returns-then-z-at
-returns-then-z-at c = sym (unit_place _ _ _ _ ∙ rw (← place (goal.at.returns-then-z-at c).After-place_among-at) (unit_past _ _ c.if-z-at.true))
-
-pub overflow_add-start : goal.overflow_add-start
-overflow_add-start c = let w = inside (goal.at.overflow_add-start c).Else-z-at in omega arith
-
-pub overflow_add-end : goal.overflow_add-end
+pub overflow_add-result : goal.overflow_add-result
 unfolding size
-overflow_add-end c = let w = inside (goal.at.overflow_add-end c).Else-z-at in omega arith
+overflow_add-result c = let w = inside (goal.at.overflow_add-result c).In-Some in omega arith
 
-pub slice_bounds-result-end-2 : goal.slice_bounds-result-end-2
+pub slice_bounds-result-end : goal.slice_bounds-result-end
 unfolding size
-slice_bounds-result-end-2 c = let w = inside (goal.at.slice_bounds-result-end-2 c).Else-z-at in omega arith
+slice_bounds-result-end c = let w = inside (goal.at.slice_bounds-result-end c).In-Some in omega arith
 
-pub returns : goal.returns
+pub returns-in-None : goal.returns-in-None
+returns-in-None c = let p = rw c.copy_end_in-to.ensures at c.in-None.ensures in sym (unit_place _ _ _ _ ∙ rw p (unit_past _ _ (omega arith)))
+
+pub returns-in-Some : goal.returns-in-Some
 unfolding size
-returns c = rw (unit_place _ _ _ _, ← place (goal.at.returns c).After-place_among-at, add-sub_cancel_left, c.number.ensures, c.bytes.ensures.0)
+returns-in-Some c = let p = rw c.copy_end_in-to.ensures at c.in-Some.ensures.0 in
+    rw (unit_place _ _ _ _, ← p, add-sub_cancel_left, c.number.ensures, c.bytes.ensures.0)

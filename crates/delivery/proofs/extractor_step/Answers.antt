@@ -2,13 +2,10 @@
 use Rattle.tables.specs.Tables.{recording_in}
 use Rattle.delivery.proofs.extractor_step.Goals as goal
 
-pub returns-in-Nothing : goal.returns-in-Nothing
-returns-in-Nothing c = rw (← c.extractor_at-fields.ensures, c.in-Nothing.is)
-
-pub returns-in-Refused : goal.returns-in-Refused
+pub returns-in_default-name : goal.returns-in_default-name
 unfolding recording_in
-returns-in-Refused c = rw (← c.extractor_at-fields.ensures, c.in-Extractor.is, ← c.name-named.ensures, c.in-Refused.is)
+returns-in_default-name c = rw (← c.extractor_at.ensures, c.in-Some.is, ← c.in_default-name.ensures)
 
-pub returns-in-Sample : goal.returns-in-Sample
+pub returns : goal.returns
 unfolding recording_in
-returns-in-Sample c = rw (← c.extractor_at-fields.ensures, c.in-Extractor.is, ← c.name-named.ensures, c.in-Sample.is, c.copy_of-copy.ensures)
+returns c = rw (← c.extractor_at.ensures, c.in-Some.is, ← c.in-Ok.ensures, c.copy_of.ensures)

@@ -7,6 +7,6 @@ pub returns-then-count-next : goal.returns-then-count-next
 unfolding number_after
 returns-then-count-next c = rw (lt-ltb _ _ c.if-count-next.true)
 
-pub returns : goal.returns
+pub returns-else-count-next : goal.returns-else-count-next
 unfolding number_after
-returns c = rw (le-ltb _ _ c.if-count-next.false)
+returns-else-count-next c = rw (le-ltb _ _ c.if-count-next.false)

@@ -3,10 +3,10 @@ use borrow.Author.Tests.{lt-ltb, le-ltb}
 use Rattle.delivery.specs.Steps.{step_of}
 use Rattle.delivery.proofs.step.Goals as goal
 
-pub returns-then-copy : goal.returns-then-copy
+pub returns-then-c : goal.returns-then-c
 unfolding step_of
-returns-then-copy c = rw (lt-ltb _ _ c.if-copy.true, ← c.sample_bytes.ensures) c.copy_step.ensures
+returns-then-c c = rw (lt-ltb _ _ c.if-c.true, ← c.sample_bytes.ensures) c.copy_step.ensures
 
-pub returns : goal.returns
+pub returns-else-c : goal.returns-else-c
 unfolding step_of
-returns c = rw (le-ltb _ _ c.if-copy.false) c.own_step.ensures
+returns-else-c c = rw (le-ltb _ _ c.if-c.false) c.own_step.ensures

@@ -1,6 +1,6 @@
 -- The loop's invariant: the rows of the first i references are written, and p is the place of the next. Assumes nothing.
 use mathlib.Core.Path.{◌≡◌}
-use Prim.Native.Nat.{◌+◌, ◌-◌, ◌≤◌}
+use Prim.Native.Nat.{◌+◌}
 use lib.ListN.{length}
 use Rattle.words.specs.Walks.{skip}
 use Rattle.filling.specs.Filling.{write_rows, reference_cells}
@@ -10,7 +10,4 @@ use Rattle.tables.specs.Tables.{reference_row}
 use Rattle.filling.proofs.fill_references.Given as goal
 
 abbrev pub invariant-loop-i : goal.invariant-loop-i
-invariant-loop-i l = (l.i ≤ l.n) × (l.p ≡ skip (λ q. q + reference_size) l.i l.start) × (length l.t ≡ length l.initial.t) × (l.t ≡ write_rows l.initial.t (reference_row 1) (reference_cells (layout_of l.b)) l.i)
-
-abbrev pub decreases-loop-i : goal.decreases-loop-i
-decreases-loop-i l = l.n - l.i
+invariant-loop-i l = (l.p ≡ skip (λ q. q + reference_size) l.i l.start) × (length l.t ≡ length l.initial.t) × (l.t ≡ write_rows l.initial.t (reference_row 1) (reference_cells (layout_of l.b)) l.i)

@@ -1,18 +1,18 @@
--- Four stores in a row. Assumes nothing.
+-- A row is written over four numbers. Assumes nothing.
+use Rattle.std.proofs.Common.{append_assoc}
+use Rattle.std.proofs.lemmas.List.{drop-drop}
 use native.Mathlib.Omega.{arith}
-use Prim.Native.Nat.{◌*◌}
-use lib.ListN.{length-set}
-use Rattle.words.proofs.Rows.{row_write}
+use mathlib.Core.Path.{◌≡◌, sym}
+use mathlib.Core.List.{List}
+use Prim.Native.Nat.{ℕ, ◌+◌, ◌*◌}
+use borrow.Rule.Slice.PartMut.{put_mid}
+use lib.ListN.{length, take, drop}
+use Rattle.words.specs.Buffers.{write_at}
 use Rattle.filling.proofs.put_row.Goals as goal
 
-pub bounds-t-at-2 : goal.bounds-t-at-2
-bounds-t-at-2 c = simp length-set (omega arith)
-
-pub bounds-t-at-3 : goal.bounds-t-at-3
-bounds-t-at-3 c = simp length-set (omega arith)
-
-pub bounds-t-at-4 : goal.bounds-t-at-4
-bounds-t-at-4 c = simp length-set (omega arith)
+written : (t : List ℕ) (p k : ℕ) (x y : List ℕ) → k ≡ length x → y ≡ x → put_mid p k t y ≡ write_at t p x
+unfolding write_at
+written t p k x y e f = rw (e, f, drop-drop (length x) p t) (sym (append_assoc (take p t) x (drop (p + length x) t)))
 
 pub returns : goal.returns
-returns c = let a = c.args in row_write a.t.now (a.row * 4) a.first a.second a.third 0 c.requires.1
+returns c = written c.args.t.now (c.args.row * 4) _ _ _ (omega arith) c.copy_from_slice.ensures.after

@@ -18,9 +18,6 @@ read c = rw (← c.requires.1) c.number.ensures
 fewer : (c : In-loop-n) → c.loop-n.n < entry_count c.args.b.now
 fewer c = omega (arith, c.requires.2, c.loop-n-test.true)
 
-pub loop-n-init : goal.loop-n-init
-loop-n-init c = c.requires.3
-
 pub overflow_mul-n : goal.overflow_mul-n
 overflow_mul-n c = let h = fewer (goal.at.overflow_mul-n c).In-loop-n in let e = entries_inside _ (all (goal.at.overflow_mul-n c).In-loop-n) in omega arith
 

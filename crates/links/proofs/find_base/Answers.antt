@@ -21,7 +21,7 @@ limit : (c : In-loop-low) → c.sample_range-range.result.after ≤ sample_most
 limit c = rw c.sample_range-range.ensures.0 (range_most _ _)
 
 pub loop-low-init : goal.loop-low-init
-loop-low-init c = searching_begun _ _ c.range_size-high.ensures
+loop-low-init c = searching_begun _ _ c.size-high.ensures
 
 pub overflow_add-middle : goal.overflow_add-middle
 overflow_add-middle c = let m = limit (goal.at.overflow_add-middle c).In-loop-low in omega arith

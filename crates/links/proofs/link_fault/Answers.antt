@@ -5,16 +5,15 @@ use Rattle.links.proofs.Links.{link_good}
 use Rattle.links.proofs.Cases.{link_zero, link_past}
 use native.Mathlib.Nat.{pos_of_ne-zero}
 use Rattle.links.proofs.link_fault.Goals as goal
+use Rattle.links.proofs.link_fault.Goals.{then-index-eq0-via-then-index-eq0, then-index-eq0-via-else-index-eq0+then-reference_count-index}
 
 pub returns-then-index-eq0 : goal.returns-then-index-eq0
-returns-then-index-eq0 c = sym (link_zero (layout_in c.args.t.now) c.args.n.0 c.args.index c.if-index-eq0.true)
-
-pub returns-then-count-index : goal.returns-then-count-index
-returns-then-count-index c = let a = c.args in
-    let h = c.if-count-index.true in
-    sym (link_past (layout_in a.t.now) a.n.0 a.index c.if-index-eq0.false (rw (← c.sample_track-own.ensures, ← c.reference_count-count.ensures) h))
+returns-then-index-eq0 c = let a = c.args in
+    elim c.then-index-eq0.branch [
+      | then-index-eq0-via-then-index-eq0 w ↦ sym (link_zero (layout_in a.t.now) a.n.0 a.index w.if-index-eq0.true)
+      | then-index-eq0-via-else-index-eq0+then-reference_count-index w ↦ sym (link_past (layout_in a.t.now) a.n.0 a.index w.if-index-eq0.false (rw (← c.sample_track-own.ensures, ← w.reference_count.ensures) w.if-reference_count-index.true))
+    ]
 
 pub returns : goal.returns
 returns c = let a = c.args in
-    let h = c.if-count-index.false in
-    sym (link_good (layout_in a.t.now) a.n.0 a.index (pos_of_ne-zero c.if-index-eq0.false) (rw (← c.sample_track-own.ensures, ← c.reference_count-count.ensures) h))
+    sym (link_good (layout_in a.t.now) a.n.0 a.index (pos_of_ne-zero c.if-index-eq0.false) (rw (← c.sample_track-own.ensures, ← c.reference_count.ensures) c.if-reference_count-index.false))

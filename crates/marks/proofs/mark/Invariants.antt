@@ -1,11 +1,7 @@
 -- The invariant: the first i blocks are marked. Assumes nothing.
-use Prim.Native.Nat.{◌-◌, ◌≤◌}
 use Rattle.units.specs.Units.{sample}
 use Rattle.marks.proofs.Marking.{Marking}
 use Rattle.marks.proofs.mark.Given as goal
 
 abbrev pub invariant-loop-i : goal.invariant-loop-i
-invariant-loop-i l = Marking (sample l.k l.z) l.base l.initial.rows l.rows l.s l.i × (l.i ≤ l.most)
-
-abbrev pub decreases-loop-i : goal.decreases-loop-i
-decreases-loop-i l = l.most - l.i
+invariant-loop-i l = Marking (sample l.k l.z) l.base l.initial.rows l.rows l.s l.i

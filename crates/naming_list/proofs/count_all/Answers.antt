@@ -16,17 +16,14 @@ next c = (rw c.sample_count-total.ensures at c.loop-n-test.true, samples_most c.
 pub loop-n-init : goal.loop-n-init
 loop-n-init c = counting_start _ _ _
 
-pub overflow_add-n : goal.overflow_add-n
-overflow_add-n c = let h = next (goal.at.overflow_add-n c).In-loop-n in omega arith
+pub overflow_add-sample : goal.overflow_add-sample
+overflow_add-sample c = let h = next (goal.at.overflow_add-sample c).In-loop-n in omega arith
 
 pub count_in-found-requires : goal.count_in-found-requires
 count_in-found-requires c = c.requires.0
 
 pub overflow_add-count : goal.overflow_add-count
 overflow_add-count c = let h = next (goal.at.overflow_add-count c).In-loop-n in let f = counting_fits _ _ _ _ _ _ c.loop-n.invariant h.0 c.requires.0 c.count_in-found.ensures in omega arith
-
-pub loop-n-smaller : goal.loop-n-smaller
-loop-n-smaller c = let h = c.loop-n-test.true in omega arith
 
 pub loop-n-preserved : goal.loop-n-preserved
 loop-n-preserved c = rw c.keep_count.ensures (counting_more _ _ _ _ _ _ c.loop-n.invariant (next (goal.at.loop-n-preserved c).In-loop-n).0 c.requires.0 c.count_in-found.ensures c.requires.1)

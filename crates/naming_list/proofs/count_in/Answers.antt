@@ -22,13 +22,13 @@ put_namers-requires c = let a = c.args in
     let m = content_most a.b.now a.t.now a.n.0 in
     let l : length c.sample_bytes-x.result.now ≤ length a.b.now = rw c.sample_bytes-x.ensures m in
     let s = c.requires in
-    (sym c.check_sample-checked.ensures ∙ ap answer_of c.in-WellFormed.is, omega arith, omega arith)
+    (sym c.check_sample-checked.ensures ∙ ap answer_of c.in-Ok.is, omega arith, omega arith)
 
-pub returns-in-Refused : goal.returns-in-Refused
-returns-in-Refused c = let a = c.args in
-    sym (ap length (namers_not (recording_in a.b.now a.t.now) a.s.0 a.n.0 _ (same (goal.at.returns-in-Refused c).After-check_sample-checked) (sym c.check_sample-checked.ensures ∙ ap answer_of c.in-Refused.is)))
+pub returns-in-Err : goal.returns-in-Err
+returns-in-Err c = let a = c.args in
+    sym (ap length (namers_not (recording_in a.b.now a.t.now) a.s.0 a.n.0 _ (same (goal.at.returns-in-Err c).After-check_sample-checked) (sym c.check_sample-checked.ensures ∙ ap answer_of c.in-Err.is)))
 
-pub returns-in-WellFormed : goal.returns-in-WellFormed
+pub returns-in-Ok : goal.returns-in-Ok
 unfolding recording_in
-returns-in-WellFormed c = let a = c.args in
-    c.put_namers.ensures.0 ∙ ap length (namers_formed (recording_in a.b.now a.t.now) a.s.0 a.n.0 _ (same (goal.at.returns-in-WellFormed c).After-check_sample-checked) (sym c.check_sample-checked.ensures ∙ ap answer_of c.in-WellFormed.is))
+returns-in-Ok c = let a = c.args in
+    c.put_namers.ensures.0 ∙ ap length (namers_formed (recording_in a.b.now a.t.now) a.s.0 a.n.0 _ (same (goal.at.returns-in-Ok c).After-check_sample-checked) (sym c.check_sample-checked.ensures ∙ ap answer_of c.in-Ok.is))

@@ -1,4 +1,5 @@
 -- Each return is a case of the answer; nothing is written before the room is judged. Assumes nothing.
+use Rattle.std.proofs.lemmas.Result.{err_from_is_err_and}
 use native.Mathlib.Omega.{arith}
 use mathlib.Core.Path.{◌≡◌, sym, ap, ◌∙◌}
 use Prim.Native.Nat.{◌*◌, ◌≤◌}
@@ -10,24 +11,15 @@ use Rattle.resolution_rules.specs.Calls.{number_fault}
 use Rattle.naming_list_rules.specs.Naming.{naming_list, list_bytes, list_entry_size}
 use Rattle.naming_list_rules.proofs.Listing.{list_size_lem}
 use Rattle.bundles.specs.Limits.{sample_most, bundle_most}
+use Rattle.judging.proofs.Numbers.{no_fault, some_fault}
 use Rattle.naming_list.proofs.Listings.{list_few, names_number, names_room, names_listed, counts_bad, counts_good}
 use Rattle.naming_list.proofs.list_sample.Goals as goal
-use Rattle.naming_list.proofs.list_sample.Goals.{After-number_fault-fault, After-slice_known-3-1, Else-fault-ne0}
+use Rattle.naming_list.proofs.list_sample.Goals.{After-slice_known-3-1, In_ok-check_number}
 
-abbrev R : Else-fault-ne0 → Recording
-R c = recording_in c.args.b.now c.args.t.now
-
--- the number is good, or it is not
-fault : (c : After-number_fault-fault) → c.number_fault-fault.result ≡ number_fault (sample_count (recording_in c.args.b.now c.args.t.now).layout) c.args.s.0
+-- the number is good
+sound : (c : In_ok-check_number) → number_fault (sample_count (recording_in c.args.b.now c.args.t.now).layout) c.args.s.0 ≡ 0
 unfolding recording_in
-fault c = rw c.sample_count.ensures at c.number_fault-fault.ensures
-
-fault_Else1 : (c : Else-fault-ne0) → c.number_fault-fault.result ≡ number_fault (sample_count (recording_in c.args.b.now c.args.t.now).layout) c.args.s.0
-unfolding recording_in
-fault_Else1 c = rw c.sample_count.ensures at c.number_fault-fault.ensures
-
-sound : (c : Else-fault-ne0) → number_fault (sample_count (R c).layout) c.args.s.0 ≡ 0
-sound c = sym (fault_Else1 c) ∙ c.if-fault-ne0.false
+sound c = no_fault _ (rw c.sample_count.ensures at c.check_number.ensures) c.in_ok-check_number.was
 
 abbrev R_After_slice_known3 : After-slice_known-3-1 → Recording
 R_After_slice_known3 c = recording_in c.args.b.now c.args.t.now
@@ -40,9 +32,12 @@ size c =
     let f = list_few a.b.now a.t.now a.s.0 c.requires.0 in
     (list_size_lem (naming_list (R_After_slice_known3 c) a.s.0) ∙ rw e, omega arith)
 
-pub returns-then-fault-ne0 : goal.returns-then-fault-ne0
+pub returns-in_err-check_number : goal.returns-in_err-check_number
 unfolding recording_in
-returns-then-fault-ne0 c = (rw c.refused.ensures (refuse (names_number _ _ _ (fault (goal.at.returns-then-fault-ne0 c).After-number_fault-fault) c.if-fault-ne0.true)), counts_bad _ _ _ (fault (goal.at.returns-then-fault-ne0 c).After-number_fault-fault) c.if-fault-ne0.true)
+returns-in_err-check_number c =
+    let p = err_from_is_err_and c.from_residual.result c.from_residual.ensures.1 in
+    let f = some_fault _ (rw c.sample_count.ensures at c.check_number.ensures) c.in_err-check_number.was in
+    (rw (p.1, p.2, f.2) (refuse (names_number _ _ _ f.0 f.1)), counts_bad _ _ _ f.0 f.1)
 
 pub count_all-count-requires : goal.count_all-count-requires
 count_all-count-requires c = c.requires
@@ -54,8 +49,8 @@ pub returns-then-out-size : goal.returns-then-out-size
 unfolding recording_in
 returns-then-out-size c = let e = (size (goal.at.returns-then-out-size c).After-slice_known-3-1).0 in
     let h = c.if-out-size.true in
-    let g = sound (goal.at.returns-then-out-size c).Else-fault-ne0 in
-    (rw c.refused-then-out-size.ensures (refuse (names_room _ _ _ g (omega arith))), c.count_all-count.ensures.3 ∙ counts_good _ _ _ g)
+    let g = sound (goal.at.returns-then-out-size c).In_ok-check_number in
+    (rw c.at.ensures (refuse (names_room _ _ _ g (omega arith))), c.count_all-count.ensures.3 ∙ counts_good _ _ _ g)
 
 pub put_list-requires : goal.put_list-requires
 unfolding recording_in
@@ -70,4 +65,4 @@ unfolding recording_in
 returns c = let w = c.count_all-count.ensures in
     let e = (size (goal.at.returns c).After-slice_known-3-1).0 in
     let h = c.if-out-size.false in
-    (rw (← e) (accept (names_listed _ _ _ (sound (goal.at.returns c).Else-fault-ne0) (omega arith)) (rw w.1 at c.put_list.ensures)), w.3 ∙ counts_good _ _ _ (sound (goal.at.returns c).Else-fault-ne0))
+    (rw (← e) (accept (names_listed _ _ _ (sound (goal.at.returns c).In_ok-check_number) (omega arith)) (rw w.1 at c.put_list.ensures)), w.3 ∙ counts_good _ _ _ (sound (goal.at.returns c).In_ok-check_number))

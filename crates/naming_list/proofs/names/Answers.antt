@@ -1,4 +1,5 @@
 -- A bundle that is refused is so by its own refusal; the table has room for any. Assumes nothing.
+use Rattle.std.proofs.lemmas.Result.{err_from_is_err_and}
 use native.Mathlib.Omega.{arith}
 use mathlib.Core.Path.{sym, ◌∙◌}
 use lib.ListN.{length}
@@ -10,11 +11,13 @@ use Rattle.naming_list.proofs.Listings.{call_filled}
 use Rattle.naming_list.proofs.names.Goals as goal
 
 pub list_sample-requires : goal.list_sample-requires
-list_sample-requires c = (table_short _ _ (sym c.fill_table-filled.ensures.0 ∙ c.in-Done.is), omega arith)
+list_sample-requires c = (table_short _ _ (sym c.fill_table.ensures.0 ∙ c.in_ok-fill_table.was), omega arith)
 
-pub returns-in-Refused : goal.returns-in-Refused
-returns-in-Refused c = let a = c.args in
-    refuse (names_bundle first_layout a.b.now a.s.0 _ (table_refuses a.b.now _ c.in-Refused.f (omega arith) (sym c.fill_table-filled.ensures.0 ∙ c.in-Refused.is)))
+pub returns-in_err-fill_table : goal.returns-in_err-fill_table
+returns-in_err-fill_table c =
+    let p = err_from_is_err_and c.from_residual.result c.from_residual.ensures.1 in
+    rw (p.1, p.2) (let a = c.args in
+    refuse (names_bundle first_layout a.b.now a.s.0 _ (table_refuses a.b.now _ _ (omega arith) (sym c.fill_table.ensures.0 ∙ c.in_err-fill_table.was))))
 
-pub returns-in-Done : goal.returns-in-Done
-returns-in-Done c = let a = c.args in rw (← call_filled _ _ (sym c.fill_table-filled.ensures.0 ∙ c.in-Done.is) c.fill_table-filled.ensures.1 a.s.0 (length a.out.now)) c.list_sample.ensures.0
+pub returns : goal.returns
+returns c = let a = c.args in rw (← call_filled _ _ (sym c.fill_table.ensures.0 ∙ c.in_ok-fill_table.was) c.fill_table.ensures.1 a.s.0 (length a.out.now)) c.list_sample.ensures.0

@@ -2,10 +2,10 @@
 use Rattle.naming_list.specs.Steps.{names_at}
 use Rattle.naming_list.proofs.names_at.Goals as goal
 
-pub returns-in-Extractor : goal.returns-in-Extractor
+pub returns-in-Some : goal.returns-in-Some
 unfolding names_at
-returns-in-Extractor c = rw (← c.extractor_at-found.ensures, c.in-Extractor.is) c.names_with.ensures
+returns-in-Some c = rw (← c.extractor_at-found.ensures, c.in-Some.is) c.names_with.ensures
 
-pub returns-in-Nothing : goal.returns-in-Nothing
+pub returns-in-None : goal.returns-in-None
 unfolding names_at
-returns-in-Nothing c = rw (← c.extractor_at-found.ensures, c.in-Nothing.is)
+returns-in-None c = rw (← c.extractor_at-found.ensures, c.in-None.is)

@@ -1,4 +1,5 @@
 -- A bundle that is refused is so by its own refusal; the table has room for any. Assumes nothing.
+use Rattle.std.proofs.lemmas.Result.{err_from_is_err_and}
 use native.Mathlib.Omega.{arith}
 use mathlib.Core.Path.{sym, ◌∙◌}
 use lib.ListN.{length}
@@ -10,11 +11,13 @@ use Rattle.resolution.proofs.Answered.{call_filled}
 use Rattle.resolution.proofs.resolve.Goals as goal
 
 pub resolve_sample-requires : goal.resolve_sample-requires
-resolve_sample-requires c = table_short _ _ (sym c.fill_table-filled.ensures.0 ∙ c.in-Done.is)
+resolve_sample-requires c = table_short _ _ (sym c.fill_table.ensures.0 ∙ c.in_ok-fill_table.was)
 
-pub returns-in-Refused : goal.returns-in-Refused
-returns-in-Refused c = let a = c.args in
-    refuse (call_bundle first_layout a.b.now a.n.0 _ (table_refuses a.b.now _ c.in-Refused.f (omega arith) (sym c.fill_table-filled.ensures.0 ∙ c.in-Refused.is)))
+pub returns-in_err-fill_table : goal.returns-in_err-fill_table
+returns-in_err-fill_table c =
+    let p = err_from_is_err_and c.from_residual.result c.from_residual.ensures.1 in
+    rw (p.1, p.2) (let a = c.args in
+    refuse (call_bundle first_layout a.b.now a.n.0 _ (table_refuses a.b.now _ _ (omega arith) (sym c.fill_table.ensures.0 ∙ c.in_err-fill_table.was))))
 
-pub returns-in-Done : goal.returns-in-Done
-returns-in-Done c = rw (← call_filled _ _ (sym c.fill_table-filled.ensures.0 ∙ c.in-Done.is) c.fill_table-filled.ensures.1 c.args.n.0 (length c.args.out.now)) c.resolve_sample.ensures
+pub returns : goal.returns
+returns c = rw (← call_filled _ _ (sym c.fill_table.ensures.0 ∙ c.in_ok-fill_table.was) c.fill_table.ensures.1 c.args.n.0 (length c.args.out.now)) c.resolve_sample.ensures

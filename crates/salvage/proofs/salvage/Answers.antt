@@ -1,4 +1,5 @@
 -- A bundle that is refused is so by its own refusal; the table has room for any. Assumes nothing.
+use Rattle.std.proofs.lemmas.Result.{err_from_is_err_and}
 use native.Mathlib.Omega.{arith}
 use mathlib.Core.Path.{sym, ◌∙◌}
 use lib.ListN.{length}
@@ -9,13 +10,15 @@ use Rattle.salvage.proofs.Answers.{call_bundle, call_filled}
 use Rattle.salvage.proofs.salvage.Goals as goal
 
 pub salvage_numbered-requires : goal.salvage_numbered-requires
-salvage_numbered-requires c = (table_short _ _ (sym c.fill_table-filled.ensures.0 ∙ c.in-Done.is), omega arith)
+salvage_numbered-requires c = (table_short _ _ (sym c.fill_table.ensures.0 ∙ c.in_ok-fill_table.was), omega arith)
 
-pub returns-in-Refused : goal.returns-in-Refused
-returns-in-Refused c = let a = c.args in
-    refuse_all (call_bundle first_layout a.b.now a.n.0 _ _ _ (table_refuses a.b.now _ c.in-Refused.f (omega arith) (sym c.fill_table-filled.ensures.0 ∙ c.in-Refused.is)))
+pub returns-in_err-fill_table : goal.returns-in_err-fill_table
+returns-in_err-fill_table c =
+    let p = err_from_is_err_and c.from_residual.result c.from_residual.ensures.1 in
+    rw (p.1, p.2) (let a = c.args in
+    refuse_all (call_bundle first_layout a.b.now a.n.0 _ _ _ (table_refuses a.b.now _ _ (omega arith) (sym c.fill_table.ensures.0 ∙ c.in_err-fill_table.was))))
 
-pub returns-in-Done : goal.returns-in-Done
-returns-in-Done c = let f = c.fill_table-filled.ensures in
+pub returns : goal.returns
+returns c = let f = c.fill_table.ensures in
     let a = c.args in
-    rw (← call_filled _ _ (sym f.0 ∙ c.in-Done.is) f.1 a.n.0 (length a.out.now) (length a.changes.now) (length a.names.now)) c.salvage_numbered.ensures
+    rw (← call_filled _ _ (sym f.0 ∙ c.in_ok-fill_table.was) f.1 a.n.0 (length a.out.now) (length a.changes.now) (length a.names.now)) c.salvage_numbered.ensures

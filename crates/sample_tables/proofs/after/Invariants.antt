@@ -1,11 +1,7 @@
 -- The loop's invariant: end is the least start of the first j tracks' samples, as far as they come after track k. Assumes nothing.
 use mathlib.Core.Path.{◌≡◌}
-use Prim.Native.Nat.{◌-◌, ◌≤◌}
 use Rattle.tables.specs.Tables.{after_in}
 use Rattle.sample_tables.proofs.after.Given as goal
 
 abbrev pub invariant-loop-j : goal.invariant-loop-j
-invariant-loop-j l = (l.j ≤ l.total) × (l.end ≡ after_in l.t l.k l.j)
-
-abbrev pub decreases-loop-j : goal.decreases-loop-j
-decreases-loop-j l = l.total - l.j
+invariant-loop-j l = l.end ≡ after_in l.t l.k l.j

@@ -1,22 +1,18 @@
 -- A sample that there is not, or the number of its row. Assumes nothing.
 use native.Mathlib.Omega.{arith}
-use borrow.Author.Tests.{lt-ltb, le-ltb, eq-eqb, ne_eqb}
-use Rattle.tables.specs.Tables.{sample_total, sample_cell}
+use mathlib.Core.Path.{sym, ◌∙◌}
+use Rattle.sample_tables.proofs.Cells.{cell_none, cell_past, cell_here}
+use native.Mathlib.Nat.{pos_of_ne-zero}
 use Rattle.sample_tables.proofs.sample_cell.Goals as goal
+use Rattle.sample_tables.proofs.sample_cell.Goals.{then-n-eq0-via-then-n-eq0, then-n-eq0-via-else-n-eq0+then-sample_total-n}
 
-pub returns-then-m-eq0 : goal.returns-then-m-eq0
-unfolding sample_cell
-returns-then-m-eq0 c = rw (eq-eqb c.args.n.0 0 c.if-m-eq0.true)
-
-pub returns-then-sample_total-m : goal.returns-then-sample_total-m
-unfolding sample_cell
-returns-then-sample_total-m c = let a = c.args in
-    rw (ne_eqb a.n.0 0 c.if-m-eq0.false, ← c.sample_total.ensures.0, lt-ltb c.sample_total.result a.n.0 c.if-sample_total-m.true)
-
-pub overflow_add-m : goal.overflow_add-m
-overflow_add-m c = omega (arith, c.sample_total.ensures.1)
+pub returns-then-n-eq0 : goal.returns-then-n-eq0
+returns-then-n-eq0 c = let a = c.args in
+    elim c.then-n-eq0.branch [
+      | then-n-eq0-via-then-n-eq0 w ↦ sym (cell_none a.t.now a.n.0 a.column w.if-n-eq0.true)
+      | then-n-eq0-via-else-n-eq0+then-sample_total-n w ↦ sym (cell_past a.t.now a.n.0 a.column (omega (arith, w.sample_total.ensures.0)))
+    ]
 
 pub returns : goal.returns
-unfolding sample_cell
 returns c = let a = c.args in
-    rw (ne_eqb a.n.0 0 c.if-m-eq0.false, le-ltb (sample_total a.t.now) a.n.0 (omega (arith, c.sample_total.ensures.0))) c.cell.ensures
+    c.cell.ensures ∙ sym (cell_here a.t.now a.n.0 a.column (pos_of_ne-zero c.if-n-eq0.false) (omega (arith, c.sample_total.ensures.0)))

@@ -1,33 +1,36 @@
 -- The loop's invariant: what is left of the walk from p on gives the whole walk's answer. Assumes nothing.
 use native.Mathlib.Omega.{arith}
-use mathlib.Core.Path.{refl, sym, ◌∙◌}
-use Rattle.sets.proofs.Laws.{Whole, whole, sets_none, sets_here, sets_on, walk_refused, walk_ended}
+use mathlib.Core.Path.{◌≡◌, sym, ◌∙◌}
+use Prim.Native.Nat.{◌+◌, ◌-◌}
+use Rattle.numbers.proofs.Faults.{fault_some, exit, no_fault}
+use Rattle.sets.proofs.Laws.{Whole, whole, sets_none, sets_here, sets_on}
 use Rattle.sets.proofs.walk_sets.Goals as goal
-use Rattle.sets.proofs.walk_sets.Goals.{Else-fault-ne0}
+use Rattle.sets.proofs.walk_sets.Goals.{In_ok-set_fault}
 
 -- the set at hand is whole
-here : (c : Else-fault-ne0) → Whole c.args.types c.args.s.now c.loop-left.p
-here c = whole _ _ _ (sym c.set_fault-fault.ensures ∙ c.if-fault-ne0.false)
+here : (c : In_ok-set_fault) → Whole c.args.types c.args.s.now c.loop.p
+here c = whole _ _ _ (no_fault c.in_ok-set_fault.was c.set_fault.ensures)
 
-pub loop-left-init : goal.loop-left-init
-loop-left-init c = (refl, refl)
-
-pub returns-then-fault-ne0 : goal.returns-then-fault-ne0
-returns-then-fault-ne0 c = let w = c.loop-left.invariant in
-    walk_refused _ _ _ _ (sets_here _ _ _ c.loop-left-test.true c.set_fault-fault.ensures c.if-fault-ne0.true ∙ w.0) c.if-fault-ne0.true
+pub returns-in_err-set_fault-clause-fault : goal.returns-in_err-set_fault-clause-fault
+returns-in_err-set_fault-clause-fault c =
+    let s = fault_some c.in_err-set_fault.field-0.0 in
+    exit _ _ c.from_residual.ensures.1 ∙ sets_here _ _ {n = c.args.n - c.loop.counter} _ (omega arith) c.in_err-set_fault.ensures (λ z. omega arith) ∙ c.loop.invariant.0
 
 pub overflow_add-p : goal.overflow_add-p
-overflow_add-p c = let w = here c in omega arith
+overflow_add-p c = let w = here (goal.at.overflow_add-p c).In_ok-set_fault in omega arith
 
-pub overflow_add-p-in-loop-left : goal.overflow_add-p-in-loop-left
-overflow_add-p-in-loop-left c = let w = here (goal.at.overflow_add-p-in-loop-left c).Else-fault-ne0 in omega (arith, c.number.ensures)
+pub overflow_add-p-in-loop : goal.overflow_add-p-in-loop
+overflow_add-p-in-loop c = let w = here (goal.at.overflow_add-p-in-loop c).In_ok-set_fault in omega (arith, c.number.ensures)
 
-pub loop-left-preserved : goal.loop-left-preserved
-loop-left-preserved c = let i = c.loop-left.invariant in
-    let o = sets_on _ _ _ c.loop-left.p c.loop-left-test.true (sym c.set_fault-fault.ensures ∙ c.if-fault-ne0.false) in
-    rw c.number.ensures (sym o.0 ∙ i.0, sym o.1 ∙ i.1)
+pub loop-preserved : goal.loop-preserved
+loop-preserved c =
+    let i = c.loop.invariant in
+    let m : c.args.n - (c.loop.counter + 1) ≡ c.args.n - c.loop.counter - 1 = omega arith in
+    let o = sets_on c.args.types c.args.s.now (c.args.n - c.loop.counter) c.loop.p (omega arith) (no_fault c.in_ok-set_fault.was c.set_fault.ensures) in
+    rw (c.number.ensures, m) (sym o.0 ∙ i.0, sym o.1 ∙ i.1)
 
-pub returns : goal.returns
-returns c = let i = c.loop-left.invariant in
-    let e = sets_none c.args.types c.args.s.now c.loop-left.p c.loop-left-test.false in
-    walk_ended _ _ _ _ (sym i.0 ∙ e.0) (sym e.1 ∙ i.1)
+pub returns-clause-fault : goal.returns-clause-fault
+returns-clause-fault c = sym (sets_none _ _ {n = c.args.n - c.loop.counter} c.loop.p (omega arith)).0 ∙ c.loop.invariant.0
+
+pub returns-clause-end : goal.returns-clause-end
+returns-clause-end c = sym (sets_none c.args.types _ {n = c.args.n - c.loop.counter} c.loop.p (omega arith)).1 ∙ c.loop.invariant.1

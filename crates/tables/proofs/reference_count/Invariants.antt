@@ -1,11 +1,8 @@
 -- The loop's invariant: count is how many of the first i references come from the track. Assumes nothing.
 use mathlib.Core.Path.{◌≡◌}
-use Prim.Native.Nat.{◌-◌, ◌≤◌}
+use Prim.Native.Nat.{◌≤◌}
 use Rattle.tables.proofs.References.{counted}
 use Rattle.tables.proofs.reference_count.Given as goal
 
 abbrev pub invariant-loop-i : goal.invariant-loop-i
-invariant-loop-i l = (l.i ≤ l.total) × (l.count ≤ l.i) × (l.count ≡ counted l.t l.n l.i)
-
-abbrev pub decreases-loop-i : goal.decreases-loop-i
-decreases-loop-i l = l.total - l.i
+invariant-loop-i l = (l.count ≤ l.i) × (l.count ≡ counted l.t l.k.0 l.i)

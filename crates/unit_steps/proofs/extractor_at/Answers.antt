@@ -1,60 +1,35 @@
 -- Each return but the last refutes one thing that an extractor without 14 to 18 and 22 has. Assumes nothing.
 use native.Mathlib.Omega.{arith}
 use mathlib.Core.Path.{◌≡◌, sym, ◌∙◌}
-use Prim.Native.Nat.{◌%◌}
-use borrow.Author.Tests.{eq-eqb, eqb-true}
-use Rattle.numbers.proofs.Laws.{L_some}
-use Rattle.units.specs.Units.{sample, size, first_byte, type}
-use Rattle.units.specs.Steps.{extractor_of, extractor_at}
-use Rattle.units.specs.declared.MaybeExtractor.TheVariants as extractor
+use Prim.Native.Nat.{◌+◌, ◌≤◌, ◌<◌}
+use borrow.Author.Tests.{eqb-true, eq-eqb}
+use Rattle.numbers.specs.Sizes.{extractor_size}
+use Rattle.units.specs.Units.{sample, L, size, first_byte, type}
 use Rattle.units.proofs.Steps.{extractor_fields, no_extractor_lem}
 use Rattle.unit_steps.proofs.extractor_at.Goals as goal
-use Rattle.unit_steps.proofs.extractor_at.Goals.{After-byte-head, Else-head-ne-EXTRACTOR}
+use Rattle.unit_steps.proofs.extractor_at.Goals.{then-saturating_sub-n-via-then-saturating_sub-n, then-saturating_sub-n-via-else-saturating_sub-n+then-number-bytes, then-head-ge-FORBIDDEN_BIT-via-then-head-ge-FORBIDDEN_BIT, then-head-ge-FORBIDDEN_BIT-via-else-head-ge-FORBIDDEN_BIT+then-head-ne-EXTRACTOR}
 
--- its first byte, and its type
-first : (c : After-byte-head) → let a = c.args in c.byte-head.result ≡ first_byte (sample a.k a.s.now) a.at.0
-first c = rw (← c.bytes-n.ensures.0) c.byte-head.ensures
-
-read : (c : After-byte-head) → let a = c.args in c.byte-head.result % 32 ≡ type (sample a.k a.s.now) a.at.0
-unfolding type
-read c = rw (first c)
-
-first_Else5 : (c : Else-head-ne-EXTRACTOR) → let a = c.args in c.byte-head.result ≡ first_byte (sample a.k a.s.now) a.at.0
-first_Else5 c = rw (← c.bytes-n.ensures.0) c.byte-head.ensures
-
-read_Else5 : (c : Else-head-ne-EXTRACTOR) → let a = c.args in c.byte-head.result % 32 ≡ type (sample a.k a.s.now) a.at.0
-unfolding type
-read_Else5 c = rw (first_Else5 c)
-
-there : (c : Else-head-ne-EXTRACTOR) → let a = c.args in extractor_at (sample a.k a.s.now) a.end.0 a.at.0 ≡ extractor.Extractor (extractor_of (sample a.k a.s.now) a.at.0)
+pub returns-then-saturating_sub-n : goal.returns-then-saturating_sub-n
 unfolding size
-there c =
-    let n = c.bytes-n.ensures.0 in
-    let z = c.extractor_size-bytes.ensures in
-    let f = first_Else5 c in
-    extractor_fields _ _ _
-    (omega (arith, c.if-e-p-2.false, c.if-e-p.false))
-    (sym c.number.ensures ∙ c.if-number-bytes.false ∙ z)
-    (omega (arith, c.if-head-ge-FORBIDDEN_BIT.false))
-    (eq-eqb _ _ (sym (read_Else5 c) ∙ c.if-head-ne-EXTRACTOR.false))
-
-pub returns-then-e-p : goal.returns-then-e-p
-returns-then-e-p c = let l = L_some c.args.k.length_size in sym (no_extractor_lem _ _ _ (λ w t z. omega (arith, c.if-e-p.true, w.room)))
-
-pub returns-then-e-p-2 : goal.returns-then-e-p-2
-returns-then-e-p-2 c = let n = c.bytes-n.ensures.0 in
-    let m = c.extractor_size-bytes.ensures in
-    sym (no_extractor_lem _ _ _ (λ w t z. omega (arith, c.if-e-p-2.true, w.inside)))
-
-pub returns-then-number-bytes : goal.returns-then-number-bytes
-unfolding size
-returns-then-number-bytes c = sym (no_extractor_lem _ _ _ (λ w t z. c.if-number-bytes.true (c.number.ensures ∙ z ∙ sym c.extractor_size-bytes.ensures)))
+returns-then-saturating_sub-n c = sym (no_extractor_lem _ _ _ (λ w t z. elim c.then-saturating_sub-n.branch [
+  | then-saturating_sub-n-via-then-saturating_sub-n v ↦ omega (arith, w.room, w.inside)
+  | then-saturating_sub-n-via-else-saturating_sub-n+then-number-bytes v ↦ omega arith
+]))
 
 pub returns-then-head-ge-FORBIDDEN_BIT : goal.returns-then-head-ge-FORBIDDEN_BIT
-returns-then-head-ge-FORBIDDEN_BIT c = let f = first (goal.at.returns-then-head-ge-FORBIDDEN_BIT c).After-byte-head in sym (no_extractor_lem _ _ _ (λ w t z. omega (arith, c.if-head-ge-FORBIDDEN_BIT.true, w.top)))
-
-pub returns-then-head-ne-EXTRACTOR : goal.returns-then-head-ne-EXTRACTOR
-returns-then-head-ne-EXTRACTOR c = sym (no_extractor_lem _ _ _ (λ w t z. c.if-head-ne-EXTRACTOR.true (read (goal.at.returns-then-head-ne-EXTRACTOR c).After-byte-head ∙ eqb-true _ _ t)))
+unfolding type
+returns-then-head-ge-FORBIDDEN_BIT c = let f = rw c.bytes-n.ensures.0 at c.byte-head.ensures in
+    sym (no_extractor_lem _ _ _ (λ w t z. elim c.then-head-ge-FORBIDDEN_BIT.branch [
+      | then-head-ge-FORBIDDEN_BIT-via-then-head-ge-FORBIDDEN_BIT v ↦ omega (arith, w.top)
+      | then-head-ge-FORBIDDEN_BIT-via-else-head-ge-FORBIDDEN_BIT+then-head-ne-EXTRACTOR v ↦ v.if-head-ne-EXTRACTOR.true (rw f (eqb-true _ _ t))
+    ]))
 
 pub returns : goal.returns
-returns c = rw (there (goal.at.returns c).Else-head-ne-EXTRACTOR, c.number-length.ensures, c.number-from.ensures, c.byte-offset.ensures, c.byte-index.ensures, c.bytes-n.ensures.0)
+unfolding size type
+returns c =
+    let f = rw c.bytes-n.ensures.0 at c.byte-head.ensures in
+    let x = sample c.args.k c.args.s.now in
+    let l : c.args.at.0 + L x + extractor_size x.length_size ≤ c.args.end.0 = omega arith in
+    let z : size x c.args.at.0 ≡ extractor_size x.length_size = sym c.number.ensures ∙ c.if-number-bytes.false ∙ c.extractor_size-bytes.ensures in
+    let t : first_byte x c.args.at.0 < 128 = omega arith in
+    rw (extractor_fields x c.args.end.0 c.args.at.0 l z t (eq-eqb _ _ (rw (← f) c.if-head-ne-EXTRACTOR.false)), c.byte.ensures, c.byte-2.ensures, c.number-2.ensures, c.number-3.ensures, c.bytes-n.ensures.0)

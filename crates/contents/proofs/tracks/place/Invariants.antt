@@ -7,6 +7,3 @@ use Rattle.contents.proofs.tracks.place.Given as goal
 
 abbrev pub invariant-loop-i : goal.invariant-loop-i
 invariant-loop-i l = (0 < l.i) × (l.i ≤ l.k) × (l.p ≡ skip (track_end l.b) (l.i - 1) (tracks_at l.b))
-
-abbrev pub decreases-loop-i : goal.decreases-loop-i
-decreases-loop-i l = l.k - l.i

@@ -6,17 +6,17 @@ use Rattle.delivery.specs.Deliveries.{unit_for}
 use Rattle.delivered_unit.specs.Answers.{resolve_delivery, delivery_answer_of}
 use Rattle.delivered_unit.proofs.Answered.{span_answer_lem, found_good, found_mem}
 use Rattle.delivered_unit.proofs.finding.unit_part.Goals as goal
-use Rattle.delivered_unit.proofs.finding.unit_part.Goals.{In-Unit}
+use Rattle.delivered_unit.proofs.finding.unit_part.Goals.{In-Ok}
 
 -- the unit that was found
-found : (c : In-Unit) → let a = c.args in resolve_delivery (recording_in a.b.now a.t.now) a.n.0 a.i ≡ ok (unit_for c.in-Unit.u)
-found c = sym c.find_delivery-found.ensures ∙ ap delivery_answer_of c.in-Unit.is
+found : (c : In-Ok) → let a = c.args in resolve_delivery (recording_in a.b.now a.t.now) a.n.0 a.i ≡ ok (unit_for c.in-Ok.u)
+found c = sym c.find_delivery-found.ensures ∙ ap delivery_answer_of c.in-Ok.is
 
 pub bytes_of-requires : goal.bytes_of-requires
-bytes_of-requires c = (found_good _ _ _ _ (found (goal.at.bytes_of-requires c).In-Unit), found_mem _ _ _ _ (found (goal.at.bytes_of-requires c).In-Unit))
+bytes_of-requires c = (found_good _ _ _ _ (found (goal.at.bytes_of-requires c).In-Ok), found_mem _ _ _ _ (found (goal.at.bytes_of-requires c).In-Ok))
 
-pub returns-in-Refused : goal.returns-in-Refused
-returns-in-Refused c = rw (span_answer_lem _ _ _, ← c.find_delivery-found.ensures, c.in-Refused.is)
+pub returns-in-Err : goal.returns-in-Err
+returns-in-Err c = rw (span_answer_lem _ _ _, ← c.find_delivery-found.ensures, c.in-Err.is)
 
-pub returns-in-Unit : goal.returns-in-Unit
-returns-in-Unit c = c.bytes_of.ensures ∙ rw (span_answer_lem _ _ _, found (goal.at.returns-in-Unit c).In-Unit)
+pub returns-in-Ok : goal.returns-in-Ok
+returns-in-Ok c = c.bytes_of.ensures ∙ rw (span_answer_lem _ _ _, found (goal.at.returns-in-Ok c).In-Ok)

@@ -1,19 +1,16 @@
 -- `program_input::buffers::first` follows its definition. Assumes nothing.
-use borrow.Author.Tests.{le-ltb}
+use borrow.Author.Tests.{ltb-true, ltb-false}
 use lib.ListN.{length}
+use lib.Seq.{take-length}
 use native.Mathlib.Omega.{arith}
 use mathlib.Core.Path.{◌≡◌}
-use Prim.Native.Nat.{◌-◌}
-use Rattle.words.proofs.Tests.{tests}
+use Rattle.words.specs.Tests.{◌<?◌}
+use Rattle.words.proofs.Tests.{by_bool}
 use Rattle.program_input.specs.Input.{front}
 use Rattle.program_input.proofs.buffers.first.Goals as goal
 
-pub returns-then-s-n : goal.returns-then-s-n
-unfolding front
-returns-then-s-n c = search tests
-
 pub returns : goal.returns
 unfolding front
-returns c = let a = c.args in
-    let n : a.n - 0 ≡ a.n = omega arith in
-    rw (le-ltb (length a.s.now) a.n (omega arith), n)
+returns c = let s = c.args.s.now in let n = c.args.n in by_bool (length s <? n)
+    (λ t. let k = ltb-true (length s) n t in let e : c.min.result ≡ length s = omega arith in rw (e, t, take-length s))
+    (λ t. let k = ltb-false (length s) n t in let e : c.min.result ≡ n = omega arith in rw (e, t))

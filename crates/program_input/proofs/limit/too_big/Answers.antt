@@ -3,10 +3,10 @@ use Rattle.words.proofs.Tests.{tests}
 use Rattle.program_input.specs.Input.{too_big}
 use Rattle.program_input.proofs.limit.too_big.Goals as goal
 
-pub returns-then-n-lt-MOST : goal.returns-then-n-lt-MOST
+pub returns-then-n-ge-MOST : goal.returns-then-n-ge-MOST
 unfolding too_big
-returns-then-n-lt-MOST c = search tests
+returns-then-n-ge-MOST c = search tests
 
-pub returns : goal.returns
+pub returns-else-n-ge-MOST : goal.returns-else-n-ge-MOST
 unfolding too_big
-returns c = search tests
+returns-else-n-ge-MOST c = search tests

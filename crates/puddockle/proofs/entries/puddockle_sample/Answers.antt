@@ -3,8 +3,8 @@ use mathlib.Core.Path.{refl}
 use Rattle.puddockle.proofs.Returned.{sample}
 use Rattle.puddockle.proofs.entries.puddockle_sample.Goals as goal
 
-pub returns-in-Refused : goal.returns-in-Refused
-returns-in-Refused c = sample (rw c.in-Refused.is at c.sample_entry-found.ensures) c.refused.ensures.0 c.refused.ensures.1 refl refl refl refl
+pub returns-in-Err : goal.returns-in-Err
+returns-in-Err c = sample (rw c.in-Err.is at c.sample_entry-found.ensures) c.refused.ensures.0 c.refused.ensures.1 refl refl refl refl
 
-pub returns-in-Sample : goal.returns-in-Sample
-returns-in-Sample c = sample (rw c.in-Sample.is at c.sample_entry-found.ensures) refl refl refl refl refl refl
+pub returns-in-Ok : goal.returns-in-Ok
+returns-in-Ok c = sample (rw c.in-Ok.is at c.sample_entry-found.ensures) refl refl refl refl refl refl

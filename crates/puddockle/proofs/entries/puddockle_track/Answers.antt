@@ -3,8 +3,8 @@ use mathlib.Core.Path.{refl}
 use Rattle.puddockle.proofs.Returned.{track}
 use Rattle.puddockle.proofs.entries.puddockle_track.Goals as goal
 
-pub returns-in-Refused : goal.returns-in-Refused
-returns-in-Refused c = track (rw c.in-Refused.is at c.track_entry-found.ensures) c.refused.ensures.0 c.refused.ensures.1 refl refl refl
+pub returns-in-Err : goal.returns-in-Err
+returns-in-Err c = track (rw c.in-Err.is at c.track_entry-found.ensures) c.refused.ensures.0 c.refused.ensures.1 refl refl refl
 
-pub returns-in-Track : goal.returns-in-Track
-returns-in-Track c = track (rw c.in-Track.is at c.track_entry-found.ensures) refl refl c.kind_number.ensures refl refl
+pub returns-in-Ok : goal.returns-in-Ok
+returns-in-Ok c = track (rw c.in-Ok.is at c.track_entry-found.ensures) refl refl c.kind_number.ensures refl refl

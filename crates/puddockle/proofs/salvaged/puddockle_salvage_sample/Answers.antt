@@ -3,8 +3,8 @@ use mathlib.Core.Path.{refl}
 use Rattle.puddockle.proofs.Returned.{outputs}
 use Rattle.puddockle.proofs.salvaged.puddockle_salvage_sample.Goals as goal
 
-pub returns-in-Refused : goal.returns-in-Refused
-returns-in-Refused c = outputs (rw c.in-Refused.is at c.salvage_sample-salvaged.ensures) c.refused.ensures.0 c.refused.ensures.1 refl
+pub returns-in-Err : goal.returns-in-Err
+returns-in-Err c = outputs (rw c.in-Err.is at c.salvage_sample-salvaged.ensures) c.refused.ensures.0 c.refused.ensures.1 refl
 
-pub returns-in-Done : goal.returns-in-Done
-returns-in-Done c = outputs (rw c.in-Done.is at c.salvage_sample-salvaged.ensures) refl refl refl
+pub returns-in-Ok : goal.returns-in-Ok
+returns-in-Ok c = outputs (rw c.in-Ok.is at c.salvage_sample-salvaged.ensures) refl refl refl

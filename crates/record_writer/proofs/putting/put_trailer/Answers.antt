@@ -1,18 +1,13 @@
 -- Without a trailer, and where it is absent, nothing is written; else its values. Assumes nothing.
 use native.Mathlib.Omega.{arith}
 use mathlib.Core.Path.{◌∙◌}
+use mathlib.Core.Logic.{inl, inr}
 use Rattle.record_rules.specs.Trailers.{high_bytes}
 use Rattle.words.proofs.Buffers.{write_none, put_fits}
 use Rattle.record_writer.proofs.putting.put_trailer.Goals as goal
 
-pub high_bytes-values-requires : goal.high_bytes-values-requires
-high_bytes-values-requires c = rw c.in-Present.is at c.requires.0
-
 pub returns-in-None : goal.returns-in-None
-returns-in-None c = rw c.in-None.is (write_none _ _)
-
-pub returns-in-Absent : goal.returns-in-Absent
-returns-in-Absent c = rw c.in-Absent.is (write_none _ _)
+returns-in-None c = elim c.in-None.is [ inl e ↦ rw e (write_none _ _) | inr e ↦ rw e (write_none _ _) ]
 
 pub returns-in-Present : goal.returns-in-Present
 returns-in-Present c = let a = c.args in

@@ -38,7 +38,7 @@ pub is_streamable-requires : goal.is_streamable-requires
 is_streamable-requires c = unit_inside _ _ _ c.requires.0 _ (unit (goal.at.is_streamable-requires c).In-Unit)
 
 pub returns-then-not-is_streamable : goal.returns-then-not-is_streamable
-returns-then-not-is_streamable c = let h = c.requires in sym (judges_bad _ _ _ _ _ c.loop-d.invariant h.0 h.1 (unit (goal.at.returns-then-not-is_streamable c).In-Unit) (sym c.is_streamable.ensures ∙ c.if-not-is_streamable.true))
+returns-then-not-is_streamable c = let h = c.requires in rw c.at.ensures (sym (judges_bad _ _ _ _ _ c.loop-d.invariant h.0 h.1 (unit (goal.at.returns-then-not-is_streamable c).In-Unit) (sym c.is_streamable.ensures ∙ c.if-not-is_streamable.true)))
 
 pub overflow_add-size : goal.overflow_add-size
 overflow_add-size c = let f = fits (goal.at.overflow_add-size c).In-Unit in omega arith

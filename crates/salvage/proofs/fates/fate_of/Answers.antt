@@ -1,4 +1,5 @@
 -- By its type, then by what stands in it and what it covers. Assumes nothing.
+use Rattle.numbers.proofs.Faults.{err_some, err_none}
 use mathlib.Core.Path.{◌≡◌, sym, ◌∙◌}
 use mathlib.Core.Bool.{true, false}
 use borrow.Author.Tests.{eq-eqb, ne_eqb}
@@ -13,11 +14,11 @@ other c = ne_eqb _ _ (λ e. c.if-type_at-ne-AGGREGATOR.true (c.type_at.ensures �
 aggregator : (c : Else-type_at-ne-AGGREGATOR) → is_aggregator (sample c.args.k c.args.y.now) c.args.at ≡ true
 aggregator c = eq-eqb _ _ (sym c.type_at.ensures ∙ c.if-type_at-ne-AGGREGATOR.false)
 
-pub returns-then-extractor_fault-ne0 : goal.returns-then-extractor_fault-ne0
-returns-then-extractor_fault-ne0 c = sym (other_dropped _ _ (other (goal.at.returns-then-extractor_fault-ne0 c).Then-type_at-ne-AGGREGATOR) (λ e. c.if-extractor_fault-ne0.true (c.extractor_fault.ensures ∙ e)))
+pub returns-then-is_err : goal.returns-then-is_err
+returns-then-is_err c = sym (other_dropped _ _ (other (goal.at.returns-then-is_err c).Then-type_at-ne-AGGREGATOR) (λ e. err_some _ (sym c.is_err.ensures.value ∙ c.if-is_err.true) (c.extractor_fault.ensures ∙ e)))
 
 pub returns-then-type_at-ne-AGGREGATOR : goal.returns-then-type_at-ne-AGGREGATOR
-returns-then-type_at-ne-AGGREGATOR c = sym (other_kept _ _ (other (goal.at.returns-then-type_at-ne-AGGREGATOR c).Then-type_at-ne-AGGREGATOR) (sym c.extractor_fault.ensures ∙ c.if-extractor_fault-ne0.false))
+returns-then-type_at-ne-AGGREGATOR c = sym (other_kept _ _ (other (goal.at.returns-then-type_at-ne-AGGREGATOR c).Then-type_at-ne-AGGREGATOR) (sym c.extractor_fault.ensures ∙ err_none _ (sym c.is_err.ensures.value ∙ c.if-is_err.false)))
 
 pub has_fault_inside-requires : goal.has_fault_inside-requires
 has_fault_inside-requires c = (c.requires, aggregator (goal.at.has_fault_inside-requires c).Else-type_at-ne-AGGREGATOR)

@@ -1,4 +1,5 @@
 -- The loop's invariant: what is left of the walk over the included units gives their verdict. Assumes nothing.
+use Rattle.numbers.proofs.Faults.{err_some, err_none}
 use native.Mathlib.Omega.{arith}
 use mathlib.Core.Path.{◌≡◌, sym, ◌∙◌}
 use Prim.Native.Nat.{◌+◌, ◌≤◌}
@@ -12,7 +13,7 @@ use Rattle.units.proofs.Units.{whole_end, whole_aggregator, next_after, included
 use Rattle.units.proofs.Walks.{walk_none, walk_here, walk_on}
 use Rattle.samples.proofs.Walks.{next_is, top_whole}
 use Rattle.salvage.proofs.fates.has_fault_inside.Goals as goal
-use Rattle.salvage.proofs.fates.has_fault_inside.Goals.{After-number, Else-u-ne0, Start}
+use Rattle.salvage.proofs.fates.has_fault_inside.Goals.{After-number, Else-is_err, Start}
 
 abbrev X : Start → Sample
 X c = sample c.args.k c.args.y.now
@@ -30,14 +31,14 @@ X_After_number c = sample c.args.k c.args.y.now
 ends : (c : After-number) → c.args.at + c.bytes-n.result + c.number.result ≡ next (X_After_number c) c.args.at
 ends c = let a = c.args in next_is a.k a.y.now _ _ _ c.bytes-n.ensures.0 c.number.ensures
 
-abbrev X_Else1 : Else-u-ne0 → Sample
+abbrev X_Else1 : Else-is_err → Sample
 X_Else1 c = sample c.args.k c.args.y.now
 
 -- an included unit without a fault is whole, and ends where the next one starts
-here : (c : Else-u-ne0) → Whole (X_Else1 c) (c.args.at + c.bytes-n.result + c.number.result) c.loop-q.q
-here c = (included_rules _ _ _ (sym c.judge_included-u.ensures.0 ∙ c.if-u-ne0.false)).unit
+here : (c : Else-is_err) → Whole (X_Else1 c) (c.args.at + c.bytes-n.result + c.number.result) c.loop-q.q
+here c = (included_rules _ _ _ (sym c.judge_included-u.ensures.0 ∙ err_none _ (sym c.is_err.ensures.value ∙ c.if-is_err.false))).unit
 
-goes : (c : Else-u-ne0) → c.loop-q.q + c.bytes-n.result + c.judge_included-u.result.size ≡ next (X_Else1 c) c.loop-q.q
+goes : (c : Else-is_err) → c.loop-q.q + c.bytes-n.result + c.judge_included-u.result.size ≡ next (X_Else1 c) c.loop-q.q
 unfolding Rattle.units.specs.Units.size
 goes c = let a = c.args in next_is a.k a.y.now _ _ _ c.bytes-n.ensures.0 c.judge_included-u.ensures.1
 
@@ -59,20 +60,20 @@ overflow_add-q-3 c = let f = fits (goal.at.overflow_add-q-3 c).Start in omega ar
 pub loop-q-init : goal.loop-q-init
 loop-q-init c = rw c.bytes-n.ensures.0
 
-pub returns-then-u-ne0 : goal.returns-then-u-ne0
-returns-then-u-ne0 c = rw (← ends (goal.at.returns-then-u-ne0 c).After-number, sym c.loop-q.invariant ∙ walk_here _ _ _ _ c.loop-q-test.true (at_refused _ c.judge_included-u.ensures.0 c.if-u-ne0.true))
+pub returns-then-is_err : goal.returns-then-is_err
+returns-then-is_err c = rw (← ends (goal.at.returns-then-is_err c).After-number, sym c.loop-q.invariant ∙ walk_here _ _ _ _ c.loop-q-test.true (at_refused _ c.judge_included-u.ensures.0 (err_some _ (sym c.is_err.ensures.value ∙ c.if-is_err.true))))
 
 pub overflow_add-q-in-loop-q : goal.overflow_add-q-in-loop-q
-overflow_add-q-in-loop-q c = let h = here (goal.at.overflow_add-q-in-loop-q c).Else-u-ne0 in let f = fits (goal.at.overflow_add-q-in-loop-q c).Start in let e = ends (goal.at.overflow_add-q-in-loop-q c).After-number in omega arith
+overflow_add-q-in-loop-q c = let h = here (goal.at.overflow_add-q-in-loop-q c).Else-is_err in let f = fits (goal.at.overflow_add-q-in-loop-q c).Start in let e = ends (goal.at.overflow_add-q-in-loop-q c).After-number in omega arith
 
 pub overflow_add-q-in-loop-q-2 : goal.overflow_add-q-in-loop-q-2
-overflow_add-q-in-loop-q-2 c = let h = whole_end _ _ _ (here (goal.at.overflow_add-q-in-loop-q-2 c).Else-u-ne0) in let f = fits (goal.at.overflow_add-q-in-loop-q-2 c).Start in let e = ends (goal.at.overflow_add-q-in-loop-q-2 c).After-number in let g = goes (goal.at.overflow_add-q-in-loop-q-2 c).Else-u-ne0 in omega arith
+overflow_add-q-in-loop-q-2 c = let h = whole_end _ _ _ (here (goal.at.overflow_add-q-in-loop-q-2 c).Else-is_err) in let f = fits (goal.at.overflow_add-q-in-loop-q-2 c).Start in let e = ends (goal.at.overflow_add-q-in-loop-q-2 c).After-number in let g = goes (goal.at.overflow_add-q-in-loop-q-2 c).Else-is_err in omega arith
 
 pub loop-q-smaller : goal.loop-q-smaller
-loop-q-smaller c = let h = whole_end _ _ _ (here (goal.at.loop-q-smaller c).Else-u-ne0) in let g = goes (goal.at.loop-q-smaller c).Else-u-ne0 in let n = next_after (X (goal.at.loop-q-smaller c).Start) c.loop-q.q in omega arith
+loop-q-smaller c = let h = whole_end _ _ _ (here (goal.at.loop-q-smaller c).Else-is_err) in let g = goes (goal.at.loop-q-smaller c).Else-is_err in let n = next_after (X (goal.at.loop-q-smaller c).Start) c.loop-q.q in omega arith
 
 pub loop-q-preserved : goal.loop-q-preserved
-loop-q-preserved c = rw (goes (goal.at.loop-q-preserved c).Else-u-ne0) (sym (walk_on _ _ _ _ c.loop-q-test.true (at_none _ (sym c.judge_included-u.ensures.0 ∙ c.if-u-ne0.false))) ∙ c.loop-q.invariant)
+loop-q-preserved c = rw (goes (goal.at.loop-q-preserved c).Else-is_err) (sym (walk_on _ _ _ _ c.loop-q-test.true (at_none _ (sym c.judge_included-u.ensures.0 ∙ err_none _ (sym c.is_err.ensures.value ∙ c.if-is_err.false)))) ∙ c.loop-q.invariant)
 
 pub returns : goal.returns
 returns c = rw (← ends (goal.at.returns c).After-number, sym c.loop-q.invariant ∙ walk_none _ _ _ _ c.loop-q-test.false)

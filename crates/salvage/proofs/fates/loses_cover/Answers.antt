@@ -1,4 +1,5 @@
 -- The loop's invariant: the walk over what the aggregator covers has come to q, and met no aggregator and no unit that is dropped. Assumes nothing.
+use Rattle.numbers.proofs.Faults.{err_some, err_none}
 use native.Mathlib.Omega.{arith}
 use mathlib.Core.Path.{◌≡◌, sym, ◌∙◌}
 use mathlib.Core.Bool.{false}
@@ -84,8 +85,8 @@ loop-q-init c = let g = whole-one (goal.at.loop-q-init c).Start in let e = ends 
 pub returns-then-type_at-eq-AGGREGATOR : goal.returns-then-type_at-eq-AGGREGATOR
 returns-then-type_at-eq-AGGREGATOR c = sym (losing_found _ _ _ _ _ _ (walks (goal.at.returns-then-type_at-eq-AGGREGATOR c).In-loop-q) c.loop-q-test.true (eq-eqb _ _ (sym c.type_at.ensures ∙ c.if-type_at-eq-AGGREGATOR.true)))
 
-pub returns-then-extractor_fault-ne0 : goal.returns-then-extractor_fault-ne0
-returns-then-extractor_fault-ne0 c = sym (losing_fault _ _ _ _ _ _ (walks (goal.at.returns-then-extractor_fault-ne0 c).In-loop-q) c.loop-q-test.true (other (goal.at.returns-then-extractor_fault-ne0 c).Else-type_at-eq-AGGREGATOR) (λ e. c.if-extractor_fault-ne0.true (c.extractor_fault.ensures ∙ e)))
+pub returns-then-is_err : goal.returns-then-is_err
+returns-then-is_err c = sym (losing_fault _ _ _ _ _ _ (walks (goal.at.returns-then-is_err c).In-loop-q) c.loop-q-test.true (other (goal.at.returns-then-is_err c).Else-type_at-eq-AGGREGATOR) (λ e. err_some _ (sym c.is_err.ensures.value ∙ c.if-is_err.true) (c.extractor_fault.ensures ∙ e)))
 
 pub overflow_add-q : goal.overflow_add-q
 overflow_add-q c = let w = whole_end _ _ _ (here (goal.at.overflow_add-q c).In-loop-q) in let h = here (goal.at.overflow_add-q c).In-loop-q in omega arith
@@ -97,7 +98,7 @@ pub loop-q-smaller : goal.loop-q-smaller
 loop-q-smaller c = let w = whole_end _ _ _ (here (goal.at.loop-q-smaller c).In-loop-q) in let e = goes (goal.at.loop-q-smaller c).After-number-in-loop-q in let n = next_after (X (goal.at.loop-q-smaller c).Start) c.loop-q.q in omega arith
 
 pub loop-q-preserved : goal.loop-q-preserved
-loop-q-preserved c = λ t. rw (goes (goal.at.loop-q-preserved c).After-number-in-loop-q) (losing_next _ _ t _ _ _ (c.loop-q.invariant t) c.loop-q-test.true (other (goal.at.loop-q-preserved c).Else-type_at-eq-AGGREGATOR) (sym c.extractor_fault.ensures ∙ c.if-extractor_fault-ne0.false))
+loop-q-preserved c = λ t. rw (goes (goal.at.loop-q-preserved c).After-number-in-loop-q) (losing_next _ _ t _ _ _ (c.loop-q.invariant t) c.loop-q-test.true (other (goal.at.loop-q-preserved c).Else-type_at-eq-AGGREGATOR) (sym c.extractor_fault.ensures ∙ err_none _ (sym c.is_err.ensures.value ∙ c.if-is_err.false)))
 
 pub returns : goal.returns
 returns c = losing_end _ _ _ _ _ _ (c.loop-q.invariant c.requires.1) c.loop-q-test.false

@@ -1,4 +1,5 @@
 -- By what is known of its form. Assumes nothing.
+use Rattle.std.proofs.lemmas.Result.{err_from_is_err_and}
 use mathlib.Core.Path.{◌≡◌, sym, ap, ◌∙◌, subst}
 use Prim.Native.Nat.{ℕ}
 use Rattle.words.specs.Refusals.{refused}
@@ -36,13 +37,15 @@ pub returns-then-form-eq-FORMED : goal.returns-then-form-eq-FORMED
 returns-then-form-eq-FORMED c = c.measure.ensures
 
 pub returns-then-form-ne0 : goal.returns-then-form-ne0
-returns-then-form-ne0 c = c.refused.ensures ∙ ill (goal.at.returns-then-form-ne0 c).After-known-form ((tells (goal.at.returns-then-form-ne0 c).After-known-form).refusal c.if-form-ne0.true c.if-form-eq-FORMED.false)
+returns-then-form-ne0 c = ill (goal.at.returns-then-form-ne0 c).After-known-form ((tells (goal.at.returns-then-form-ne0 c).After-known-form).refusal c.if-form-ne0.true c.if-form-eq-FORMED.false)
 
-pub measure-requires-in-WellFormed : goal.measure-requires-in-WellFormed
-measure-requires-in-WellFormed c = (same (goal.at.measure-requires-in-WellFormed c).After-known-form, sym c.check_sample-checked.ensures ∙ ap form.answer_of c.in-WellFormed.is, c.requires.0, c.requires.1)
+pub measure-requires-2 : goal.measure-requires-2
+measure-requires-2 c = (same (goal.at.measure-requires-2 c).After-known-form, sym c.check_sample.ensures ∙ ap form.answer_of c.in_ok-check_sample.was, c.requires.0, c.requires.1)
 
-pub returns-in-Refused : goal.returns-in-Refused
-returns-in-Refused c = ill (goal.at.returns-in-Refused c).After-known-form (sym (ap check (same (goal.at.returns-in-Refused c).After-known-form)) ∙ sym c.check_sample-checked.ensures ∙ ap form.answer_of c.in-Refused.is)
+pub returns-in_err-check_sample : goal.returns-in_err-check_sample
+returns-in_err-check_sample c =
+    let p = err_from_is_err_and c.from_residual.result c.from_residual.ensures.1 in
+    rw (p.1, p.2) (ill (goal.at.returns-in_err-check_sample c).After-known-form (sym (ap check (same (goal.at.returns-in_err-check_sample c).After-known-form)) ∙ sym c.check_sample.ensures ∙ ap form.answer_of c.in_err-check_sample.was))
 
-pub returns-in-WellFormed : goal.returns-in-WellFormed
-returns-in-WellFormed c = c.measure-in-WellFormed.ensures
+pub returns : goal.returns
+returns c = c.measure-2.ensures

@@ -9,9 +9,6 @@ loop-n-init c = (c.requires.2, refl, refl)
 pub mark_sample-used-requires : goal.mark_sample-used-requires
 mark_sample-used-requires c = let i = c.loop-n.invariant in (c.requires.0, omega (arith, c.requires.1, i.2), i.0)
 
-pub loop-n-smaller : goal.loop-n-smaller
-loop-n-smaller c = omega (arith, c.loop-n-test.true)
-
 pub loop-n-preserved : goal.loop-n-preserved
 loop-n-preserved c = let i = c.loop-n.invariant in (c.mark_sample-used.ensures, c.mark_sample-used.auto.forms ∙ i.1, c.mark_sample-used.auto.rows ∙ i.2)
 

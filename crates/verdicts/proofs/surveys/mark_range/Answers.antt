@@ -3,17 +3,11 @@ use native.Mathlib.Omega.{arith}
 use mathlib.Core.Path.{refl, ◌∙◌}
 use Rattle.verdicts.proofs.surveys.mark_range.Goals as goal
 
-pub overflow_sub-n : goal.overflow_sub-n
-overflow_sub-n c = omega (arith, c.requires.3)
-
 pub loop-n-init : goal.loop-n-init
 loop-n-init c = (c.requires.2, refl, refl)
 
 pub mark_with_named-used-requires : goal.mark_with_named-used-requires
 mark_with_named-used-requires c = let i = c.loop-n.invariant in (c.requires.0, omega (arith, c.requires.1, i.2), i.0)
-
-pub loop-n-smaller : goal.loop-n-smaller
-loop-n-smaller c = omega (arith, c.loop-n-test.true)
 
 pub loop-n-preserved : goal.loop-n-preserved
 loop-n-preserved c = let i = c.loop-n.invariant in (c.mark_with_named-used.ensures, c.mark_with_named-used.auto.forms ∙ i.1, c.mark_with_named-used.auto.rows ∙ i.2)

@@ -1,5 +1,0 @@
--- `vectors::main` ends: the measure is how many requests may still come. Assumes nothing.
-use Rattle.vectors.proofs.main.Given as goal
-
-abbrev pub decreases-loop-left : goal.decreases-loop-left
-decreases-loop-left l = l.left
