@@ -70,12 +70,8 @@ fn outcome(judged: Result<usize, Refusal>, size: usize) -> Outcome
 {
     match judged {
         Err(_) => Outcome::Refused,
-        Ok(_) => {
-            if size == 0 {
-                return Outcome::Empty;
-            }
-            Outcome::Passed
-        }
+        Ok(_) if size == 0 => Outcome::Empty,
+        Ok(_) => Outcome::Passed,
     }
 }
 

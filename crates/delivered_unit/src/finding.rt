@@ -39,8 +39,7 @@ fn find(b: &[u8], t: &[u64], n: SampleNumber, k: Track, x: &[u8], i: usize) -> D
     let mut left = i;
     let mut c = delivery::start();
     loop {
-        let s = delivery::step(b, t, n, k, x, c);
-        match s {
+        match delivery::step(b, t, n, k, x, c) {
             Stepped::Done => {
                 return no_unit();
             }
@@ -127,8 +126,7 @@ pub(crate) fn unit_part<'a>(b: &'a [u8], t: &[u64], n: SampleNumber, i: usize) -
     requires { length b.now ≤ bundle_most }
     ensures { result.now ≡ found_bytes (recording_in b.now t.now) (resolve_unit (recording_in b.now t.now) n.0 i) }
 {
-    let found = find_delivery(b, t, n, i);
-    match found {
+    match find_delivery(b, t, n, i) {
         Err(_) => &b[..0],
         Ok(u) => bytes_of(b, t, n, u),
     }

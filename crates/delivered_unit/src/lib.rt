@@ -32,8 +32,7 @@ pub fn unit_bytes<'a>(b: &'a [u8], n: SampleNumber, k: usize) -> &'a [u8]
     ensures { result.now ≡ unit_part first_layout b.now (unit_call first_layout b.now n.0 k) }
 {
     let mut t = [0u64; tables::TABLE_SIZE];
-    let filled = filling::fill_table(b, &mut t);
-    match filled {
+    match filling::fill_table(b, &mut t) {
         Err(_) => &b[..0],
         Ok(()) => finding::unit_part(b, &t, n, k),
     }

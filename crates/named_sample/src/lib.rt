@@ -25,8 +25,7 @@ fn extractor_in(k: Track, x: &[u8], at: ByteOffset) -> Option<Extractor>
     }
     let mut p: usize = 0;
     while p < at.0 {
-        let item = unit_steps::item_at(k, x, ByteOffset(p));
-        match item {
+        match unit_steps::item_at(k, x, ByteOffset(p)) {
             // does not come: the sample is well formed
             Item::Nothing => {
                 return None;
@@ -70,11 +69,8 @@ fn name_at(b: &[u8], t: &[u64], n: SampleNumber, at: ByteOffset) -> Result<Sampl
     let k = delivery::track_of(t, n);
     let x = sample_tables::sample_bytes(b, t, n);
     samples::check_sample(k, x)?;
-    let found = extractor_in(k, x, at);
-    match found {
-        None => Err(Refusal::at(Fault::NoSuchNumber, 0)),
-        Some(f) => name_with(t, n, at, f),
-    }
+    let f = extractor_in(k, x, at).ok_or(Refusal::at(Fault::NoSuchNumber, 0))?;
+    name_with(t, n, at, f)
 }
 
 // The sample that the extractor at a place of a sample names: 1 to 13, 30, 14 to 22 of the sample, 30 where no extractor stands there,

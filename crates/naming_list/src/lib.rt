@@ -48,8 +48,7 @@ pub fn entry_of(entry: &[u8]) -> Entry
 fn names_with(t: &[u64], n: SampleNumber, f: Extractor, s: SampleNumber) -> bool
     ensures { result ≡ names_with (layout_in t.now) s.0 n.0 f }
 {
-    let named = links::name(t, n, f.track_ref_index, f.sample_offset);
-    match named {
+    match links::name(t, n, f.track_ref_index, f.sample_offset) {
         Err(_) => false,
         Ok(m) => m.0 == s.0,
     }
@@ -59,8 +58,7 @@ fn names_with(t: &[u64], n: SampleNumber, f: Extractor, s: SampleNumber) -> bool
 fn names_at(t: &[u64], n: SampleNumber, k: Track, x: &[u8], at: ByteOffset, s: SampleNumber) -> bool
     ensures { result ≡ names_at (layout_in t.now) s.0 n.0 (sample k x.now) at.0 }
 {
-    let found = unit_steps::extractor_at(k, x, at, ByteOffset(x.len()));
-    match found {
+    match unit_steps::extractor_at(k, x, at, ByteOffset(x.len())) {
         Some(f) => names_with(t, n, f, s),
         None => false,
     }
@@ -116,8 +114,7 @@ fn put_namers(
     let mut count: usize = 0;
     let mut p: usize = 0;
     while p < x.len() {
-        let item = unit_steps::item_at(k, x, ByteOffset(p));
-        match item {
+        match unit_steps::item_at(k, x, ByteOffset(p)) {
             // does not come: the sample is well formed
             Item::Nothing => {
                 return count;
@@ -145,8 +142,7 @@ fn count_in(b: &[u8], t: &[u64], n: SampleNumber, s: SampleNumber) -> usize
 {
     let k = delivery::track_of(t, n);
     let x = sample_tables::sample_bytes(b, t, n);
-    let checked = samples::check_sample(k, x);
-    match checked {
+    match samples::check_sample(k, x) {
         Err(_) => 0,
         Ok(()) => {
             let mut nothing = [0u8; 1];

@@ -8,8 +8,7 @@ pub fn puddockle_check_bundle(bundle: &[u8], place: &mut u64) -> u32
     ensures { Returned result place.new (bundle_verdict bundle.now) }
 {
     *place = 0;
-    let checked = bundles::check_bundle(bundle);
-    match checked {
+    match bundles::check_bundle(bundle) {
         Err(f) => answer::refused(f, place),
         Ok(()) => 0,
     }

@@ -12,10 +12,7 @@ use numbers::{Kind, SampleNumber, TrackNumber};
 fn kind_number(kind: Kind) -> u64
     ensures { result ≡ number_of_kind kind }
 {
-    match kind {
-        Kind::Avc => 0,
-        Kind::Svc => 1,
-    }
+    kind as u64
 }
 
 pub fn puddockle_counts(
@@ -31,8 +28,7 @@ pub fn puddockle_counts(
     *tracks = 0;
     *references = 0;
     *samples = 0;
-    let found = contents::bundle_counts(bundle);
-    match found {
+    match contents::bundle_counts(bundle) {
         Err(f) => answer::refused(f, place),
         Ok(c) => {
             *tracks = c.tracks as u64;
@@ -57,8 +53,7 @@ pub fn puddockle_track(
     *kind = 0;
     *record_start = 0;
     *record_length = 0;
-    let found = contents::track_entry(bundle, TrackNumber(track as usize));
-    match found {
+    match contents::track_entry(bundle, TrackNumber(track as usize)) {
         Err(f) => answer::refused(f, place),
         Ok(e) => {
             let at = e.start;
@@ -83,8 +78,7 @@ pub fn puddockle_reference(
     *place = 0;
     *from = 0;
     *to = 0;
-    let found = contents::reference_entry(bundle, reference as usize);
-    match found {
+    match contents::reference_entry(bundle, reference as usize) {
         Err(f) => answer::refused(f, place),
         Ok(e) => {
             let from_track = e.from;
@@ -112,8 +106,7 @@ pub fn puddockle_sample(
     *time = 0;
     *start = 0;
     *length = 0;
-    let found = contents::sample_entry(bundle, SampleNumber(sample as usize));
-    match found {
+    match contents::sample_entry(bundle, SampleNumber(sample as usize)) {
         Err(f) => answer::refused(f, place),
         Ok(e) => {
             let own_track = e.track;

@@ -49,8 +49,7 @@ pub fn puddockle_unit(
     *place = 0;
     *start = 0;
     *size = 0;
-    let placed = delivered_unit::unit_place(bundle, SampleNumber(sample as usize), unit as usize);
-    match placed {
+    match delivered_unit::unit_place(bundle, SampleNumber(sample as usize), unit as usize) {
         Err(f) => answer::refused(f, place),
         Ok(u) => {
             let at = u.start;

@@ -24,8 +24,7 @@ pub fn puddockle_audit(
     *passed = 0;
     *empty = 0;
     *refused = 0;
-    let audited = audit::audit(bundle, lines);
-    match audited {
+    match audit::audit(bundle, lines) {
         Err(f) => answer::refused(f, place),
         Ok(report) => {
             let tally = report.tally;

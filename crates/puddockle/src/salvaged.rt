@@ -26,8 +26,7 @@ pub fn puddockle_salvage(
     *count = 0;
     *changes_count = 0;
     *names_count = 0;
-    let salvaged = salvage::salvage(bundle, SampleNumber(sample as usize), out, changes, names);
-    match salvaged {
+    match salvage::salvage(bundle, SampleNumber(sample as usize), out, changes, names) {
         Err(f) => answer::refused(f, place),
         Ok(c) => {
             *count = c.sample as u64;
@@ -55,8 +54,7 @@ pub fn puddockle_salvage_sample(
     *place = 0;
     *count = 0;
     *changes_count = 0;
-    let salvaged = salvage::salvage_sample(kind, length_size, sample, out, changes);
-    match salvaged {
+    match salvage::salvage_sample(kind, length_size, sample, out, changes) {
         Err(f) => answer::refused(f, place),
         Ok(c) => {
             *count = c.sample as u64;

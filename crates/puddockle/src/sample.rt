@@ -10,8 +10,7 @@ pub fn puddockle_check_sample(kind: u32, length_size: u32, sample: &[u8], place:
     ensures { Returned result place.new (check_alone kind length_size sample.now) }
 {
     *place = 0;
-    let checked = samples::check(kind, length_size, sample);
-    match checked {
+    match samples::check(kind, length_size, sample) {
         Err(f) => answer::refused(f, place),
         Ok(()) => 0,
     }

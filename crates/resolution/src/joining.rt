@@ -20,8 +20,7 @@ fn write_sample(out: &mut [u8], from: usize, b: &[u8], t: &[u64], n: SampleNumbe
     ensures { (result ≡ from + length (given (resolve (recording_in b.now t.now) n.0)))
         × (out.new ≡ write_at out.old from (given (resolve (recording_in b.now t.now) n.0))) }
 {
-    let judged = verdicts::kept_verdict(t, n);
-    match judged {
+    match verdicts::kept_verdict(t, n) {
         Err(_) => from,
         Ok(_) => {
             let k = delivery::track_of(t, n);

@@ -37,8 +37,7 @@ fn judge_units(b: &[u8], t: &[u64], n: SampleNumber, k: Track, x: &[u8]) -> Resu
     let mut size: usize = 0;
     let mut c = delivery::start();
     loop {
-        let s = delivery::step(b, t, n, k, x, c);
-        match s {
+        match delivery::step(b, t, n, k, x, c) {
             Stepped::Done => {
                 return Ok(size);
             }

@@ -67,8 +67,7 @@ pub(crate) fn write_units_from(
     let mut at = from;
     let mut c = delivery::start();
     loop {
-        let s = delivery::step(b, t, n, k, x, c);
-        match s {
+        match delivery::step(b, t, n, k, x, c) {
             Stepped::Done => {
                 return at;
             }

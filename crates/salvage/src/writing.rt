@@ -86,13 +86,9 @@ fn measure(k: Track, y: &[u8]) -> Sizes
 fn first_fault(k: Track, s: &[u8]) -> usize
     ensures { result ≡ first_fault (sample k s.now) }
 {
-    let top = samples::check_top(k, s);
-    match top {
+    match samples::check_top(k, s) {
         Ok(()) => s.len(),
-        Err(r) => {
-            let p = r.place;
-            p.0
-        }
+        Err(r) => r.place.0,
     }
 }
 

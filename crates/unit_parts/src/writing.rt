@@ -38,8 +38,7 @@ fn write_parts(out: &mut [u64], b: &[u8], t: &[u64], n: SampleNumber, k: Track, 
     let mut at: usize = 0;
     let mut c = delivery::start();
     loop {
-        let s = delivery::step(b, t, n, k, x, c);
-        match s {
+        match delivery::step(b, t, n, k, x, c) {
             Stepped::Done => {
                 return;
             }

@@ -30,8 +30,7 @@ fn copy_unknown(
 ) -> Result<CopyAmount, Fault>
     ensures { numbered result ≡ copy_amount (sample k z.now) offset.0 length }
 {
-    let checked = samples::check_sample(k, z);
-    match checked {
+    match samples::check_sample(k, z) {
         Err(_) => Err(Fault::NamedIllFormed),
         Ok(()) => marks::copy_of(k, z, rows, rows.len(), offset, length),
     }
@@ -91,8 +90,7 @@ fn amount_at(
     requires { Ready b.now t.now forms.now rows.now }
     ensures { numbered result ≡ amount_by (recording_in b.now t.now) n.0 (extractor_at (sample k x.now) (length x.now) at.0) }
 {
-    let fields = unit_steps::extractor_at(k, x, at, ByteOffset(x.len()));
-    match fields {
+    match unit_steps::extractor_at(k, x, at, ByteOffset(x.len())) {
         None => Ok(CopyAmount { count: 0, bytes: 0 }),
         Some(f) => extract(b, t, forms, rows, n, f),
     }
@@ -128,8 +126,7 @@ pub(crate) fn measure(
     let mut copied: usize = 0;
     let mut p: usize = 0;
     while p < x.len() {
-        let item = unit_steps::item_at(k, x, ByteOffset(p));
-        match item {
+        match unit_steps::item_at(k, x, ByteOffset(p)) {
             // does not come: the sample is well formed
             Item::Nothing => {
                 return good(count, own, copied);

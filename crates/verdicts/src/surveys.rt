@@ -32,11 +32,7 @@ pub(crate) fn word(number: u64, value: usize) -> u64
 pub(crate) fn known(forms: &[u64], m: SampleNumber) -> u64
     ensures { result ≡ get_or forms.now m.0 0 }
 {
-    let at = m.0;
-    if forms.len() <= at {
-        return 0;
-    }
-    forms[at]
+    forms.get(m.0).copied().unwrap_or(0)
 }
 
 // The form of a sample, which is x: it is checked and, where it is well formed and there is room, marked from row base on.
@@ -44,8 +40,7 @@ fn mark_one(k: Track, x: &[u8], rows: &mut [u32], base: usize) -> u64
     requires { (length x.now ≤ bundle_most) × (base ≤ rows_most) }
     ensures { Told (sample k x.now) base rows.old result rows.new }
 {
-    let checked = samples::check_sample(k, x);
-    match checked {
+    match samples::check_sample(k, x) {
         Err(f) => word(f.number as u64, f.place.0),
         Ok(()) => {
             let most = rows.len() / marks::ROW;
@@ -114,17 +109,13 @@ fn mark_linked(
     requires { (length b.now ≤ bundle_most) × (length rows.old ≤ rows_most) × Survey b.now t.now forms.old rows.old used }
     ensures { Survey b.now t.now forms.new rows.new result }
 {
-    let fields = unit_steps::extractor_at(k, x, at, ByteOffset(x.len()));
-    match fields {
-        None => used,
-        Some(f) => {
-            let named = links::name(t, n, f.track_ref_index, f.sample_offset);
-            match named {
-                Err(_) => used,
-                Ok(m) => mark_sample(b, t, forms, rows, used, m),
-            }
-        }
-    }
+    let Some(f) = unit_steps::extractor_at(k, x, at, ByteOffset(x.len())) else {
+        return used;
+    };
+    let Ok(m) = links::name(t, n, f.track_ref_index, f.sample_offset) else {
+        return used;
+    };
+    mark_sample(b, t, forms, rows, used, m)
 }
 
 // The samples checked and marked that the extractors of sample n name, which is x, each once; how many rows are used then.
@@ -144,8 +135,7 @@ fn mark_named_from(
     let mut used = rows_used;
     let mut p: usize = 0;
     while p < x.len() {
-        let item = unit_steps::item_at(k, x, ByteOffset(p));
-        match item {
+        match unit_steps::item_at(k, x, ByteOffset(p)) {
             Item::Nothing => {
                 return used;
             }

@@ -4,7 +4,7 @@ use Rattle.puddockle.proofs.Returned.{returned}
 use Rattle.puddockle.proofs.bundle.puddockle_check_bundle.Goals as goal
 
 pub returns-in-Err : goal.returns-in-Err
-returns-in-Err c = returned (rw c.in-Err.is at c.check_bundle-checked.ensures) c.refused.ensures.0 c.refused.ensures.1
+returns-in-Err c = returned (rw c.in-Err.is at c.check_bundle.ensures) c.refused.ensures.0 c.refused.ensures.1
 
 pub returns-in-Ok : goal.returns-in-Ok
-returns-in-Ok c = returned (rw c.in-Ok.is at c.check_bundle-checked.ensures) refl refl
+returns-in-Ok c = returned (rw c.in-Ok.is at c.check_bundle.ensures) refl refl

@@ -4,7 +4,7 @@ use Rattle.puddockle.proofs.Returned.{sample}
 use Rattle.puddockle.proofs.entries.puddockle_sample.Goals as goal
 
 pub returns-in-Err : goal.returns-in-Err
-returns-in-Err c = sample (rw c.in-Err.is at c.sample_entry-found.ensures) c.refused.ensures.0 c.refused.ensures.1 refl refl refl refl
+returns-in-Err c = sample (rw c.in-Err.is at c.sample_entry.ensures) c.refused.ensures.0 c.refused.ensures.1 refl refl refl refl
 
 pub returns-in-Ok : goal.returns-in-Ok
-returns-in-Ok c = sample (rw c.in-Ok.is at c.sample_entry-found.ensures) refl refl refl refl refl refl
+returns-in-Ok c = sample (rw c.in-Ok.is at c.sample_entry.ensures) refl refl refl refl refl refl

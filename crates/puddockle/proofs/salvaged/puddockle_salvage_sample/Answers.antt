@@ -4,7 +4,7 @@ use Rattle.puddockle.proofs.Returned.{outputs}
 use Rattle.puddockle.proofs.salvaged.puddockle_salvage_sample.Goals as goal
 
 pub returns-in-Err : goal.returns-in-Err
-returns-in-Err c = outputs (rw c.in-Err.is at c.salvage_sample-salvaged.ensures) c.refused.ensures.0 c.refused.ensures.1 refl
+returns-in-Err c = outputs (rw c.in-Err.is at c.salvage_sample.ensures) c.refused.ensures.0 c.refused.ensures.1 refl
 
 pub returns-in-Ok : goal.returns-in-Ok
-returns-in-Ok c = outputs (rw c.in-Ok.is at c.salvage_sample-salvaged.ensures) refl refl refl
+returns-in-Ok c = outputs (rw c.in-Ok.is at c.salvage_sample.ensures) refl refl refl

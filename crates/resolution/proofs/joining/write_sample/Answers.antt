@@ -22,14 +22,14 @@ use Rattle.resolution.proofs.joining.write_sample.Goals.{In-Ok}
 -- the sample is good, and gives what it delivers
 good : (c : In-Ok) → let a = c.args in let r = recording_in a.b.now a.t.now in
     (judged r a.n.0 ≡ ok tt) × (given (resolve r a.n.0) ≡ framed Lengths r (delivered r a.n.0))
-good c = kept_good c.args.b.now c.args.t.now c.args.n.0 c.requires.0 c.requires.1 c.requires.2 (sym (ap kept_answer c.in-Ok.is) ∙ c.kept_verdict-judged.ensures)
+good c = kept_good c.args.b.now c.args.t.now c.args.n.0 c.requires.0 c.requires.1 c.requires.2 (sym (ap kept_answer c.in-Ok.is) ∙ c.kept_verdict.ensures)
 
 pub write_units_from-requires : goal.write_units_from-requires
 write_units_from-requires c = let a = c.args in let g = good (goal.at.write_units_from-requires c).In-Ok in
     (sample_from a.b.now a.t.now a.n.0 c.track_of-k.ensures c.sample_bytes-x.ensures, g.0, rw (← g.1) c.requires.3)
 
 pub returns-in-Err : goal.returns-in-Err
-returns-in-Err c = let g = kept_refused c.args.b.now c.args.t.now c.args.n.0 c.requires.0 c.requires.1 c.requires.2 (sym (ap kept_answer c.in-Err.is) ∙ c.kept_verdict-judged.ensures) in
+returns-in-Err c = let g = kept_refused c.args.b.now c.args.t.now c.args.n.0 c.requires.0 c.requires.1 c.requires.2 (sym (ap kept_answer c.in-Err.is) ∙ c.kept_verdict.ensures) in
     (rw g (omega arith), rw g (write_none _ _))
 
 pub returns-in-Ok : goal.returns-in-Ok

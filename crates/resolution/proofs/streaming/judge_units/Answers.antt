@@ -16,7 +16,7 @@ use Rattle.resolution.proofs.streaming.judge_units.Goals.{In-Unit}
 
 -- the unit at hand
 unit : (c : In-Unit) → let a = c.args in step_of (recording_in a.b.now a.t.now) a.n.0 (sample a.k a.x.now) c.loop-d.c ≡ step.Unit c.in-Unit.u c.in-Unit.d
-unit c = sym c.step-s.ensures ∙ c.in-Unit.is
+unit c = sym c.step.ensures ∙ c.in-Unit.is
 
 -- the sum fits
 fits : (c : In-Unit) → c.loop-d.size + (4 + c.in-Unit.u.span.size) ≤ stream_most
@@ -26,13 +26,13 @@ pub loop-d-init : goal.loop-d-init
 loop-d-init c = rw c.start-c.ensures (judges_start _ _ _)
 
 pub returns-in-Done : goal.returns-in-Done
-returns-in-Done c = let h = c.requires in sym (judges_end _ _ _ _ _ c.loop-d.invariant h.0 h.1 (sym c.step-s.ensures ∙ c.in-Done.is))
+returns-in-Done c = let h = c.requires in sym (judges_end _ _ _ _ _ c.loop-d.invariant h.0 h.1 (sym c.step.ensures ∙ c.in-Done.is))
 
 pub loop-d-smaller-in-Moved : goal.loop-d-smaller-in-Moved
-loop-d-smaller-in-Moved c = moved_less _ _ _ _ (sym c.step-s.ensures ∙ c.in-Moved.is)
+loop-d-smaller-in-Moved c = moved_less _ _ _ _ (sym c.step.ensures ∙ c.in-Moved.is)
 
 pub loop-d-preserved-in-Moved : goal.loop-d-preserved-in-Moved
-loop-d-preserved-in-Moved c = folded_moved _ _ _ _ _ c.loop-d.invariant (sym c.step-s.ensures ∙ c.in-Moved.is)
+loop-d-preserved-in-Moved c = folded_moved _ _ _ _ _ c.loop-d.invariant (sym c.step.ensures ∙ c.in-Moved.is)
 
 pub is_streamable-requires : goal.is_streamable-requires
 is_streamable-requires c = unit_inside _ _ _ c.requires.0 _ (unit (goal.at.is_streamable-requires c).In-Unit)

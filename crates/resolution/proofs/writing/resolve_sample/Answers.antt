@@ -19,7 +19,7 @@ use Rattle.judging.proofs.Judgements.{judged_number, judged_good, judged_size_le
 use Rattle.resolution.proofs.Framing.{framed_lengths}
 use Rattle.resolution.proofs.Answered.{sample_refused, room_refused, sample_resolved}
 use Rattle.resolution.proofs.writing.resolve_sample.Goals as goal
-use Rattle.resolution.proofs.writing.resolve_sample.Goals.{Else-out-size, In_ok-a}
+use Rattle.resolution.proofs.writing.resolve_sample.Goals.{In_ok-a}
 
 abbrev R : In_ok-a → Recording
 R c = recording_in c.args.b.now c.args.t.now
@@ -49,27 +49,6 @@ size c = judged_size_lem _ _ _ c.requires (A c) (answered c)
 most : (c : In_ok-a) → (A c).own_bytes + (A c).copied_bytes + 4 * (A c).count ≤ 1125899906842624
 most c = judged_most _ _ _ c.requires (A c) (answered c)
 
-abbrev R_Else1 : Else-out-size → Recording
-R_Else1 c = recording_in c.args.b.now c.args.t.now
-
-abbrev N_Else1 : Else-out-size → ℕ
-N_Else1 c = c.args.n.0
-
-abbrev Output_Else1 : Else-out-size → List ℕ
-Output_Else1 c = output (R_Else1 c) (delivered (R_Else1 c) (N_Else1 c))
-
-abbrev A_Else1 : Else-out-size → Amount
-A_Else1 c = c.in_ok-a.a
-
-answered_Else1 : (c : Else-out-size) → let a = c.args in judgement_in a.b.now a.t.now a.n.0 ≡ ok (A_Else1 c)
-answered_Else1 c = sym c.judge.ensures ∙ ap answer_of c.in_ok-a.was
-
-size_Else1 : (c : Else-out-size) → (A_Else1 c).own_bytes + (A_Else1 c).copied_bytes + 4 * (A_Else1 c).count ≡ length (Output_Else1 c)
-size_Else1 c = judged_size_lem _ _ _ c.requires (A_Else1 c) (answered_Else1 c)
-
-fits : (c : Else-out-size) → length (Output_Else1 c) ≤ length c.args.out.now
-fits c = rw (size_Else1 c) at c.if-out-size.false
-
 pub overflow_add-size : goal.overflow_add-size
 overflow_add-size c = let m = most (goal.at.overflow_add-size c).In_ok-a in omega arith
 
@@ -84,7 +63,7 @@ returns-then-out-size c = rw c.at.ensures (refuse (room_refused _ _ _ (sound (go
 
 pub write_units-requires : goal.write_units-requires
 write_units-requires c = let a = c.args in
-    (sample_from a.b.now a.t.now a.n.0 c.track_of-k.ensures c.sample_bytes-x.ensures, good (goal.at.write_units-requires c).In_ok-a, rw framed_lengths (let h = fits (goal.at.write_units-requires c).Else-out-size in omega arith))
+    (sample_from a.b.now a.t.now a.n.0 c.track_of-k.ensures c.sample_bytes-x.ensures, good (goal.at.write_units-requires c).In_ok-a, rw framed_lengths (let h = rw (size (goal.at.write_units-requires c).In_ok-a) at c.if-out-size.false in omega arith))
 
 pub returns-in_err-a : goal.returns-in_err-a
 returns-in_err-a c =
@@ -92,4 +71,4 @@ returns-in_err-a c =
     rw (p.1, p.2) (refuse (sample_refused _ _ _ c.requires (sym c.judge.ensures ∙ ap answer_of c.in_err-a.was) _))
 
 pub returns : goal.returns
-returns c = rw (size (goal.at.returns c).In_ok-a) (accept (sample_resolved _ _ _ (sound (goal.at.returns c).In_ok-a) (good (goal.at.returns c).In_ok-a) (fits (goal.at.returns c).Else-out-size)) (c.write_units.ensures ∙ ap (overwrite _) (framed_lengths _ _)))
+returns c = rw (size (goal.at.returns c).In_ok-a) (accept (sample_resolved _ _ _ (sound (goal.at.returns c).In_ok-a) (good (goal.at.returns c).In_ok-a) (rw (size (goal.at.returns c).In_ok-a) at c.if-out-size.false)) (c.write_units.ensures ∙ ap (overwrite _) (framed_lengths _ _)))

@@ -5,7 +5,7 @@ use Rattle.salvage_rules.proofs.Cut.{fault_none, fault_some}
 use Rattle.salvage.proofs.writing.first_fault.Goals as goal
 
 pub returns-in-Ok : goal.returns-in-Ok
-returns-in-Ok c = sym (fault_none _ (sym c.check_top-top.ensures ∙ ap answer_of c.in-Ok.is))
+returns-in-Ok c = sym (fault_none _ (sym c.check_top.ensures ∙ ap answer_of c.in-Ok.is))
 
 pub returns-in-Err : goal.returns-in-Err
-returns-in-Err c = sym (fault_some _ _ _ (sym c.check_top-top.ensures ∙ ap answer_of c.in-Err.is)).0
+returns-in-Err c = sym (fault_some _ _ _ (sym c.check_top.ensures ∙ ap answer_of c.in-Err.is)).0

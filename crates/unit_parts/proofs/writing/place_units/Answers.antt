@@ -18,7 +18,7 @@ use Rattle.judging.proofs.Judgements.{judged_number, judged_good}
 use Rattle.unit_parts.specs.Answers.{parts_in}
 use Rattle.unit_parts.proofs.Answered.{sample_refused, room_refused, units_placed, parts_size, parts_fit}
 use Rattle.unit_parts.proofs.writing.place_units.Goals as goal
-use Rattle.unit_parts.proofs.writing.place_units.Goals.{Else-out-size, In_ok-a}
+use Rattle.unit_parts.proofs.writing.place_units.Goals.{In_ok-a}
 
 -- the bundle, the table and the number
 abbrev B : In_ok-a → List ℕ
@@ -46,26 +46,8 @@ good c = (judged_good _ _ _ c.requires (A c) (answered c)).0
 size : (c : In_ok-a) → 2 * (A c).count ≡ length (parts_in (B c) (T c) (N c))
 size c = parts_size _ _ _ c.requires (A c) (answered c)
 
-abbrev B_Else1 : Else-out-size → List ℕ
-B_Else1 c = c.args.b.now
-
-abbrev T_Else1 : Else-out-size → List ℕ
-T_Else1 c = c.args.t.now
-
-abbrev N_Else1 : Else-out-size → ℕ
-N_Else1 c = c.args.n.0
-
-abbrev A_Else1 : Else-out-size → Amount
-A_Else1 c = c.in_ok-a.a
-
-answered_Else1 : (c : Else-out-size) → judgement_in (B_Else1 c) (T_Else1 c) (N_Else1 c) ≡ ok (A_Else1 c)
-answered_Else1 c = sym c.judge.ensures ∙ ap answer_of c.in_ok-a.was
-
-size_Else1 : (c : Else-out-size) → 2 * (A_Else1 c).count ≡ length (parts_in (B_Else1 c) (T_Else1 c) (N_Else1 c))
-size_Else1 c = parts_size _ _ _ c.requires (A_Else1 c) (answered_Else1 c)
-
-fits : (c : Else-out-size) → length (parts_in (B_Else1 c) (T_Else1 c) (N_Else1 c)) ≤ length c.args.out.now
-fits c = let s = size_Else1 c in let l = c.if-out-size.false in omega arith
+fits : (c : In_ok-a) → 2 * (A c).count ≤ length c.args.out.now → length (parts_in (B c) (T c) (N c)) ≤ length c.args.out.now
+fits c l = let s = size c in omega arith
 
 pub overflow_mul-size : goal.overflow_mul-size
 overflow_mul-size c = let m = parts_fit _ _ _ c.requires (A (goal.at.overflow_mul-size c).In_ok-a) (answered (goal.at.overflow_mul-size c).In_ok-a) in omega arith
@@ -75,7 +57,7 @@ returns-then-out-size c = rw c.at.ensures (refuse (room_refused _ _ _ _ (sound (
 
 pub write_parts-requires : goal.write_parts-requires
 write_parts-requires c = let a = c.args in
-    (sample_from a.b.now a.t.now a.n.0 c.track_of-k.ensures c.sample_bytes-x.ensures, good (goal.at.write_parts-requires c).In_ok-a, c.requires, fits (goal.at.write_parts-requires c).Else-out-size)
+    (sample_from a.b.now a.t.now a.n.0 c.track_of-k.ensures c.sample_bytes-x.ensures, good (goal.at.write_parts-requires c).In_ok-a, c.requires, fits (goal.at.write_parts-requires c).In_ok-a c.if-out-size.false)
 
 pub returns-in_err-a : goal.returns-in_err-a
 returns-in_err-a c =
@@ -83,4 +65,4 @@ returns-in_err-a c =
     rw (p.1, p.2) (refuse (sample_refused _ _ _ c.requires (sym c.judge.ensures ∙ ap answer_of c.in_err-a.was) _))
 
 pub returns : goal.returns
-returns c = rw (size (goal.at.returns c).In_ok-a) (accept (units_placed _ _ _ _ (sound (goal.at.returns c).In_ok-a) (good (goal.at.returns c).In_ok-a) (fits (goal.at.returns c).Else-out-size)) c.write_parts.ensures)
+returns c = rw (size (goal.at.returns c).In_ok-a) (accept (units_placed _ _ _ _ (sound (goal.at.returns c).In_ok-a) (good (goal.at.returns c).In_ok-a) (fits (goal.at.returns c).In_ok-a c.if-out-size.false)) c.write_parts.ensures)

@@ -58,14 +58,14 @@ pub loop-p-init : goal.loop-p-init
 loop-p-init c = counting_start _ _ _ c.requires.0 c.requires.1
 
 pub returns-in-Nothing : goal.returns-in-Nothing
-returns-in-Nothing c = walking_never _ _ _ c.loop-p.invariant.passing.walking c.loop-p-test.true (sym c.item_at-item.ensures ∙ c.in-Nothing.is)
+returns-in-Nothing c = walking_never _ _ _ c.loop-p.invariant.passing.walking c.loop-p-test.true (sym c.item_at.ensures ∙ c.in-Nothing.is)
 
 pub loop-p-smaller-in-Aggregator : goal.loop-p-smaller-in-Aggregator
-loop-p-smaller-in-Aggregator c = let l = L_some c.args.k.length_size in let e = (aggregator_is _ _ (sym c.item_at-item.ensures ∙ c.in-Aggregator.is)).1 in omega (arith, c.loop-p-test.true)
+loop-p-smaller-in-Aggregator c = let l = L_some c.args.k.length_size in let e = (aggregator_is _ _ (sym c.item_at.ensures ∙ c.in-Aggregator.is)).1 in omega (arith, c.loop-p-test.true)
 
 pub loop-p-preserved-in-Aggregator : goal.loop-p-preserved-in-Aggregator
 loop-p-preserved-in-Aggregator c =
-    let a = aggregator_is _ _ (sym c.item_at-item.ensures ∙ c.in-Aggregator.is) in
+    let a = aggregator_is _ _ (sym c.item_at.ensures ∙ c.in-Aggregator.is) in
     rw a.1 (counting_skip _ _ _ _ _ _ _ c.loop-p.invariant c.loop-p-test.true a.0)
 
 pub amount_at-copy-requires : goal.amount_at-copy-requires
@@ -74,7 +74,7 @@ amount_at-copy-requires c = c.requires.3
 pub returns-in_err-a-in-Extractor : goal.returns-in_err-a-in-Extractor
 returns-in_err-a-in-Extractor c =
     let a = c.args in
-    let e = extractor_is _ _ (sym c.item_at-item.ensures ∙ c.in-Extractor.is) in
+    let e = extractor_is _ _ (sym c.item_at.ensures ∙ c.in-Extractor.is) in
     let w = place_number _ _ (sym c.in_err-a-in-Extractor.was ∙ c.at_place.ensures) in
     let p = err_from_is_err_and c.from_residual.result c.from_residual.ensures.1 in
     rw (p.1, p.2, w.1) (sym (counting_refused _ _ _ _ _ _ _ c.loop-p.invariant c.loop-p-test.true e.0 e.1 (few a.b.now a.t.now c.requires.2 a.n.0 _ c.requires.0 _ _ _ _ c.loop-p.invariant c.loop-p-test.true) (sym c.amount_at-copy.ensures ∙ w.0)))
@@ -86,54 +86,54 @@ copied-at r p e = ap numbered (place_ok r p e)
 pub overflow_add-count : goal.overflow_add-count
 overflow_add-count c =
     let a = c.args in
-    let e = extractor_is _ _ (sym c.item_at-item.ensures ∙ c.in-Extractor.is) in
+    let e = extractor_is _ _ (sym c.item_at.ensures ∙ c.in-Extractor.is) in
     let f = copied-fits a.b.now a.t.now c.requires.2 a.n.0 _ c.requires.0 _ _ _ _ c.loop-p.invariant c.loop-p-test.true e.0 e.1 (sym c.amount_at-copy.ensures ∙ copied-at _ _ c.in_ok-a-in-Extractor.ensures) in
     omega arith
 
 pub overflow_add-copied : goal.overflow_add-copied
 overflow_add-copied c =
     let a = c.args in
-    let e = extractor_is _ _ (sym c.item_at-item.ensures ∙ c.in-Extractor.is) in
+    let e = extractor_is _ _ (sym c.item_at.ensures ∙ c.in-Extractor.is) in
     let f = copied-fits a.b.now a.t.now c.requires.2 a.n.0 _ c.requires.0 _ _ _ _ c.loop-p.invariant c.loop-p-test.true e.0 e.1 (sym c.amount_at-copy.ensures ∙ copied-at _ _ c.in_ok-a-in-Extractor.ensures) in
     omega arith
 
 pub loop-p-smaller-in-Extractor : goal.loop-p-smaller-in-Extractor
 loop-p-smaller-in-Extractor c =
-    let e = extractor_is _ _ (sym c.item_at-item.ensures ∙ c.in-Extractor.is) in
+    let e = extractor_is _ _ (sym c.item_at.ensures ∙ c.in-Extractor.is) in
     let l = next_after (sample c.args.k c.args.x.now) c.loop-p.p in
     omega (arith, c.loop-p-test.true, e.2)
 
 pub loop-p-preserved-in-Extractor : goal.loop-p-preserved-in-Extractor
 loop-p-preserved-in-Extractor c =
     let a = c.args in
-    let e = extractor_is _ _ (sym c.item_at-item.ensures ∙ c.in-Extractor.is) in
+    let e = extractor_is _ _ (sym c.item_at.ensures ∙ c.in-Extractor.is) in
     rw e.2 (counting_copy _ _ _ _ _ _ _ c.loop-p.invariant c.loop-p-test.true e.0 e.1 (few a.b.now a.t.now c.requires.2 a.n.0 _ c.requires.0 _ _ _ _ c.loop-p.invariant c.loop-p-test.true) (sym c.amount_at-copy.ensures ∙ copied-at _ _ c.in_ok-a-in-Extractor.ensures))
 
 pub overflow_add-count-in-Unit : goal.overflow_add-count-in-Unit
 overflow_add-count-in-Unit c =
     let a = c.args in
-    let e = unit_is _ _ (sym c.item_at-item.ensures ∙ c.in-Unit.is) in
+    let e = unit_is _ _ (sym c.item_at.ensures ∙ c.in-Unit.is) in
     let f = units-fit a.b.now a.t.now c.requires.2 a.n.0 _ c.requires.0 _ _ _ _ c.loop-p.invariant c.loop-p-test.true e.0 e.1 in
     omega arith
 
 pub overflow_add-own : goal.overflow_add-own
 overflow_add-own c =
     let a = c.args in
-    let e = unit_is _ _ (sym c.item_at-item.ensures ∙ c.in-Unit.is) in
+    let e = unit_is _ _ (sym c.item_at.ensures ∙ c.in-Unit.is) in
     let f = units-fit a.b.now a.t.now c.requires.2 a.n.0 _ c.requires.0 _ _ _ _ c.loop-p.invariant c.loop-p-test.true e.0 e.1 in
     let s : c.in-Unit.u.size ≡ size (sample a.k a.x.now) c.loop-p.p = ap (λ (u : NalUnit). u.size) e.2 in
     omega arith
 
 pub loop-p-smaller : goal.loop-p-smaller
 loop-p-smaller c =
-    let u = unit_is _ _ (sym c.item_at-item.ensures ∙ c.in-Unit.is) in
+    let u = unit_is _ _ (sym c.item_at.ensures ∙ c.in-Unit.is) in
     let l = next_after (sample c.args.k c.args.x.now) c.loop-p.p in
     let e : c.in-Unit.u.next.0 ≡ next (sample c.args.k c.args.x.now) c.loop-p.p = ap (λ (u : NalUnit). u.next.0) u.2 in
     omega (arith, c.loop-p-test.true)
 
 pub loop-p-preserved : goal.loop-p-preserved
 loop-p-preserved c =
-    let e = unit_is _ _ (sym c.item_at-item.ensures ∙ c.in-Unit.is) in
+    let e = unit_is _ _ (sym c.item_at.ensures ∙ c.in-Unit.is) in
     rw e.2 (counting_unit _ _ _ _ _ _ _ c.loop-p.invariant c.loop-p-test.true e.0 e.1)
 
 pub returns : goal.returns

@@ -8,7 +8,7 @@ use Rattle.verdicts.proofs.surveys.mark_one.Goals as goal
 
 pub word-requires : goal.word-requires
 word-requires c = let a = c.args in
-    let s = form_small (sample a.k a.x.now) _ _ (sym c.check_sample-checked.ensures ∙ ap answer_of c.in-Err.is) in
+    let s = form_small (sample a.k a.x.now) _ _ (sym c.check_sample.ensures ∙ ap answer_of c.in-Err.is) in
     omega (arith, c.requires.0)
 
 pub overflow_add-base : goal.overflow_add-base
@@ -22,8 +22,8 @@ word-requires-in-Ok c = omega (arith, c.requires.1)
 
 pub returns-in-Err : goal.returns-in-Err
 returns-in-Err c = let a = c.args in
-    rw c.word.ensures (told_refused (sample a.k a.x.now) a.base a.rows.now _ _ (sym c.check_sample-checked.ensures ∙ ap answer_of c.in-Err.is))
+    rw c.word.ensures (told_refused (sample a.k a.x.now) a.base a.rows.now _ _ (sym c.check_sample.ensures ∙ ap answer_of c.in-Err.is))
 
 pub returns-else-most-base : goal.returns-else-most-base
 returns-else-most-base c = let a = c.args in
-    rw (c.word-in-Ok.ensures, c.mark.ensures) (told_marked (sample a.k a.x.now) a.base a.rows.now (sym c.check_sample-checked.ensures ∙ ap answer_of c.in-Ok.is) c.requires.0 (omega (arith, c.if-most-base.false)))
+    rw (c.word-in-Ok.ensures, c.mark.ensures) (told_marked (sample a.k a.x.now) a.base a.rows.now (sym c.check_sample.ensures ∙ ap answer_of c.in-Ok.is) c.requires.0 (omega (arith, c.if-most-base.false)))
