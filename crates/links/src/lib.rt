@@ -23,8 +23,9 @@ pub struct SearchResult {
 fn link_fault(t: &[u64], n: SampleNumber, index: u8) -> Result<(), Fault>
     ensures { fault_in result ≡ link_fault (layout_in t.now) n.0 index }
 {
-    let own = sample_tables::sample_track(t, n);
-    if index == 0 || tables::reference_count(t, own) < index as usize {
+    if index == 0
+        || tables::reference_count(t, sample_tables::sample_track(t, n)) < index as usize
+    {
         return Err(Fault::BadTrackRefIndex);
     }
     Ok(())

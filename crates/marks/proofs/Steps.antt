@@ -1,7 +1,8 @@
 -- The state one unit on, as the code finds it: n bytes in a length field, the size v and the type t of the unit. Assumes nothing.
 --
 --   size_small                             a length field holds less than 2 to the 32nd
---   step_in, step_passed                   an aggregator, another unit
+--   step_in, step_extractor, step_plain    an aggregator, an extractor, another unit
+--   step_passed                            an extractor or another unit, by a number
 --   next_read, cover_read                  where a unit ends, and what an aggregator covers
 --   front_is                               the state whose numbers are all 0
 --   fits_front, fits_step, fits_reach      the numbers of a state do not get too large
@@ -35,11 +36,11 @@ module _ (k : Track) (z : List ℕ) (s : WalkState) {n v t : ℕ} (e : n ≡ in_
   unfolding size
   step_in h = rw (step_aggregator x s (eq-eqb _ 30 (sym g ∙ h)), e, f)
 
-  step_extractor : (t ≡ 30 → ⊥) → t ≡ 31 → record { place = s.place + n + v; until = s.until; count = s.count + 1; bytes = s.bytes + v; extractors = s.extractors + 1 } ≡ state_step x s
+  pub step_extractor : (t ≡ 30 → ⊥) → t ≡ 31 → record { place = s.place + n + v; until = s.until; count = s.count + 1; bytes = s.bytes + v; extractors = s.extractors + 1 } ≡ state_step x s
   unfolding size
   step_extractor h i = rw (step_other x s (ne_eqb _ 30 (λ j. h (g ∙ j))), eq-eqb _ 31 (sym g ∙ i), e, f)
 
-  step_plain : (t ≡ 30 → ⊥) → (t ≡ 31 → ⊥) → record { place = s.place + n + v; until = s.until; count = s.count + 1; bytes = s.bytes + v; extractors = s.extractors } ≡ state_step x s
+  pub step_plain : (t ≡ 30 → ⊥) → (t ≡ 31 → ⊥) → record { place = s.place + n + v; until = s.until; count = s.count + 1; bytes = s.bytes + v; extractors = s.extractors } ≡ state_step x s
   unfolding size
   step_plain h i = rw (step_other x s (ne_eqb _ 30 (λ j. h (g ∙ j))), ne_eqb _ 31 (λ j. i (g ∙ j)), e, f)
 

@@ -1,7 +1,7 @@
 -- Laws of the length size, and of a number that is written from its last byte on. Assumes nothing.
 --
 --   L_some, L_most                         L is 1 to 4
---   big_4                                  a number of 4 bytes
+--   big_4, big_at                          a number of 4 bytes, of a part or where they stand
 --   Back, back_start, back_next, back_end  the bytes written so far
 use Prim.Native.Nat.{ℕ, zero, suc, ◌+◌, ◌-◌, ◌*◌, ◌/◌, ◌%◌, ◌≤◌, ◌<◌}
 use mathlib.Core.Path.{◌≡◌, sym, ◌∙◌}
@@ -39,6 +39,12 @@ unfolding big
 big_4 s r p e =
     let d : r ≡ drop p s = e ∙ between_to_end s p (length s) (omega arith) in
     rw (d, get_or-drop p s 0 0, get_or-drop p s 1 0, get_or-drop p s 2 0, get_or-drop p s 3 0) (omega arith)
+
+pub big_at :
+    (s : List ℕ) (p : ℕ) →
+    byte_at s p * 16777216 + byte_at s (p + 1) * 65536 + byte_at s (p + 2) * 256 + byte_at s (p + 3) ≡ big s p 4
+unfolding big
+big_at s p = rw (add-zero p) (omega arith)
 
 -- v in n bytes over o from p on, written down to the place p + k, with r left of v
 pub record Back (o : List ℕ) (p n v k r : ℕ) (out : List ℕ) : Type 0 where

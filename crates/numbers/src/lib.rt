@@ -153,7 +153,11 @@ pub fn byte(s: &[u8], at: usize) -> u8
 fn byte_after(s: &[u8], at: usize, i: usize) -> usize
     ensures { (result ≡ byte_at s.now (at + i)) × (result < 256) }
 {
-    at.checked_add(i).map_or(0, |p| byte(s, p)) as usize
+    if at < s.len() && i < s.len() - at {
+        s[at + i] as usize
+    } else {
+        0
+    }
 }
 
 // The big-endian number of n bytes at a place; 0 for more than 8 bytes.
@@ -174,9 +178,10 @@ pub fn number(s: &[u8], at: usize, n: usize) -> usize
 fn number_of_4(s: &[u8], at: usize) -> usize
     ensures { result ≡ big s.now at 4 }
 {
-    match s.get(at..) {
-        Some([a, b, c, d, ..]) => u32::from_be_bytes([*a, *b, *c, *d]) as usize,
-        _ => number(s, at, 4),
+    if at < s.len() && 3 < s.len() - at {
+        u32::from_be_bytes([s[at], s[at + 1], s[at + 2], s[at + 3]]) as usize
+    } else {
+        number(s, at, 4)
     }
 }
 
@@ -185,7 +190,10 @@ pub fn put_bytes(out: &mut [u8], at: usize, s: &[u8])
     ensures { out.new ≡ put out.old at s.now }
 {
     if at <= out.len() && s.len() <= out.len() - at {
-        out[at..at + s.len()].copy_from_slice(s);
+        // stays: `copy_from_slice` proves, and with it the library for C needs memmove too
+        for i in 0..s.len() {
+            out[at + i] = s[i];
+        }
     }
 }
 

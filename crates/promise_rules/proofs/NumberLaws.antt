@@ -238,13 +238,13 @@ record_kind (RecordOf.svc b h g l q e n) = inr refl
 -- written
 module _ (kind : ℕ) (ns a c x : List ℕ) where
   -- what the two kinds give
-  record Some-as (k : Kind) : Type 0 where
+  record Known-as (k : Kind) : Type 0 where
     pub is : kind_of kind ≡ Some k
     pub one : (kind ≡ 0) ⊎ (kind ≡ 1)
     pub said : numbers_fault k ns ≡ 0 → FieldsIn ns kind (fields_from k ns)
     pub of : {f : Fields} → FieldsIn ns kind f → (numbers_fault k ns ≡ 0) × (fields_from k ns ≡ f)
 
-  by_known : {G : Type 0} → ((k : Kind) → Some-as k → G) → ((kind ≡ 0 → ⊥) → (kind ≡ 1 → ⊥) → G) → G
+  by_known : {G : Type 0} → ((k : Kind) → Known-as k → G) → ((kind ≡ 0 → ⊥) → (kind ≡ 1 → ⊥) → G) → G
   by_known f g = by_kind kind
       (λ z. f Avc (record { is = rw z; one = inl z; said = λ e. rw z (said_avc ns e); of = of_avc ns z }))
       (λ z. f Svc (record { is = rw z; one = inr z; said = λ e. rw z (said_svc ns e); of = of_svc ns z }))
@@ -253,7 +253,7 @@ module _ (kind : ℕ) (ns a c x : List ℕ) where
   no_kind : (room : ℕ) → (kind ≡ 0 → ⊥) → (kind ≡ 1 → ⊥) → write_numbers kind ns a c x room ≡ refused 4 0
   no_kind room u v = write_unknown kind ns a c x room (rw (ne_eqb kind 0 u, ne_eqb kind 1 v))
 
-  module _ (k : Kind) (w : Some-as k) (room : ℕ) where
+  module _ (k : Kind) (w : Known-as k) (room : ℕ) where
     fault_is : (n : ℕ) → numbers_fault k ns ≡ suc n → write_numbers kind ns a c x room ≡ refused 31 0
     fault_is n z =
         let m : suc n ∈ (31 ∷ []) = subst (λ (j : ℕ). j ∈ (31 ∷ [])) z (none_or_some (31 ∷ []) (fault_31 k ns) (omega arith)) in

@@ -4,7 +4,7 @@
 --   byte_below                                   the byte of a value lies below the flags
 --   fixed_back, value_back                       a byte gives back the fixed bits and the value that made it
 --   plain_rest, plain_below                      the same of a byte without flags
---   value_below                                  a value is below its bits
+--   value_below, value_byte                      a value is below its bits, and below 256
 --   sound_chroma, sound_depth, Row, row          every shape is sound: a new kind is one more clause
 --   Flagged, flagged, flags_made, flags_fit_lem  the flags of the length size's byte: a new kind is one more clause in each
 --   flag_back                                    a flag that fits is read back from its bit
@@ -56,6 +56,9 @@ module _ (h : Shape) (g : SoundShape h) (v : ℕ) (l : v < h.low) where
 
 pub value_below : (h : Shape) (b : ℕ) → SoundShape h → value_in h b < h.low
 value_below h b g = mod-lt _ g.low
+
+pub value_byte : (h : Shape) (b : ℕ) → SoundShape h → value_in h b < 256
+value_byte h b g = omega (arith, value_below h b g, g.fixed, g.byte)
 
 sound : (h : Shape) → 0 < h.unit → 0 < h.low → h.fixed * h.low + h.low ≤ h.unit → h.unit ≤ 256 → SoundShape h
 sound h a b c d = record { unit = a; low = b; fixed = c; byte = d }

@@ -31,10 +31,10 @@ pub struct SetTypes {
 fn set_fault(types: SetTypes, s: &[u8], at: usize) -> Result<(), Fault>
     ensures { fault_in result ≡ set_fault types s.now at }
 {
-    let left = s.len().saturating_sub(at);
-    if left < SET_LENGTH_SIZE {
+    if s.len() < at || s.len() - at < SET_LENGTH_SIZE {
         return Err(Fault::RecordCut);
     }
+    let left = s.len() - at;
     let n = numbers::number(s, at, SET_LENGTH_SIZE);
     if n == 0 {
         return Err(Fault::BadSet);

@@ -1,5 +1,6 @@
 -- The samples of a track are a range, in any table: a track's samples end where a later track's start. Assumes nothing.
 --
+--   after_none                   the end of a track's samples, of no tracks
 --   after_first, after_min       the end of a track's samples: with no later track, with one more
 --   after_most                   it is no later than the last sample
 --   owner_is, owner_from         a sample is a track's exactly if it lies in its range
@@ -25,7 +26,7 @@ use Rattle.words.proofs.Rows.{upto_length}
 use Rattle.tables.proofs.Layouts.{samples_count, entry_here}
 
 module _ (t : List ℕ) (k : ℕ) where
-  after_none : after_in t k 0 ≡ sample_total t
+  pub after_none : after_in t k 0 ≡ sample_total t
   unfolding after_in
   after_none = refl
 

@@ -1,7 +1,7 @@
 -- The references of a track, in any table, found one after the other. Assumes nothing.
 --
 --   comes_from                                   whether a reference comes from a track
---   counted_none, counted_all_lem                how many of the first i references come from a track
+--   counted_none, counted_more, counted_all_lem  how many of the first i references come from a track
 --   counted_hit, counted_miss                    one reference more
 --   found_here, found_none                       the reference of a number
 use Prim.Native.Nat.{ℕ, ◌+◌, ◌<◌}
@@ -32,7 +32,7 @@ module _ (t : List ℕ) (k : ℕ) where
   unfolding counted upto keep
   counted_none = refl
 
-  counted_more : (i : ℕ) → counted (i + 1) ≡ pick (cell t (reference_row (i + 1)) from_column ≡? k) (counted i + 1) (counted i)
+  pub counted_more : (i : ℕ) → counted (i + 1) ≡ pick (cell t (reference_row (i + 1)) from_column ≡? k) (counted i + 1) (counted i)
   unfolding counted
   counted_more i = rw (upto_more i, map_append (reference_in t) (upto i) ((i + 1) ∷ [])) (keep_more (comes_from k) (map (reference_in t) (upto i)) (reference_in t (i + 1)))
 

@@ -26,7 +26,7 @@ pub fn item_at(k: Track, s: &[u8], at: ByteOffset) -> Item
     let l = k.length_size;
     let n = l.bytes();
     let p = at.0;
-    if s.len().saturating_sub(p) < n {
+    if s.len() <= p || s.len() - p < n {
         return Item::Nothing;
     }
     let start = p + n;
@@ -59,7 +59,7 @@ pub fn extractor_at(k: Track, s: &[u8], at: ByteOffset, end: ByteOffset) -> Opti
     let l = k.length_size;
     let n = l.bytes();
     let bytes = l.extractor_size();
-    if end.0.saturating_sub(p) < n + bytes || l.number(s, p) != bytes {
+    if end.0 <= p || end.0 - p < n + bytes || l.number(s, p) != bytes {
         return None;
     }
     let head = numbers::byte(s, p + n);

@@ -58,7 +58,11 @@ pub struct JudgedUnit {
 pub fn type_at(k: Track, s: &[u8], at: ByteOffset) -> u8
     ensures { result ≡ type (sample k s.now) at.0 }
 {
-    numbers::byte(s, at.0.saturating_add(k.length_size.bytes())) % numbers::NAL_TYPES
+    let n = k.length_size.bytes();
+    if s.len() <= at.0 || s.len() - at.0 <= n {
+        return 0;
+    }
+    s[at.0 + n] % numbers::NAL_TYPES
 }
 
 // The least size of a unit of a type.
@@ -85,10 +89,10 @@ fn unit_fault(
     ensures { fault_in result ≡ unit_fault (sample k s.now) end.0 at.0 }
 {
     let n = k.length_size.bytes();
-    let room = end.0.saturating_sub(at.0);
-    if room < n {
+    if end.0 <= at.0 || end.0 - at.0 < n {
         return Err(Fault::LengthFieldCut);
     }
+    let room = end.0 - at.0;
     if room - n < bytes {
         return Err(Fault::UnitTooLong);
     }

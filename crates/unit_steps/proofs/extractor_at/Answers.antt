@@ -4,16 +4,18 @@ use mathlib.Core.Path.{◌≡◌, sym, ◌∙◌}
 use Prim.Native.Nat.{◌+◌, ◌≤◌, ◌<◌}
 use borrow.Author.Tests.{eqb-true, eq-eqb}
 use Rattle.numbers.specs.Sizes.{extractor_size}
+use Rattle.numbers.proofs.Laws.{L_some}
 use Rattle.units.specs.Units.{sample, L, size, first_byte, type}
 use Rattle.units.proofs.Steps.{extractor_fields, no_extractor_lem}
 use Rattle.unit_steps.proofs.extractor_at.Goals as goal
-use Rattle.unit_steps.proofs.extractor_at.Goals.{then-saturating_sub-n-via-then-saturating_sub-n, then-saturating_sub-n-via-else-saturating_sub-n+then-number-bytes, then-head-ge-FORBIDDEN_BIT-via-then-head-ge-FORBIDDEN_BIT, then-head-ge-FORBIDDEN_BIT-via-else-head-ge-FORBIDDEN_BIT+then-head-ne-EXTRACTOR}
+use Rattle.unit_steps.proofs.extractor_at.Goals.{then-end-p-via-then-end-p, then-end-p-via-else-end-p+then-end-p-2, then-end-p-via-else-end-p+else-end-p-2+then-number-bytes, then-head-ge-FORBIDDEN_BIT-via-then-head-ge-FORBIDDEN_BIT, then-head-ge-FORBIDDEN_BIT-via-else-head-ge-FORBIDDEN_BIT+then-head-ne-EXTRACTOR}
 
-pub returns-then-saturating_sub-n : goal.returns-then-saturating_sub-n
+pub returns-then-end-p : goal.returns-then-end-p
 unfolding size
-returns-then-saturating_sub-n c = sym (no_extractor_lem _ _ _ (λ w t z. elim c.then-saturating_sub-n.branch [
-  | then-saturating_sub-n-via-then-saturating_sub-n v ↦ omega (arith, w.room, w.inside)
-  | then-saturating_sub-n-via-else-saturating_sub-n+then-number-bytes v ↦ omega arith
+returns-then-end-p c = sym (no_extractor_lem _ _ _ (λ w t z. elim c.then-end-p.branch [
+  | then-end-p-via-then-end-p v ↦ omega (arith, w.room, L_some c.args.k.length_size)
+  | then-end-p-via-else-end-p+then-end-p-2 v ↦ omega (arith, w.room, w.inside)
+  | then-end-p-via-else-end-p+else-end-p-2+then-number-bytes v ↦ omega arith
 ]))
 
 pub returns-then-head-ge-FORBIDDEN_BIT : goal.returns-then-head-ge-FORBIDDEN_BIT

@@ -4,11 +4,17 @@ use mathlib.Core.Path.{sym}
 use Rattle.words.proofs.Tests.{tests}
 use Rattle.units.specs.Units.{size, type}
 use Rattle.unit_steps.specs.Items.{item_at}
-use Rattle.unit_steps.proofs.Items.{item_cut}
+use Rattle.unit_steps.proofs.Items.{item_cut, item_end}
 use Rattle.unit_steps.proofs.item_at.Goals as goal
+use Rattle.unit_steps.proofs.item_at.Goals.{then-s-p-via-then-s-p, then-s-p-via-else-s-p+then-s-p-2}
 
-pub returns-then-saturating_sub-n : goal.returns-then-saturating_sub-n
-returns-then-saturating_sub-n c = sym (item_cut _ _ (omega arith))
+pub returns-then-s-p : goal.returns-then-s-p
+returns-then-s-p c =
+    let n = c.bytes-n.ensures.0 in
+    elim c.then-s-p.branch [
+      | then-s-p-via-then-s-p w ↦ sym (item_end _ _ (omega arith))
+      | then-s-p-via-else-s-p+then-s-p-2 w ↦ sym (item_cut _ _ (omega arith))
+    ]
 
 pub returns-then-nal_type-eq-AGGREGATOR : goal.returns-then-nal_type-eq-AGGREGATOR
 unfolding item_at size type
